@@ -332,7 +332,7 @@ module _ (following : List ℕ) where
         let x = rooted (f ∷ fs) mem in puts_text strict (text_at from n x) (length_in room) to x at k s f fs mem
     answer (ComparesTexts r a n b m) at k s f fs mem =
         let x = rooted (f ∷ fs) mem in compares r (text_at a n x) (text_at b m x) at k s f fs mem
-    answer (Calls p vs) at k s f fs mem = calls (numbered shapes p) p vs at k s f fs mem
+    answer (Calls how p vs) at k s f fs mem = calls (numbered shapes p) p vs at k s f fs mem
     answer (Ends result) at k s f fs mem = ends result fs mem
     answer (Makes t vs) at k s f fs mem = makes_of (numbered types t) (numbers_in vs) t at k s f fs mem
     answer (Starts v) at k s f fs mem = starts v at k s f fs mem

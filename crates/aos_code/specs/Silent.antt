@@ -7,7 +7,7 @@ use Rattle.aos_base.specs.declared.place.Root.{Root}
 use Rattle.aos_base.specs.declared.place.Root.TheVariants.{Frame as FrameRoot, Module as ModuleRoot, Object as ObjectRoot}
 use Rattle.aos_base.specs.declared.operator.Given.{Given}
 use Rattle.aos_base.specs.declared.operator.Given.TheVariants.{Number, Trap, Undefined}
-use Rattle.aos_base.specs.Question.{Ask, Reads, Stores, Copies, PutsText, ComparesTexts, Calls, Ends, Makes, Starts, PutsInt, PutsChar, PutsString, PutsNothing, PutsLn, Places, Lengths, Opens, Sizes, Tests}
+use Rattle.aos_base.specs.Question.{Ask, ByName, Reads, Stores, Copies, PutsText, ComparesTexts, Calls, Ends, Makes, Starts, PutsInt, PutsChar, PutsString, PutsNothing, PutsLn, Places, Lengths, Opens, Sizes, Tests}
 use Rattle.aos_base.specs.Rooted.{Made}
 use Rattle.aos_base.specs.Operators.{unary, binary, natural, flag}
 use Rattle.aos_code.specs.declared.instr.Cell.{Cell}
@@ -46,13 +46,14 @@ pub data Stop : Type 0 where
   Ended : End → Keeps → Stop
 
 -- What an instruction asks an object for: the place of a cell; the place of its elements and so many lengths; whether its type
--- extends this one; itself, where that is so; or its method in a slot, for which this procedure stands, which it then calls with
--- these arguments.
+-- extends this one; itself, where that is so; its method in a slot, as a value with it; or that method, for which this procedure
+-- stands, which it then calls with these arguments.
 pub data Look : Type 0 where
   AtCell : (cell : ℕ) → Look
   AtElements : (dimensions : ℕ) → Look
   IsType : (type : ℕ) → Look
   AsType : (type : ℕ) → Look
+  AsMethod : (slot : ℕ) → Look
   AtSlot : (slot procedure : ℕ) → (arguments : List Cell) → Look
 
 -- where an instruction stands: how many frames of the activity are below its frame, and the object on which that frame's procedure is
@@ -250,8 +251,8 @@ abbrev pub on_receiver : (ℕ → Stack → Act) → Stack → Act
 on_receiver k s = on_object (λ o s'. unless_nil o (Stops (Fails 1 0)) (k o s')) s
 
 abbrev pub called : (method : Bool) → ℕ → List Cell → Stack → Act
-called true p vs s = on_receiver (λ o s'. Sees (Calls p (Ref o ∷ vs)) s') s
-called false p vs s = Sees (Calls p vs) s
+called true p vs s = on_receiver (λ o s'. Sees (Calls ByName p (Ref o ∷ vs)) s') s
+called false p vs s = Sees (Calls ByName p vs) s
 
 abbrev pub on_arguments : ProcShape → (List Cell → Stack → Act) → Stack → Act
 on_arguments f k s = on_kinds (reverse (kinds_of f.params.items)) [] k s
@@ -263,6 +264,70 @@ calls (Some f) p s = on_arguments f (λ vs s'. called f.method p vs s') s
 abbrev pub sends : Option ProcShape → (slot procedure : ℕ) → Stack → Act
 sends None slot p s = Stops lost
 sends (Some f) slot p s = on_arguments f (λ vs s'. on_receiver (λ o s''. Looks (AtSlot slot p vs) o s'') s') s
+
+-- Procedure values.
+
+abbrev pub callable_then : (ℕ → ℕ → Act) → Cell → Act
+callable_then k (Num z) = Stops lost
+callable_then k (Ref o) = Stops lost
+callable_then k (CallCell p o) = k p o
+callable_then k (Place root cell type) = Stops lost
+
+abbrev pub on_callable : (ℕ → ℕ → Stack → Act) → Stack → Act
+on_callable k s = on_any (λ v s'. callable_then (λ p o. k p o s') v) s
+
+abbrev pub are_one : (procedure object other its : ℕ) → Bool
+are_one p o q i = nat_eq p q && nat_eq o i
+
+abbrev pub on_callables : (ℕ → ℕ → ℕ → ℕ → Stack → Act) → Stack → Act
+on_callables k s = on_callable (λ q i s1. on_callable (λ p o s2. k p o q i s2) s1) s
+
+-- parameters and results that are the same
+abbrev pub same_kind : Kind → Kind → Bool
+same_kind N N = true
+same_kind R R = true
+same_kind C C = true
+same_kind A A = true
+same_kind _ _ = false
+
+abbrev pub same_param : ParamKind → ParamKind → Bool
+same_param (param.Scalar k) (param.Scalar l) = same_kind k l
+same_param (param.Whole n) (param.Whole m) = nat_eq n m
+same_param param.Place param.Place = true
+same_param (param.Open d true n) (param.Open e true m) = nat_eq d e && nat_eq n m
+same_param (param.Open d false n) (param.Open e false m) = nat_eq d e && nat_eq n m
+same_param _ _ = false
+
+abbrev pub same_params : List ParamKind → List ParamKind → Bool
+same_params [] [] = true
+same_params (p ∷ ps) (q ∷ qs) = same_param p q && same_params ps qs
+same_params _ _ = false
+
+abbrev pub same_result : Option Kind → Option Kind → Bool
+same_result None None = true
+same_result (Some k) (Some l) = same_kind k l
+same_result _ _ = false
+
+abbrev pub same_formals : ProcShape → ProcShape → Bool
+same_formals f g = same_params f.params.items g.params.items && same_result f.result g.result
+
+-- what a procedure value stands for is called, a method on an object and another procedure on none
+abbrev pub applies_to : (is_same method : Bool) → (procedure object : ℕ) → List Cell → Stack → Act
+applies_to true true p (suc o) vs s = Sees (Calls ByName p (Ref (suc o) ∷ vs)) s
+applies_to true false p zero vs s = Sees (Calls ByName p vs) s
+applies_to is_same method p o vs s = Stops lost
+
+abbrev pub applies_as : Option ProcShape → ProcShape → (procedure object : ℕ) → List Cell → Stack → Act
+applies_as None g p o vs s = Stops lost
+applies_as (Some f) g p o vs s = applies_to (same_formals f g) f.method p o vs s
+
+abbrev pub applies : List ProcShape → ProcShape → (procedure object : ℕ) → List Cell → Stack → Act
+applies shapes g zero o vs s = Stops (Fails 1 0)
+applies shapes g (suc p) o vs s = applies_as (numbered shapes (suc p)) g (suc p) o vs s
+
+abbrev pub calls_value : List ProcShape → Option ProcShape → Stack → Act
+calls_value shapes None s = Stops lost
+calls_value shapes (Some g) s = on_arguments g (λ vs s'. on_callable (λ p o s''. applies shapes g p o vs s'') s') s
 
 -- the object on which the frame's procedure is called
 abbrev pub gives_self : ℕ → Stack → Act
@@ -324,6 +389,10 @@ module _ (shapes : List ProcShape) (types : List TypeDesc) (own : ℕ) (here : H
   act (instr.PickLen d j) code at s = picks d j s
   act (instr.Unary op) code at s = on_number (λ a s'. given (unary op a) s') s
   act (instr.Binary op) code at s = on_numbers (λ a b s'. given (binary op a b) s') s
+  act instr.NilCall code at s = gives (CallCell 0 0) s
+  act (instr.Proc p) code at s = gives (CallCell p 0) s
+  act instr.EqCall code at s = on_callables (λ p o q i s'. gives (Num (flag (are_one p o q i))) s') s
+  act (instr.Bind k) code at s = looks (AsMethod k) (λ s'. Stops (Fails 1 0)) s
   act instr.EqRef code at s = on_objects (λ a b s'. gives (Num (flag (nat_eq a b))) s') s
   act (instr.Is t) code at s = looks (IsType t) (λ s'. gives (Num (pos 0)) s') s
   act (instr.IsPlace t) code at s = on_place (λ a d s'. gives (Num (flag (extends types d t))) s') s
@@ -345,6 +414,7 @@ module _ (shapes : List ProcShape) (types : List TypeDesc) (own : ℕ) (here : H
   act (instr.CmpText r) code at s = on_text (λ b m s1. on_text (λ a n s2. Sees (ComparesTexts r a n b m) s2) s1) s
   act (instr.Call p) code at s = calls (numbered shapes p) p s
   act (instr.Virtual k p) code at s = sends (numbered shapes p) k p s
+  act (instr.CallValue p) code at s = calls_value shapes (numbered shapes p) s
   act (instr.NewObject t) code at s = Sees (Makes t []) s
   act (instr.NewArray t j) code at s = counted_on j [] (λ zs s'. Sees (Makes t (map (λ z. Num z) zs)) s') s
   act instr.Start code at s = on_kind R (λ o s'. Sees (Starts o) s') s
@@ -384,35 +454,9 @@ pub data Told : Type 0 where
   Invokes : (procedure : ℕ) → (arguments : List Cell) → Told
   Unheard : Told
 
--- parameters and results that are the same
-abbrev pub same_kind : Kind → Kind → Bool
-same_kind N N = true
-same_kind R R = true
-same_kind C C = true
-same_kind A A = true
-same_kind _ _ = false
-
-abbrev pub same_param : ParamKind → ParamKind → Bool
-same_param (param.Scalar k) (param.Scalar l) = same_kind k l
-same_param (param.Whole n) (param.Whole m) = nat_eq n m
-same_param param.Place param.Place = true
-same_param (param.Open d true n) (param.Open e true m) = nat_eq d e && nat_eq n m
-same_param (param.Open d false n) (param.Open e false m) = nat_eq d e && nat_eq n m
-same_param _ _ = false
-
-abbrev pub same_params : List ParamKind → List ParamKind → Bool
-same_params [] [] = true
-same_params (p ∷ ps) (q ∷ qs) = same_param p q && same_params ps qs
-same_params _ _ = false
-
-abbrev pub same_result : Option Kind → Option Kind → Bool
-same_result None None = true
-same_result (Some k) (Some l) = same_kind k l
-same_result _ _ = false
-
 -- a method that may be called where the other one is named
 abbrev pub stands_for : Option ProcShape → Option ProcShape → Bool
-stands_for (Some f) (Some g) = f.method && (same_params f.params.items g.params.items && same_result f.result g.result)
+stands_for (Some f) (Some g) = f.method && same_formals f g
 stands_for _ _ = false
 
 abbrev pub invoked : List ProcShape → (procedure : ℕ) → Option ℕ → (object : ℕ) → List Cell → Told
@@ -423,6 +467,10 @@ invoked shapes p (Some q) o vs =
 abbrev pub method_at : List TypeDesc → (type slot : ℕ) → Option ℕ
 method_at types t k = option_and_then (λ d. slice_get d.methods.items k) (numbered types t)
 
+abbrev pub bound : Option ℕ → (object : ℕ) → Told
+bound None o = Unheard
+bound (Some q) o = Tells (CallCell q o ∷ [])
+
 abbrev pub told_by : List ProcShape → List TypeDesc → Look → (object : ℕ) → Option Made → Told
 told_by shapes types l o None = Unheard
 told_by shapes types (AtCell c) o (Some m) = Tells (Place (ObjectRoot o) c m.type ∷ [])
@@ -430,12 +478,13 @@ told_by shapes types (AtElements j) o (Some m) =
     if nat_le j (length m.lengths) then Tells (length_cells (take j m.lengths) ++ Place (ObjectRoot o) 0 0 ∷ []) else Unheard
 told_by shapes types (IsType t) o (Some m) = Tells (Num (flag (extends types m.type t)) ∷ [])
 told_by shapes types (AsType t) o (Some m) = if extends types m.type t then Tells (Ref o ∷ []) else Refuses 3
+told_by shapes types (AsMethod k) o (Some m) = bound (method_at types m.type k) o
 told_by shapes types (AtSlot k p vs) o (Some m) = invoked shapes p (method_at types m.type k) o vs
 
 abbrev pub on_told : Told → (ℕ → ℕ → Keeps → Stack → Stop) → ℕ → Keeps → Stack → Stop
 on_told (Tells vs) next at k s = next 0 (at + 1) k (vs ++ s)
 on_told (Refuses n) next at k s = Ended (Fails n 0) k
-on_told (Invokes q vs) next at k s = Work (Calls q vs) at k s
+on_told (Invokes q vs) next at k s = Work (Calls ByName q vs) at k s
 on_told Unheard next at k s = Ended lost k
 
 -- the value kept under a number

@@ -34,6 +34,10 @@ pub enum Instr {
     Num(i64),
     /// Gives NIL.
     Nil,
+    /// Gives the procedure value that is NIL.
+    NilCall,
+    /// Gives the procedure of this number, which is no method, as a value.
+    Proc(u32),
     /// Gives the object on which the frame's procedure is called; trap 16 where it is called on none.
     SelfRef,
     /// Gives the topmost operand once more.
@@ -70,6 +74,11 @@ pub enum Instr {
     Binary(Binary),
     /// Takes two objects and gives whether they are one.
     EqRef,
+    /// Takes two procedure values and gives whether they are one.
+    EqCall,
+    /// Takes an object and gives the method that its type has in the slot of this number, from 0, with the object, as a value; trap 1 at
+    /// NIL.
+    Bind(u32),
     /// Takes an object and gives whether its type extends the one of this number, from 1; NIL's doesn't.
     Is(u32),
     /// Takes a record's place and gives whether the record's type extends the one of this number, from 1.
@@ -111,6 +120,9 @@ pub enum Instr {
     /// Takes the arguments of the method of the second number, and below them an object, and calls on it the method that its type has
     /// in the slot of the first number, from 0, which takes and gives the same; trap 1 at NIL, trap 11 where it is too deep.
     Virtual(u32, u32),
+    /// Takes the arguments of the procedure of this number, and below them a procedure value, and calls what that stands for, which takes
+    /// and gives the same, a method on the value's object; trap 1 at NIL, trap 11 where it is too deep.
+    CallValue(u32),
     /// Makes an object of the type of this number, from 1, and gives it; trap 12 where the heap is full.
     NewObject(u32),
     /// Takes so many lengths, and makes an open array of them of the type of the first number, from 1, and gives it; trap 15 where

@@ -4,7 +4,7 @@ use Rattle.std.specs.Prelude.{Option, Some, None, Bool, true, false, nat_lt, sli
 use Rattle.aos_base.specs.declared.place.Root.{Root}
 use Rattle.aos_base.specs.declared.operator.Given.{Given}
 use Rattle.aos_base.specs.declared.operator.Given.TheVariants.{Number, Trap, Undefined}
-use Rattle.aos_base.specs.Question.{Reads, Stores, Copies, PutsText, ComparesTexts, Calls, Starts, PutsString}
+use Rattle.aos_base.specs.Question.{Reads, Stores, Copies, PutsText, ComparesTexts, Calls, ByName, Starts, PutsString}
 use Rattle.aos_base.specs.Rooted.{Made}
 use Rattle.aos_base.specs.Operators.{unary, binary, natural, flag}
 use Rattle.aos_code.specs.declared.instr.Cell.{Cell}
@@ -18,7 +18,7 @@ use Rattle.aos_code.specs.declared.image.TypeDesc.{TypeDesc}
 use Rattle.aos_code.specs.Memory.{Addr}
 use Rattle.aos_code.specs.Numbered.{numbered}
 use Rattle.aos_silent.proofs.Walks.{drop_next}
-use Rattle.aos_code.specs.Silent.{Here, Stack, Keeps, Question, Stop, Work, Ended, Act, Goes, Puts, Takes, Looks, Look, AtCell, AtElements, IsType, AsType, Sees, Stops, Fails, lost, is_of, gives, on_any, on_kind, on_number, number_then, place_then, object_then, on_object, unless_nil, looks, extends, Told, Tells, Refuses, Invokes, Unheard, told_by, on_told, on_place, on_text, length_then, lengths_on, counted_on, given, asserts, gives_place, element, cells_of, length_cells, in_rows, gives_picked, on_kinds, kinds_of, on_receiver, called, calls, sends, gives_self, ends, lands, jumps, jumps_on_false, act, Noted, Visible, Answered, Unknown, noted, on_noted, on_act, walk, silent}
+use Rattle.aos_code.specs.Silent.{Here, Stack, Keeps, Question, Stop, Work, Ended, Act, Goes, Puts, Takes, Looks, Look, AtCell, AtElements, IsType, AsType, AsMethod, Sees, Stops, Fails, lost, is_of, gives, on_any, on_kind, on_number, number_then, place_then, object_then, on_object, unless_nil, looks, extends, Told, Tells, Refuses, Invokes, Unheard, told_by, on_told, on_place, on_text, length_then, lengths_on, counted_on, given, asserts, gives_place, element, cells_of, length_cells, in_rows, gives_picked, on_kinds, kinds_of, on_receiver, called, calls, sends, callable_then, on_callable, same_formals, applies_to, applies_as, applies, calls_value, gives_self, ends, lands, jumps, jumps_on_false, act, Noted, Visible, Answered, Unknown, noted, on_noted, on_act, walk, silent}
 
 -- Where silent work ends.
 
@@ -58,14 +58,14 @@ module _ (shapes : List ProcShape) (types : List TypeDesc) (made : ℕ → Optio
   noted_here (Answered v) asked next k s h e = absurd (h 0 k (v ∷ s) e)
   noted_here Unknown asked next k s h e = absurd (cc e)
 
-  told_here : (r : Told) (next : ℕ → ℕ → Keeps → Stack → Stop) (k : Keeps) (s : Stack) → ((over : ℕ) (k : Keeps) (s : Stack) → next over (place + 1) k s ≡ Work q place k' s' → ⊥) → ((p : ℕ) (vs : List Cell) → Calls p vs ≡ q → ⊥) → on_told r next place k s ≡ Work q place k' s' → ⊥
+  told_here : (r : Told) (next : ℕ → ℕ → Keeps → Stack → Stop) (k : Keeps) (s : Stack) → ((over : ℕ) (k : Keeps) (s : Stack) → next over (place + 1) k s ≡ Work q place k' s' → ⊥) → ((p : ℕ) (vs : List Cell) → Calls ByName p vs ≡ q → ⊥) → on_told r next place k s ≡ Work q place k' s' → ⊥
   told_here (Tells vs) next k s h other e = h 0 k (vs ++ s) e
   told_here (Refuses n) next k s h other e = cc e
   told_here (Invokes p vs) next k s h other e = other p vs (cc e)
   told_here Unheard next k s h other e = cc e
 
   act_here : (a : Act) (next : ℕ → ℕ → Keeps → Stack → Stop) (k : Keeps) → ((over : ℕ) (k : Keeps) (s : Stack) → next over (place + 1) k s ≡ Work q place k' s' → ⊥) →
-      ((p : ℕ) (vs : List Cell) → Calls p vs ≡ q → ⊥) → on_act shapes types made cells a next place k ≡ Work q place k' s' → a ≡ Sees q s'
+      ((p : ℕ) (vs : List Cell) → Calls ByName p vs ≡ q → ⊥) → on_act shapes types made cells a next place k ≡ Work q place k' s' → a ≡ Sees q s'
   act_here (Goes over s) next k h other e = absurd (h over k s e)
   act_here (Puts c v s) next k h other e = absurd (h 0 _ s e)
   act_here (Takes c kind s) next k h other e = absurd (if_here (is_of kind (k c)) (next 0 (place + 1) k (k c ∷ s)) k (λ x. h 0 k (k c ∷ s) x) e)
@@ -80,7 +80,7 @@ module _ (shapes : List ProcShape) (types : List TypeDesc) (made : ℕ → Optio
         act_later (act shapes types own here i code at s) (walk shapes types made own here cells code rest) at k (λ over k1 s1. walk_later rest over (at + 1) k1 s1) e
     walk_later (i ∷ rest) (suc n) at k s e = (let z = walk_later rest n (at + 1) k s e in omega arith)
 
-    asked_at : ((p : ℕ) (vs : List Cell) → Calls p vs ≡ q → ⊥) → (rest : List Instr) (k : Keeps) (s : Stack) → walk shapes types made own here cells code rest 0 place k s ≡ Work q place k' s' → (i : Instr) × (act shapes types own here i code place s ≡ Sees q s')
+    asked_at : ((p : ℕ) (vs : List Cell) → Calls ByName p vs ≡ q → ⊥) → (rest : List Instr) (k : Keeps) (s : Stack) → walk shapes types made own here cells code rest 0 place k s ≡ Work q place k' s' → (i : Instr) × (act shapes types own here i code place s ≡ Sees q s')
     asked_at other [] k s e = absurd (cc e)
     asked_at other (i ∷ rest) k s e =
         (i, act_here (act shapes types own here i code place s) (walk shapes types made own here cells code rest) k (λ over k1 s1 x. (let z = walk_later rest over (place + 1) k1 s1 x in absurd (omega arith))) other e)
@@ -193,6 +193,32 @@ calm_sends : (f : Option ProcShape) (k p : ℕ) (s : Stack) → mark (sends f k 
 calm_sends None k p s = refl
 calm_sends (Some f) k p s = calm_kinds (reverse (kinds_of f.params.items)) [] _ s (λ ws s'. calm_receiver _ s' (λ o r. refl))
 
+calm_callable_then : (k : ℕ → ℕ → Act) (v : Cell) → ((p o : ℕ) → mark (k p o) ≡ 0) → mark (callable_then k v) ≡ 0
+calm_callable_then k (Num a) h = refl
+calm_callable_then k (Ref o) h = refl
+calm_callable_then k (CallCell p o) h = h p o
+calm_callable_then k (Place root cell type) h = refl
+
+calm_callable : (k : ℕ → ℕ → Stack → Act) (s : Stack) → ((p o : ℕ) (s' : Stack) → mark (k p o s') ≡ 0) → mark (on_callable k s) ≡ 0
+calm_callable k s h = calm_any _ s (λ v s'. calm_callable_then (λ p o. k p o s') v (λ p o. h p o s'))
+
+calm_applies_to : (is_same method : Bool) (p o : ℕ) (vs : List Cell) (s : Stack) → mark (applies_to is_same method p o vs s) ≡ 0
+calm_applies_to true true p (suc o) vs s = refl
+calm_applies_to true false p zero vs s = refl
+calm_applies_to is_same method p o vs s = refl
+
+calm_applies_as : (f : Option ProcShape) (g : ProcShape) (p o : ℕ) (vs : List Cell) (s : Stack) → mark (applies_as f g p o vs s) ≡ 0
+calm_applies_as None g p o vs s = refl
+calm_applies_as (Some f) g p o vs s = calm_applies_to (same_formals f g) f.method p o vs s
+
+calm_applies : (shapes : List ProcShape) (g : ProcShape) (p o : ℕ) (vs : List Cell) (s : Stack) → mark (applies shapes g p o vs s) ≡ 0
+calm_applies shapes g zero o vs s = refl
+calm_applies shapes g (suc p) o vs s = calm_applies_as (numbered shapes (suc p)) g (suc p) o vs s
+
+calm_value : (shapes : List ProcShape) (f : Option ProcShape) (s : Stack) → mark (calls_value shapes f s) ≡ 0
+calm_value shapes None s = refl
+calm_value shapes (Some g) s = calm_kinds (reverse (kinds_of g.params.items)) [] _ s (λ ws s'. calm_callable _ s' (λ p o r. calm_applies shapes g p o ws r))
+
 calm_self : (o : ℕ) (s : Stack) → mark (gives_self o s) ≡ 0
 calm_self zero s = refl
 calm_self (suc o) s = refl
@@ -244,6 +270,8 @@ calm_either false x y g h = h
 act_starts : (shapes : List ProcShape) (types : List TypeDesc) (own : ℕ) (here : Here) (i : Instr) (code : List Instr) (at : ℕ) (s : Stack) (v : Cell) (s' : Stack) → act shapes types own here i code at s ≡ Sees (Starts v) s' → s ≡ v ∷ s'
 act_starts shapes types own here (instr.Num n) code at s v s' e = marked _ v s s' refl e
 act_starts shapes types own here instr.Nil code at s v s' e = marked _ v s s' refl e
+act_starts shapes types own here instr.NilCall code at s v s' e = marked _ v s s' refl e
+act_starts shapes types own here (instr.Proc p) code at s v s' e = marked _ v s s' refl e
 act_starts shapes types own here instr.SelfRef code at s v s' e = marked _ v s s' (calm_self here.self s) e
 act_starts shapes types own here instr.Dup code at s v s' e = marked _ v s s' (calm_any _ s (λ w r. refl)) e
 act_starts shapes types own here instr.Drop code at s v s' e = marked _ v s s' (calm_any _ s (λ w r. refl)) e
@@ -261,6 +289,8 @@ act_starts shapes types own here (instr.PickLen d j) code at s v s' e = marked _
 act_starts shapes types own here (instr.Unary op) code at s v s' e = marked _ v s s' (calm_number _ s (λ a r. calm_given (unary op a) r)) e
 act_starts shapes types own here (instr.Binary op) code at s v s' e = marked _ v s s' (calm_number _ s (λ b r. calm_number _ r (λ a x. calm_given (binary op a b) x))) e
 act_starts shapes types own here instr.EqRef code at s v s' e = marked _ v s s' (calm_object _ s (λ b r. calm_object _ r (λ a x. refl))) e
+act_starts shapes types own here instr.EqCall code at s v s' e = marked _ v s s' (calm_callable _ s (λ q i r. calm_callable _ r (λ p o x. refl))) e
+act_starts shapes types own here (instr.Bind k) code at s v s' e = marked _ v s s' (calm_looks (AsMethod k) _ s (λ r. refl)) e
 act_starts shapes types own here (instr.Is t) code at s v s' e = marked _ v s s' (calm_looks (IsType t) _ s (λ r. refl)) e
 act_starts shapes types own here (instr.IsPlace t) code at s v s' e = marked _ v s s' (calm_place (λ a d r. gives (Num (flag (extends types d t))) r) s (λ a d r. refl)) e
 act_starts shapes types own here (instr.Guard t) code at s v s' e = marked _ v s s' (calm_looks (AsType t) _ s (λ r. refl)) e
@@ -280,6 +310,7 @@ act_starts shapes types own here (instr.PutText strict) code at s v s' e = marke
 act_starts shapes types own here (instr.CmpText o) code at s v s' e = marked _ v s s' (calm_text (λ b m r. on_text (λ a n x. Sees (ComparesTexts o a n b m) x) r) s (λ b m r. calm_text (λ a n x. Sees (ComparesTexts o a n b m) x) r (λ a n x. refl))) e
 act_starts shapes types own here (instr.Call p) code at s v s' e = marked _ v s s' (calm_calls (numbered shapes p) p s) e
 act_starts shapes types own here (instr.Virtual k p) code at s v s' e = marked _ v s s' (calm_sends (numbered shapes p) k p s) e
+act_starts shapes types own here (instr.CallValue p) code at s v s' e = marked _ v s s' (calm_value shapes (numbered shapes p) s) e
 act_starts shapes types own here (instr.NewObject t) code at s v s' e = marked _ v s s' refl e
 act_starts shapes types own here (instr.NewArray t j) code at s v s' e = marked _ v s s' (calm_counted j [] _ s (λ zs r. refl)) e
 act_starts shapes types own here instr.Start code at s v s' e = start_on_top s v s' e

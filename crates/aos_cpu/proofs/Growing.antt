@@ -121,7 +121,7 @@ module _ (image : Image) (following : List ℕ) (f : Frame) (fs : List Frame) (m
     answer_grows (Copies n from to) = copy_grows (cells_at n from (rooted (f ∷ fs) mem)) (is_some (cells_at n to (rooted (f ∷ fs) mem))) to
     answer_grows (PutsText strict from n to room) = put_text_grows strict (text_at following from n (rooted (f ∷ fs) mem)) (length_in following room) to (rooted (f ∷ fs) mem)
     answer_grows (ComparesTexts r a n b m) = compare_grows r (text_at following a n (rooted (f ∷ fs) mem)) (text_at following b m (rooted (f ∷ fs) mem))
-    answer_grows (Calls p vs) = call_grows (numbered image.shapes.items p) p vs
+    answer_grows (Calls how p vs) = call_grows (numbered image.shapes.items p) p vs
     answer_grows (Ends result) = stays
     answer_grows (Makes t vs) = make_of_grows (numbered image.types.items t) (numbers_in following vs) t
     answer_grows (Starts v) = start_grows v

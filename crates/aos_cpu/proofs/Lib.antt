@@ -10,3 +10,4 @@ pub mod Handing
 pub mod Calling
 pub mod Growing
 pub mod Making
+pub mod Passing

@@ -197,7 +197,7 @@ module _ (following : List ℕ) (f : Frame) (fs : List Frame) (mem : Memory) whe
       let x = text_own a.root a.cell n b.0 in
       let y = text_own c.root c.cell m b.1 in
       (λ i. compares following o (x i) (y i) at k s f fs mem) ∙ compare_own o (text_at following a n (rooted (f ∷ fs) no_memory)) (text_at following c m (rooted (f ∷ fs) no_memory)) at k s
-  answer_own shapes types (Calls p vs) at k s e = call_own (numbered shapes p) p vs at k s e
+  answer_own shapes types (Calls how p vs) at k s e = call_own (numbered shapes p) p vs at k s e
   answer_own shapes types (Ends result) at k s e = refl
   answer_own shapes types (Makes t vs) at k s e = absurd (cc e)
   answer_own shapes types (Starts v) at k s e = absurd (cc e)

@@ -238,7 +238,7 @@ module _ (image : Image) (following : List ℕ) (g : Frame) (n : ℕ) (k' : Keep
       put_text_both (PutsText strict from m to room) strict (text_at following from m (rooted (g ∷ fs) mem)) (length_in following room) to (rooted (g ∷ fs) mem) at k s
   answer_both (ComparesTexts r a m b l) at k s =
       compare_both (ComparesTexts r a m b l) r (text_at following a m (rooted (g ∷ fs) mem)) (text_at following b l (rooted (g ∷ fs) mem)) at k s
-  answer_both (Calls p vs) at k s = call_both (Calls p vs) (numbered image.shapes.items p) p vs at k s
+  answer_both (Calls how p vs) at k s = call_both (Calls how p vs) (numbered image.shapes.items p) p vs at k s
   answer_both (Ends result) at k s = same (Ends result) _ refl
   answer_both (Makes t vs) at k s = make_of_both (Makes t vs) (numbered image.types.items t) (numbers_in following vs) t at k s
   answer_both (Starts v) at k s = start_both v at k s

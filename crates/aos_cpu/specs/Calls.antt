@@ -14,6 +14,9 @@ use Rattle.aos_code.specs.Silent.{cells_of}
 use Rattle.aos_code.specs.Machine.{Frame, behind, calls, first_cell, whole_at, lengths_in}
 use Rattle.aos_store.specs.declared.frames.Frames.{Frames as KeptFrames}
 use Rattle.aos_store.specs.Store.{list_in, frames_in}
+use Rattle.aos_silent.specs.declared.act.Way.{Way}
+use Rattle.aos_silent.specs.declared.act.Way.TheVariants.{Direct, Bound, Free}
+use Rattle.aos_silent.specs.Acts.{passed}
 use Rattle.aos_cpu.specs.Answers.{Made}
 use Rattle.aos_cpu.specs.declared.calls.Gift.{Gift as KeptGift}
 
@@ -84,8 +87,14 @@ IsEntered at taken g old new =
     (f : Frame) (fs : List Frame) → list_in old.list.items ≡ f ∷ fs →
     frames_in new ≡ record { following = reverse old.following.items; frames = g ∷ behind [] at f.keeps (drop taken f.stack) f ∷ fs }
 
--- a procedure of this shape has been called, whose arguments are so many operands
-abbrev pub IsCalled : Option ProcShape → (procedure count at : ℕ) → (old new : KeptFrames) → Memory → Did → List ℕ → Type 0
-IsCalled shape p count at old new mem did out =
+-- through a value with an object only a method is called
+abbrev pub may_pass : Way → (method : Bool) → Bool
+may_pass Direct method = true
+may_pass Bound method = method
+may_pass Free method = true
+
+-- a procedure of this shape has been called with so many operands, which are handed over in this way
+abbrev pub IsCalled : Option ProcShape → (procedure : ℕ) → Way → (count at : ℕ) → (old new : KeptFrames) → Memory → Did → List ℕ → Type 0
+IsCalled shape p way count at old new mem did out =
     (f : Frame) (fs : List Frame) → list_in old.list.items ≡ f ∷ fs →
-    Made (calls (reverse old.following.items) shape p (reverse (take count f.stack)) at f.keeps (drop count f.stack) f fs mem) false did (frames_in new) mem out out
+    Made (calls (reverse old.following.items) shape p (passed way (reverse (take count f.stack))) at f.keeps (drop count f.stack) f fs mem) false did (frames_in new) mem out out

@@ -5,7 +5,7 @@ ghost use Rattle.aos_silent.specs.Acts.{question_in};
 ghost use Rattle.aos_cpu.specs.Turns.{Alike, StandsAtStop};
 ghost use Rattle.aos_cpu.specs.Private.{no_memory, made_by, is_of_frame as is_of_frame_root, is_own_value as is_own_cell, copies_own as copies_own_for, is_own as is_own_question, is_own_turn, is_private, HasTried, IsMadePrivately, turns_since, stop_after, WhereShared};
 
-use crate::calls::arguments_of;
+use crate::calls::{arguments_of, behind_value};
 use crate::in_place::make_in_place;
 use crate::turn::{come_to_stop, finish};
 use aos_base::{Did, NoMemory, Root};
@@ -96,15 +96,13 @@ fn is_own(image: &Image, question: Question, operands: &[Cell]) -> bool
         Question::PutsText(_, from, _, to, _) => is_of_frame(from.root) && is_of_frame(to.root),
         Question::ComparesTexts(_, left, _, right, _) => is_of_frame(left.root)
             && is_of_frame(right.root),
-        Question::Calls(procedure, count) => match numbered(&image.shapes, procedure) {
+        Question::Calls(procedure, way, count) => match numbered(&image.shapes, procedure) {
             None => true,
-            Some(shape) => copies_own(
-                &shape.params,
-                arguments_of(
-                    shape.method,
-                    behind(operands, operands.len().saturating_sub(count)),
-                ),
-            ),
+            Some(shape) => {
+                let all = behind(operands, operands.len().saturating_sub(count));
+                let args = arguments_of(shape.method, behind_value(way, all));
+                copies_own(&shape.params, args)
+            }
         },
         Question::Ends(_) => true,
         Question::PutsNothing => true,

@@ -313,8 +313,8 @@ pub fn answer(
         Question::ComparesTexts(relation, a, n, b, m) => {
             compare_texts(frames, store, relation, a, n, b, m, at)
         }
-        Question::Calls(procedure, count) => {
-            call(alloc, image, procedure, count, at, frames, store)
+        Question::Calls(procedure, way, count) => {
+            call(alloc, image, procedure, way, count, at, frames, store)
         }
         Question::Ends(value) => end_frame(frames, value),
         Question::Makes(of_type, lengths) => {

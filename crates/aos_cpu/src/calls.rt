@@ -6,14 +6,15 @@ ghost use Rattle.aos_code.specs.declared.instr.Cell.TheVariants.{Num};
 ghost use Rattle.aos_code.specs.Machine.{Frame as FrameOf, if_all, whole_at, lengths_in, length_in, object_of as object_of_call, arguments_of as arguments_of_call, first_cell as first_cell_of};
 ghost use Rattle.aos_store.specs.Store.{frame_in, list_in, frames_in, memory_in, rooted_in, SameCounts};
 ghost use Rattle.aos_silent.specs.declared.act.Question.TheVariants.{Calls};
+ghost use Rattle.aos_silent.specs.Acts.{behind_value as behind_value_of, first_as_object, with_object};
 ghost use Rattle.aos_cpu.specs.Turns.{HasAnswered, Same, WhereLeft};
-ghost use Rattle.aos_cpu.specs.Calls.{plain as plain_of, copied as copied_of, gift_in, gift_of, gifts, all_copied, gift_cells, all_cells, called_cells, called, IsCalled, IsEntered, sized, open_gift, Gift as GiftOf};
+ghost use Rattle.aos_cpu.specs.Calls.{plain as plain_of, copied as copied_of, gift_in, gift_of, gifts, all_copied, gift_cells, all_cells, called_cells, called, may_pass as may_pass_of, IsCalled, IsEntered, sized, open_gift, Gift as GiftOf};
 
 use crate::answers::go_behind;
 use crate::texts::{cells_below, front, length_of};
 use aos_base::{Did, NoMemory, Root};
 use aos_code::{Cell, Image, Kind, ParamKind, ProcShape};
-use aos_silent::numbered;
+use aos_silent::{Way, numbered};
 use aos_store::{Frame, Frames, Store};
 use std::alloc::Global;
 
@@ -186,8 +187,30 @@ fn past(args: &[Cell], taken: usize) -> &[Cell]
     &args[taken.min(args.len())..]
 }
 
-/// The object on which a procedure is called, which comes before its arguments where it is a method; 0 for none.
-fn object_of(method: bool, args: &[Cell]) -> u32
+/// The operands of a call that are handed over, among them a procedure value as it is.
+pub fn behind_value(way: Way, operands: &[Cell]) -> &[Cell]
+    ensures { result.now ≡ behind_value_of way operands.now }
+{
+    match way {
+        Way::Direct => operands,
+        Way::Bound => operands,
+        Way::Free => past(operands, 1),
+    }
+}
+
+/// Whether a procedure, a method or not, is called in this way: through a value with an object only a method is.
+fn may_pass(way: Way, method: bool) -> bool
+    ensures { result ≡ may_pass_of way method }
+{
+    match way {
+        Way::Direct => true,
+        Way::Bound => method,
+        Way::Free => true,
+    }
+}
+
+/// The object that comes before a method's arguments; 0 for none.
+fn object_before(method: bool, args: &[Cell]) -> u32
     ensures { result ≡ object_of_call method args.now }
 {
     if !method {
@@ -196,6 +219,31 @@ fn object_of(method: bool, args: &[Cell]) -> u32
     match args.first().copied() {
         Some(Cell::Ref(object)) => object,
         _ => 0,
+    }
+}
+
+/// The object that comes before a method's arguments, where a procedure value stands for it; 0 for none.
+fn object_of_value(method: bool, args: &[Cell]) -> u32
+    ensures { result ≡ object_of_call method (first_as_object args.now) }
+{
+    if !method {
+        return 0;
+    }
+    match args.first().copied() {
+        Some(Cell::Ref(own)) => own,
+        Some(Cell::Call(_, own)) => own,
+        _ => 0,
+    }
+}
+
+/// The object on which a procedure is called, which comes before its arguments where it is a method; 0 for none.
+fn object_of(way: Way, method: bool, args: &[Cell]) -> u32
+    ensures { result ≡ object_of_call method (with_object way args.now) }
+{
+    match way {
+        Way::Direct => object_before(method, args),
+        Way::Bound => object_of_value(method, args),
+        Way::Free => object_before(method, args),
     }
 }
 
@@ -383,7 +431,7 @@ fn last_of(stack: &[Cell], count: usize) -> &[Cell]
     &stack[stack.len().saturating_sub(count)..]
 }
 
-/// The arguments of a call, with the object: so many of the topmost frame's topmost operands, in their order.
+/// The operands of a call: so many of the topmost frame's topmost operands, in their order.
 pub fn arguments(frames: &Frames, count: usize) -> &[Cell]
     ensures { (f : FrameOf) (fs : List FrameOf) → list_in frames.now.list.items ≡ f ∷ fs → result.now ≡ reverse (take count f.stack) }
 {
@@ -446,25 +494,30 @@ fn enter(frames: &mut Frames, frame: Frame, at: usize, taken: usize) -> Result<(
     Ok(())
 }
 
-/// A procedure of this shape is called, whose arguments are so many operands, with the object as the first.
+/// A procedure of this shape is called with so many operands, which are handed over in this way.
 fn call_shape(
     alloc: Global,
     depth: u32,
     procedure: u32,
     shape: &ProcShape,
+    way: Way,
     count: usize,
     at: usize,
     frames: &mut Frames,
     store: &Store,
 ) -> Result<Did, NoMemory>
     requires { at + 1 < 2 ^ 64 }
-    ensures ok { (out : List ℕ) → IfOk result (λ did. IsCalled (Option.Some shape.now) procedure count at frames.old frames.new (memory_in store.now) did out) }
+    ensures ok { (out : List ℕ) → IfOk result (λ did. IsCalled (Option.Some shape.now) procedure way count at frames.old frames.new (memory_in store.now) did out) }
     ensures left { (out : List ℕ) → IfOk result (λ did. WhereLeft did (Same frames.old frames.new (memory_in store.now) (memory_in store.now) out out)) }
     ensures err { (out : List ℕ) → OnErr result (Same frames.old frames.new (memory_in store.now) (memory_in store.now) out out) }
     ensures counts { SameCounts frames.old frames.new }
 {
-    let all = arguments(frames, count);
-    let object = object_of(shape.method, all);
+    // a value of what is no method has no object
+    if !may_pass(way, shape.method) {
+        return Err(NoMemory);
+    }
+    let all = behind_value(way, arguments(frames, count));
+    let object = object_of(way, shape.method, all);
     let args = arguments_of(shape.method, all);
     match count_copied(frames, store, &shape.params, args) {
         None => Ok(Did::Trapped(16, 0)),
@@ -482,18 +535,19 @@ fn call_shape(
     }
 }
 
-/// A procedure is called, whose arguments are so many operands, with the object on which it is called as the first.
+/// A procedure is called with so many operands, which are handed over in this way.
 pub fn call(
     alloc: Global,
     image: &Image,
     procedure: u32,
+    way: Way,
     count: usize,
     at: usize,
     frames: &mut Frames,
     store: &Store,
 ) -> Result<Did, NoMemory>
     requires { at + 1 < 2 ^ 64 }
-    ensures ok { (out : List ℕ) → IfOk result (λ did. HasAnswered image.now (Calls procedure count) at frames.old frames.new (memory_in store.now) (memory_in store.now) did out out) }
+    ensures ok { (out : List ℕ) → IfOk result (λ did. HasAnswered image.now (Calls procedure way count) at frames.old frames.new (memory_in store.now) (memory_in store.now) did out out) }
     ensures left { (out : List ℕ) → IfOk result (λ did. WhereLeft did (Same frames.old frames.new (memory_in store.now) (memory_in store.now) out out)) }
     ensures err { (out : List ℕ) → OnErr result (Same frames.old frames.new (memory_in store.now) (memory_in store.now) out out) }
     ensures counts { SameCounts frames.old frames.new }
@@ -504,6 +558,8 @@ pub fn call(
     };
     match numbered(&image.shapes, procedure) {
         None => Ok(Did::Trapped(16, 0)),
-        Some(shape) => call_shape(alloc, depth, procedure, shape, count, at, frames, store),
+        Some(shape) => call_shape(
+            alloc, depth, procedure, shape, way, count, at, frames, store,
+        ),
     }
 }

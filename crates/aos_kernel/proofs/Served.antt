@@ -95,7 +95,7 @@ module _ (ps : List ℕ) (shapes : List ProcShape) (types : List TypeDesc) (at :
   answered (Copies n from to) = copied _ _ to
   answered (PutsText strict from n to room) = put_text strict _ _ to _
   answered (ComparesTexts r a n b m) = compared r _ _
-  answered (Calls p vs) = called (numbered shapes p) p vs
+  answered (Calls how p vs) = called (numbered shapes p) p vs
   answered (Ends result) = tt
   answered (Makes t vs) = made_of (numbered types t) (numbers_in ps vs) t
   answered (Starts v) = started v

@@ -1,14 +1,14 @@
 -- Who waits for a lock, by a flag for each number.
-use Rattle.std.proofs.Common.{◌≡◌, ◌≢◌, ◌<◌, ◌≤◌, ◌∷◌, [], ◌++◌, ℕ, List, length, refl, sym, ap, subst, ◌∙◌, ◌⊎◌, inl, inr, Contains, arith, set}
+use Rattle.std.proofs.Common.{◌≡◌, ◌≢◌, ◌<◌, ◌≤◌, ◌∷◌, [], ◌++◌, ℕ, List, length, refl, sym, ap, subst, ◌∙◌, ◌⊎◌, inl, inr, Contains}
 use Rattle.std.specs.Prelude.{Bool, true, false, Option, Some, None, slice_index_or, slice_set}
 use Rattle.std.proofs.lemmas.Bool.{false≢true}
 use Rattle.std.proofs.lemmas.Bool.Decides.{eqb_tells}
-use Rattle.std.proofs.lemmas.List.{get_or-set_same, get_or-set_other, length-set, map-append}
+use Rattle.std.proofs.lemmas.List.{get_or-set_same, get_or-set_other, length-set}
 use Rattle.aos_base.specs.declared.kernel.Verdict.{Verdict}
 use Rattle.aos_base.specs.Lock.{Waiting, after_heir}
 use Rattle.aos_queue.specs.declared.links.Links.{Links}
 use Rattle.aos_queue.specs.Lists.{room_of}
-use Rattle.aos_queue.proofs.Members.{here, there, among}
+use Rattle.aos_queue.proofs.Members.{among}
 use Rattle.aos_lock.specs.declared.lock.Entered.{Entered}
 use Rattle.aos_lock.specs.declared.lock.Entered.TheVariants.{Taken, Waits, Recursive}
 use Rattle.aos_lock.specs.declared.locks.Locks.{Locks}

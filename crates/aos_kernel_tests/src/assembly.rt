@@ -59,8 +59,10 @@ fn plain_operator(name: &str) -> Option<Instr> {
 fn plain(name: &str) -> Option<Instr> {
     match name {
         "nil" => Some(Instr::Nil),
+        "nil_call" => Some(Instr::NilCall),
         "self" => Some(Instr::SelfRef),
         "eq_ref" => Some(Instr::EqRef),
+        "eq_call" => Some(Instr::EqCall),
         "dup" => Some(Instr::Dup),
         "drop" => Some(Instr::Drop),
         "swap" => Some(Instr::Swap),
@@ -131,6 +133,9 @@ fn numbered(name: &str, number: i64) -> Option<Instr> {
         "jump_false" => Some(Instr::JumpFalse(number)),
         "copy" => Some(Instr::Copy(number)),
         "call" => Some(Instr::Call(number)),
+        "proc" => Some(Instr::Proc(number)),
+        "bind" => Some(Instr::Bind(number)),
+        "call_value" => Some(Instr::CallValue(number)),
         "new_object" => Some(Instr::NewObject(number)),
         "deref" => Some(Instr::Deref(number)),
         "open_ref" => Some(Instr::OpenRef(number)),

@@ -476,6 +476,75 @@ fn methods(rt: HostRuntime) -> Result<(), Fail> {
     Ok(())
 }
 
+/// What comes of procedure values, as a number, or the trap.
+static VALUES: [(&str, &str); 24] = [
+    ("proc 2; num 4; call_value 2", "Ended 5"),
+    ("proc 6; module 0 4; call_value 6", "Ended 241"),
+    ("proc 2; keep 1 c; kept 1 c; num 4; call_value 2", "Ended 5"),
+    // a method with its object, that of the object's own type; any procedure with its formals may be named
+    (
+        "new_object 2; dup; deref 0; num 7; store n; bind 0; num 3; call_value 2",
+        "Ended 10",
+    ),
+    (
+        "new_object 3; dup; deref 0; num 7; store n; bind 0; num 3; call_value 11",
+        "Ended 4",
+    ),
+    ("new_object 3; bind 1; call_value 13", "Ended 5"),
+    // NIL, which is called behind its arguments, and bound
+    ("nil_call; num 4; call_value 2", "Ended  trap 1 0"),
+    (
+        "nil_call; num 3; num 0; div 64; call_value 2",
+        "Ended  trap 6 0",
+    ),
+    ("nil; bind 0; num 3; call_value 2", "Ended  trap 1 0"),
+    // two that are one, by procedure and object
+    ("nil_call; nil_call; eq_call", "Ended 1"),
+    ("proc 2; nil_call; eq_call", "Ended 0"),
+    ("proc 2; proc 2; eq_call", "Ended 1"),
+    ("proc 2; proc 3; eq_call", "Ended 0"),
+    (
+        "new_object 2; dup; bind 0; swap; bind 0; eq_call",
+        "Ended 1",
+    ),
+    (
+        "new_object 2; bind 0; new_object 2; bind 0; eq_call",
+        "Ended 0",
+    ),
+    (
+        "new_object 2; dup; bind 0; swap; bind 1; eq_call",
+        "Ended 0",
+    ),
+    // other formals, a method on no object, what is no method on one, and no such slot or procedure
+    ("proc 7; num 4; call_value 2", "Ended  trap 16 0"),
+    (
+        "new_object 2; bind 1; num 3; call_value 2",
+        "Ended  trap 16 0",
+    ),
+    ("proc 11; num 3; call_value 2", "Ended  trap 16 0"),
+    (
+        "new_object 5; bind 1; num 3; call_value 2",
+        "Ended  trap 16 0",
+    ),
+    (
+        "new_object 2; bind 2; num 3; call_value 2",
+        "Ended  trap 16 0",
+    ),
+    ("proc 16; num 3; call_value 2", "Ended  trap 16 0"),
+    // a number and an object for a value
+    ("num 1; num 3; call_value 2", "Ended  trap 16 0"),
+    ("nil; nil_call; eq_call", "Ended  trap 16 0"),
+];
+
+#[test]
+fn procedure_values(rt: HostRuntime) -> Result<(), Fail> {
+    for (code, want) in &VALUES {
+        let written = format!(in rt.alloc(); "{code}; num 0; out_int")?;
+        expect(&rt, rt.alloc(), &written, want)?;
+    }
+    Ok(())
+}
+
 #[test]
 fn goes_back(rt: HostRuntime) -> Result<(), Fail> {
     let code = "module 0 7; load n; num 0; cmp #; jump_false 15; \

@@ -206,7 +206,26 @@ static UNSOUND_METHODS: [&str; 8] = [
     "self; drop; return",
 ];
 
-static CONDITIONS: [&str; 4] = [
+static VALUES: [&str; 3] = [
+    "proc 2; call_value 2; out_char; return",
+    "nil; bind 0; num 1; call_value 4; out_char; return",
+    "nil_call; proc 2; eq_call; out_char; return",
+];
+
+static UNSOUND_VALUES: [&str; 7] = [
+    // a method without an object, no such procedure, and a slot that no type has
+    "proc 4; drop; return",
+    "proc 5; drop; return",
+    "nil_call; call_value 5; return",
+    "nil; bind 1; drop; return",
+    // the value above the argument, and an object for a value
+    "num 1; nil_call; call_value 4; out_char; return",
+    "nil; num 1; call_value 4; out_char; return",
+    "nil; nil; eq_call; out_char; return",
+];
+
+static CONDITIONS: [&str; 5] = [
+    "nil; bind 0; nil_call; eq_call; jump_false 5; fail 7",
     "nil; is 1; jump_false 3; fail 7",
     "module 0 1; num 1; module 0 1; num 1; cmp_text <; jump_false 6; fail 7",
     "kept 0 n; jump_false 2; fail 7",
@@ -227,6 +246,14 @@ fn soundness_of_objects(rt: HostRuntime) -> Result<(), Fail> {
     let alloc = rt.alloc();
     expect(&rt, alloc, &OBJECTS, (true, false))?;
     expect(&rt, alloc, &UNSOUND_OBJECTS, (false, false))?;
+    Ok(())
+}
+
+#[test]
+fn soundness_of_procedure_values(rt: HostRuntime) -> Result<(), Fail> {
+    let alloc = rt.alloc();
+    expect(&rt, alloc, &VALUES, (true, false))?;
+    expect(&rt, alloc, &UNSOUND_VALUES, (false, false))?;
     Ok(())
 }
 

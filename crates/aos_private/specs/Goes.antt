@@ -12,7 +12,8 @@ use Rattle.aos_store.specs.declared.frames.Frames.{Frames as KeptFrames}
 use Rattle.aos_store.specs.Store.{list_in, has_all}
 use Rattle.aos_silent.specs.declared.act.Question.{Question as KeptQuestion}
 use Rattle.aos_silent.specs.declared.silent.Stop.{Stop as KeptStop}
-use Rattle.aos_silent.specs.Acts.{question_in}
+use Rattle.aos_silent.specs.declared.act.Way.{Way}
+use Rattle.aos_silent.specs.Acts.{question_in, passed}
 use Rattle.aos_silent.specs.Silent.{stop_in}
 use Rattle.aos_cpu.specs.Private.{has_gone, is_own, is_own_stop}
 
@@ -37,11 +38,11 @@ takes_text strict None room to x = false
 takes_text strict (Some n) None to x = false
 takes_text strict (Some n) (Some room) to x = has_cells (stored_len strict room n) to x
 
--- this tells whether a procedure of this shape is called, whose arguments are so many operands of the topmost frame
-abbrev pub TellsCall : Bool → Option ProcShape → (count : ℕ) → KeptFrames → Memory → Type 0
-TellsCall is shape count frames mem =
+-- this tells whether a procedure of this shape is called with so many operands of the topmost frame, which are handed over in this way
+abbrev pub TellsCall : Bool → Option ProcShape → Way → (count : ℕ) → KeptFrames → Memory → Type 0
+TellsCall is shape way count frames mem =
     (f : Frame) (fs : List Frame) → list_in frames.list.items ≡ f ∷ fs → (following : List ℕ) (p at : ℕ) (k : Keeps) (s : Stack) →
-    is ≡ has_gone (calls following shape p (reverse (take count f.stack)) at k s f fs mem).left
+    is ≡ has_gone (calls following shape p (passed way (reverse (take count f.stack))) at k s f fs mem).left
 
 -- this tells whether the answer comes to the question of the topmost frame, if that needs nothing but the frames
 abbrev pub TellsOwn : Bool → List ProcShape → List TypeDesc → KeptQuestion → KeptFrames → Memory → Type 0

@@ -9,9 +9,9 @@ ghost use Rattle.aos_silent.specs.Acts.{addr_in};
 ghost use Rattle.aos_private.specs.Goes.{holds as holds_kind, stored_len as stored_length, takes_text as takes, TellsCall, TellsOwn};
 
 use aos_code::{Cell, Image, Kind, ProcShape};
-use aos_cpu::calls::{arguments, arguments_of, count_copied, count_with};
+use aos_cpu::calls::{arguments, arguments_of, behind_value, count_copied, count_with};
 use aos_cpu::texts::{array_at, code, compare_at, length_of};
-use aos_silent::{Question, Spot, is_of, numbered};
+use aos_silent::{Question, Spot, Way, is_of, numbered};
 use aos_store::{Frames, Store, has_cells_at, load_at};
 
 /// Whether there is a value, of this kind.
@@ -89,11 +89,11 @@ fn takes_text(
     }
 }
 
-/// Whether a procedure of this shape is called, whose arguments are so many operands, with the object as the first: they can be handed over, and it isn't too deep.
-fn enters(frames: &Frames, store: &Store, shape: &ProcShape, count: usize) -> bool
-    ensures { TellsCall result (Option.Some shape.now) count frames.now (memory_in store.now) }
+/// Whether a procedure of this shape is called with so many operands: they can be handed over in this way, and it isn't too deep.
+fn enters(frames: &Frames, store: &Store, shape: &ProcShape, way: Way, count: usize) -> bool
+    ensures { TellsCall result (Option.Some shape.now) way count frames.now (memory_in store.now) }
 {
-    let all = arguments(frames, count);
+    let all = behind_value(way, arguments(frames, count));
     let args = arguments_of(shape.method, all);
     match count_copied(frames, store, &shape.params, args) {
         None => false,
@@ -101,13 +101,13 @@ fn enters(frames: &Frames, store: &Store, shape: &ProcShape, count: usize) -> bo
     }
 }
 
-/// Whether a procedure is called, whose arguments are so many operands.
-fn calls(frames: &Frames, store: &Store, shape: Option<&ProcShape>, count: usize) -> bool
-    ensures { TellsCall result (option_copied shape.entry) count frames.now (memory_in store.now) }
+/// Whether a procedure is called with so many operands, which are handed over in this way.
+fn calls(frames: &Frames, store: &Store, shape: Option<&ProcShape>, way: Way, count: usize) -> bool
+    ensures { TellsCall result (option_copied shape.entry) way count frames.now (memory_in store.now) }
 {
     match shape {
         None => false,
-        Some(shape) => enters(frames, store, shape, count),
+        Some(shape) => enters(frames, store, shape, way, count),
     }
 }
 
@@ -134,9 +134,13 @@ pub fn goes(image: &Image, question: Question, frames: &Frames, store: &Store) -
         Question::ComparesTexts(_, left, len, right, other) => {
             compare_at(frames, store, left, len, right, other).is_some()
         }
-        Question::Calls(procedure, count) => {
-            calls(frames, store, numbered(&image.shapes, procedure), count)
-        }
+        Question::Calls(procedure, way, count) => calls(
+            frames,
+            store,
+            numbered(&image.shapes, procedure),
+            way,
+            count,
+        ),
         Question::Ends(_) => true,
         Question::PutsNothing => true,
         _ => false,

@@ -9,3 +9,4 @@ pub mod Knowing
 pub mod Telling
 pub mod Extending
 mod Receivers
+mod Applying

@@ -2,7 +2,7 @@
 use Rattle.std.proofs.Common.{◌≡◌, ◌<◌, ◌+◌, ℕ, zero, suc, List, [], ◌∷◌, take, drop, reverse, refl, sym, ap, ◌∙◌, arith}
 use Rattle.std.specs.Prelude.{Bool, true, Option, Some, None, slice_get}
 use Rattle.std.proofs.lemmas.List.{reverse-append}
-use Rattle.aos_base.specs.Question.{Calls}
+use Rattle.aos_base.specs.Question.{Calls, ByName}
 use Rattle.aos_base.specs.Rooted.{by_number}
 use Rattle.aos_code.specs.declared.instr.Cell.{Cell}
 use Rattle.aos_code.specs.declared.instr.Cell.TheVariants.{Num, Ref, Call as CallCell, Place}
@@ -13,6 +13,7 @@ use Rattle.aos_store.specs.declared.heap.Object.{Object}
 use Rattle.aos_store.specs.Objects.{made_in}
 use Rattle.aos_silent.specs.declared.act.Act.TheVariants.{Sees as Asks, Fails as FailsWith}
 use Rattle.aos_silent.specs.declared.act.Question.TheVariants.{Calls as AsksCall}
+use Rattle.aos_silent.specs.declared.act.Way.TheVariants.{Direct}
 use Rattle.aos_silent.specs.Acts.{object_in}
 use Rattle.aos_silent.specs.Known.{known}
 use Rattle.aos_silent.specs.Steps.{IsTold}
@@ -52,7 +53,7 @@ with_receiver s d n e = ap reverse (up_to s d (Ref n) (object_cell (slice_get s 
 -- A call of a method.
 module _ (p : ℕ) (s : Stack) (d : ℕ) (method : Bool) (is : method ≡ true) where
   abbrev calling : ℕ → Stack → Act
-  calling o r = Sees (Calls p (Ref o ∷ reverse (take d s))) r
+  calling o r = Sees (Calls ByName p (Ref o ∷ reverse (take d s))) r
 
   on_object : called method p (reverse (take d s)) (drop d s) ≡ on_receiver calling (drop d s)
   on_object = ap (λ m. called m p (reverse (take d s)) (drop d s)) is
@@ -63,8 +64,8 @@ module _ (p : ℕ) (s : Stack) (d : ℕ) (method : Bool) (is : method ≡ true) 
   pub called_nil : Some 0 ≡ object_in (slice_get s d) → Stops (Fails 1 0) ≡ called method p (reverse (take d s)) (drop d s)
   called_nil e = sym (on_object ∙ receiver_nil calling s d e)
 
-  pub called_one : (n : ℕ) → 0 < n → Some n ≡ object_in (slice_get s d) → Sees (Calls p (reverse (take (d + 1) s))) (drop (d + 1) s) ≡ called method p (reverse (take d s)) (drop d s)
-  called_one n lt e = ap (λ vs. Sees (Calls p vs) (drop (d + 1) s)) (with_receiver s d n e) ∙ sym (on_object ∙ receiver_one calling s d n lt e)
+  pub called_one : (n : ℕ) → 0 < n → Some n ≡ object_in (slice_get s d) → Sees (Calls ByName p (reverse (take (d + 1) s))) (drop (d + 1) s) ≡ called method p (reverse (take d s)) (drop d s)
+  called_one n lt e = ap (λ vs. Sees (Calls ByName p vs) (drop (d + 1) s)) (with_receiver s d n e) ∙ sym (on_object ∙ receiver_one calling s d n lt e)
 
 -- A call of what an object's type has in a slot.
 module _ (shapes : List ProcShape) (types : List TypeDesc) (os : List Object) (slot p : ℕ) (s : Stack) (d : ℕ) where
@@ -91,7 +92,7 @@ module _ (shapes : List ProcShape) (types : List TypeDesc) (os : List Object) (s
         told_unheard shapes types (known os) (AtSlot slot p arguments) n (on_receiver asks (drop d s)) s (drop (d + 1) s) (receiver_one asks s d n some top)
         (ap (told_by shapes types (AtSlot slot p arguments) n) (known_one os n x e) ∙ none)
 
-    pub sent_one : (x : Object) (q : ℕ) → Some x ≡ by_number n os → invoked shapes p (method_at types x.made_of slot) n arguments ≡ Invokes q (Ref n ∷ arguments) → IsTold shapes types (known os) (on_receiver asks (drop d s)) (Asks (AsksCall q (d + 1))) s
+    pub sent_one : (x : Object) (q : ℕ) → Some x ≡ by_number n os → invoked shapes p (method_at types x.made_of slot) n arguments ≡ Invokes q (Ref n ∷ arguments) → IsTold shapes types (known os) (on_receiver asks (drop d s)) (Asks (AsksCall q Direct (d + 1))) s
     sent_one x q e is =
         told_invokes shapes types (known os) (AtSlot slot p arguments) n (on_receiver asks (drop d s)) (made_in x) q (d + 1) (Ref n ∷ arguments) s (drop (d + 1) s) (receiver_one asks s d n some top)
         (known_one os n x e) is (with_receiver s d n top) refl

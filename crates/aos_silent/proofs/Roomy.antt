@@ -43,6 +43,8 @@ never_refused image depth keeps code f paths room len i is = by_instr i is
     by_instr : (i : Instr) → slice_get code f.next ≡ Some i → IsRefused keeps i f → ⊥
     by_instr (instr.Num n) is r = has_more (instr.Num n) is refl r
     by_instr instr.Nil is r = has_more instr.Nil is refl r
+    by_instr instr.NilCall is r = has_more instr.NilCall is refl r
+    by_instr (instr.Proc p) is r = has_more (instr.Proc p) is refl r
     by_instr instr.SelfRef is r = has_more instr.SelfRef is refl r
     by_instr (instr.OpenRef j) is r = no_row j is r
     by_instr instr.Dup is r = has_more instr.Dup is refl r

@@ -1,7 +1,7 @@
 -- An act that has been done on a frame's operands is a step.
 use Rattle.std.proofs.Common.{◌≡◌, ℕ, suc, ◌+◌, refl, sym, ap, ◌∙◌, List, [], ◌∷◌, ◌++◌, reverse, take, drop}
 use Rattle.std.specs.Prelude.{Option, Some, None, slice_get}
-use Rattle.aos_base.specs.Question.{Calls}
+use Rattle.aos_base.specs.Question.{Calls, ByName}
 use Rattle.aos_base.specs.Rooted.{Made}
 use Rattle.aos_code.specs.declared.instr.Cell.{Cell}
 use Rattle.aos_code.specs.declared.instr.Cell.TheVariants.{Num, Ref, Call as CallCell, Place}
@@ -11,6 +11,7 @@ use Rattle.aos_code.specs.Silent.{Stack, Keeps, Work, Look, Act, Looks, Stops, l
 use Rattle.aos_code.specs.Machine.{Frame}
 use Rattle.aos_silent.specs.declared.act.Act.{Act as KeptAct}
 use Rattle.aos_silent.specs.declared.act.Act.TheVariants.{Goes as GoesOn, Sees as Asks, Begins as BeginsAt, Fails as FailsWith}
+use Rattle.aos_silent.specs.declared.act.Way.TheVariants.{Direct}
 use Rattle.aos_silent.specs.declared.act.Question.{Question as KeptQuestion}
 use Rattle.aos_silent.specs.declared.act.Question.TheVariants.{Reads as AsksRead, Stores as AsksStore, Copies as AsksCopy, PutsText as AsksPutText, ComparesTexts as AsksCompare, Calls as AsksCall, Ends as AsksEnd, Makes as AsksNew, Starts as AsksStart, PutsInt as AsksInt, PutsChar as AsksChar, PutsString as AsksString, PutsNothing as AsksNothing, PutsLn as AsksLn}
 use Rattle.aos_silent.specs.Acts.{question_in, operands_of, act_in, object_in}
@@ -23,7 +24,7 @@ visible cells (AsksStore p v) s = refl
 visible cells (AsksCopy n from to) s = refl
 visible cells (AsksPutText strict from n to room) s = refl
 visible cells (AsksCompare r a n b m) s = refl
-visible cells (AsksCall p n) s = refl
+visible cells (AsksCall p way n) s = refl
 visible cells (AsksEnd v) s = refl
 visible cells (AsksNew t j) s = refl
 visible cells (AsksStart o) s = refl
@@ -90,12 +91,12 @@ module _ (shapes : List ProcShape) (types : List TypeDesc) (made : ℕ → Optio
 
   -- a method that is called with these arguments, which lie on the stack
   pub told_invokes : (l : Look) (o : ℕ) (a : Act) (m : Made) (q count : ℕ) (vs : List Cell) (s t : Stack) → a ≡ Looks l o t → made o ≡ Some m → told_by shapes types l o (Some m) ≡ Invokes q vs →
-      reverse (take count s) ≡ vs → drop count s ≡ t → IsTold shapes types made a (Asks (AsksCall q count)) s
+      reverse (take count s) ≡ vs → drop count s ≡ t → IsTold shapes types made a (Asks (AsksCall q Direct count)) s
   told_invokes l o a m q count vs s t is known invokes args rest =
       record {
         goes = λ cells k next at.
             ap (λ b. on_act shapes types made cells b next at k) is ∙ ap (λ r. on_told (told_by shapes types l o r) next at k t) known ∙ ap (λ r. on_told r next at k t) invokes
-            ∙ sym (λ i. Work (Calls q (args i)) at k (rest i));
+            ∙ sym (λ i. Work (Calls ByName q (args i)) at k (rest i));
         more = λ all h cells k. tt;
       }
 

@@ -1,7 +1,7 @@
 -- What the processor's acts and questions show of the definitions.
-use Rattle.std.specs.Prelude.{◌≡◌, ℕ, ℤ, ◌^◌, List, if◌then◌else◌, Option, Some, None, reverse, take, drop, slice_get, nat_lt, Vec}
+use Rattle.std.specs.Prelude.{◌≡◌, ℕ, ℤ, ◌^◌, List, [], ◌∷◌, if◌then◌else◌, Option, Some, None, reverse, take, drop, slice_get, nat_lt, Vec}
 use Rattle.std.specs.declared.alloc.Global.{Global}
-use Rattle.aos_base.specs.Question.{Reads, Stores, Copies, PutsText, ComparesTexts, Calls, Ends, Makes, Starts, PutsInt, PutsChar, PutsString, PutsNothing, PutsLn}
+use Rattle.aos_base.specs.Question.{ByName, Reads, Stores, Copies, PutsText, ComparesTexts, Calls, Ends, Makes, Starts, PutsInt, PutsChar, PutsString, PutsNothing, PutsLn}
 use Rattle.aos_code.specs.declared.instr.Cell.{Cell}
 use Rattle.aos_code.specs.declared.instr.Cell.TheVariants.{Num, Ref, Call as CallCell, Place}
 use Rattle.aos_code.specs.declared.instr.Kind.{Kind}
@@ -12,6 +12,9 @@ use Rattle.aos_code.specs.Silent.{Stack, Question, Begins, Fails, Act, Goes, See
 use Rattle.aos_silent.specs.declared.act.Question.{Question as KeptQuestion}
 use Rattle.aos_silent.specs.declared.act.Question.TheVariants.{Reads as AsksRead, Stores as AsksStore, Copies as AsksCopy, PutsText as AsksPutText, ComparesTexts as AsksCompare, Calls as AsksCall, Ends as AsksEnd, Makes as AsksNew, Starts as AsksStart, PutsInt as AsksInt, PutsChar as AsksChar, PutsString as AsksString, PutsNothing as AsksNothing, PutsLn as AsksLn}
 use Rattle.aos_silent.specs.declared.act.Spot.{Spot}
+use Rattle.aos_silent.specs.declared.act.Callable.{Callable}
+use Rattle.aos_silent.specs.declared.act.Way.{Way}
+use Rattle.aos_silent.specs.declared.act.Way.TheVariants.{Direct, Bound, Free}
 use Rattle.aos_silent.specs.declared.act.Act.{Act as KeptAct}
 use Rattle.aos_silent.specs.declared.act.Act.TheVariants.{Goes as GoesOn, Sees as Asks, Begins as BeginsAt, Fails as FailsWith}
 
@@ -22,6 +25,33 @@ operands_in stack = reverse stack.items
 abbrev pub addr_in : Spot → Addr
 addr_in p = record { root = p.root; cell = p.cell }
 
+-- a procedure value as its object
+abbrev pub as_object : Cell → Cell
+as_object (Num a) = Num a
+as_object (Ref o) = Ref o
+as_object (CallCell p o) = Ref o
+as_object (Place root cell type) = Place root cell type
+
+abbrev pub first_as_object : List Cell → List Cell
+first_as_object [] = []
+first_as_object (v ∷ vs) = as_object v ∷ vs
+
+-- the operands of a call that are handed over, among them a procedure value as it is
+abbrev pub behind_value : Way → List Cell → List Cell
+behind_value Direct vs = vs
+behind_value Bound vs = vs
+behind_value Free vs = drop 1 vs
+
+-- the value as its object, where that is handed over
+abbrev pub with_object : Way → List Cell → List Cell
+with_object Direct vs = vs
+with_object Bound vs = first_as_object vs
+with_object Free vs = vs
+
+-- what is handed over of the operands of a call
+abbrev pub passed : Way → List Cell → List Cell
+passed way vs = with_object way (behind_value way vs)
+
 -- a question, where s are the operands from its own on; arguments of a call and lengths lie on the stack
 abbrev pub question_in : KeptQuestion → Stack → Question
 question_in (AsksRead kind p) s = Reads kind (addr_in p)
@@ -29,7 +59,7 @@ question_in (AsksStore p v) s = Stores (addr_in p) v
 question_in (AsksCopy count from to) s = Copies count (addr_in from) (addr_in to)
 question_in (AsksPutText strict from n to room) s = PutsText strict (addr_in from) (Num n) (addr_in to) (Num room)
 question_in (AsksCompare r a n b m) s = ComparesTexts r (addr_in a) (Num n) (addr_in b) (Num m)
-question_in (AsksCall p count) s = Calls p (reverse (take count s))
+question_in (AsksCall p way count) s = Calls ByName p (passed way (reverse (take count s)))
 question_in (AsksEnd result) s = Ends result
 question_in (AsksNew t j) s = Makes t (reverse (take j s))
 question_in (AsksStart o) s = Starts (Ref o)
@@ -50,7 +80,7 @@ operands_of (AsksStore p v) = 2
 operands_of (AsksCopy count from to) = 2
 operands_of (AsksPutText strict from n to room) = 4
 operands_of (AsksCompare r a n b m) = 4
-operands_of (AsksCall p count) = count
+operands_of (AsksCall p way count) = count
 operands_of (AsksEnd result) = results result
 operands_of (AsksNew t j) = j
 operands_of (AsksStart o) = 1
@@ -108,6 +138,13 @@ object_in (Some (Num a)) = None
 object_in (Some (Ref o)) = Some o
 object_in (Some (CallCell p o)) = None
 object_in (Some (Place root cell type)) = None
+
+abbrev pub callable_in : Option Cell → Option Callable
+callable_in None = None
+callable_in (Some (Num a)) = None
+callable_in (Some (Ref o)) = None
+callable_in (Some (CallCell p o)) = Some (record { procedure = p; object = o })
+callable_in (Some (Place root cell type)) = None
 
 abbrev pub spot_in : Option Cell → Option Spot
 spot_in None = None

@@ -25,6 +25,8 @@ HasNoRow j f = (o : ℕ) × (s : Stack) × ((frame_in f).stack ≡ Ref (suc o) �
 abbrev pub IsRefused : (keeps : ℕ) → Instr → KeptFrame → Type 0
 IsRefused keeps (instr.Num n) f = IsFull f
 IsRefused keeps instr.Nil f = IsFull f
+IsRefused keeps instr.NilCall f = IsFull f
+IsRefused keeps (instr.Proc p) f = IsFull f
 IsRefused keeps instr.SelfRef f = IsFull f
 IsRefused keeps instr.Dup f = IsFull f
 IsRefused keeps (instr.Frame c) f = IsFull f

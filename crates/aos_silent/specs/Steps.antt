@@ -66,6 +66,8 @@ pub data Group : Type 0 where
 abbrev pub group_of : Instr → Group
 group_of (instr.Num n) = OnFrame
 group_of instr.Nil = OnFrame
+group_of instr.NilCall = OnFrame
+group_of (instr.Proc p) = OnFrame
 group_of instr.SelfRef = OnFrame
 group_of instr.Dup = OnFrame
 group_of instr.Drop = Operands
@@ -83,6 +85,8 @@ group_of (instr.PickLen d j) = Operands
 group_of (instr.Unary op) = Operands
 group_of (instr.Binary op) = Operands
 group_of instr.EqRef = Operands
+group_of instr.EqCall = Operands
+group_of (instr.Bind k) = Told
 group_of (instr.Is t) = Told
 group_of (instr.IsPlace t) = Tested
 group_of (instr.Guard t) = Told
@@ -102,6 +106,7 @@ group_of (instr.PutText strict) = Written
 group_of (instr.CmpText r) = Written
 group_of (instr.Call p) = Asked
 group_of (instr.Virtual k p) = Told
+group_of (instr.CallValue p) = Asked
 group_of (instr.NewObject t) = Asked
 group_of (instr.NewArray t j) = Asked
 group_of instr.Start = Asked

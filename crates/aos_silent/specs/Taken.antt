@@ -1,9 +1,11 @@
 -- Operands of which an instruction takes many.
-use Rattle.std.specs.Prelude.{ℕ, ℤ, pos, negsuc, List, ◌∷◌, map, Option, Some, None, reverse, take, drop}
+use Rattle.std.specs.Prelude.{ℕ, ℤ, pos, negsuc, List, ◌∷◌, map, Bool, true, false, Option, Some, None, reverse, take, drop}
 use Rattle.aos_code.specs.declared.instr.Cell.{Cell}
 use Rattle.aos_code.specs.declared.instr.Cell.TheVariants.{Num, Ref, Call as CallCell, Place}
 use Rattle.aos_code.specs.declared.instr.Kind.{Kind}
 use Rattle.aos_code.specs.Silent.{Stack, Act, Told, Invokes, Unheard, on_kinds}
+use Rattle.aos_silent.specs.declared.act.Way.{Way}
+use Rattle.aos_silent.specs.declared.act.Way.TheVariants.{Bound, Free}
 use Rattle.aos_silent.specs.Acts.{number_in}
 
 -- a length, where a number is none below 0
@@ -41,3 +43,11 @@ kinds_from kinds depth k s = on_kinds kinds (reverse (take depth s)) k (drop dep
 abbrev pub invoking : Option ℕ → (object : ℕ) → List Cell → Told
 invoking None o vs = Unheard
 invoking (Some q) o vs = Invokes q (Ref o ∷ vs)
+
+-- how a procedure is called through a value with an object or with none, if it may be called so
+abbrev pub way_for : (is_same method has_object : Bool) → Option Way
+way_for true true true = Some Bound
+way_for true true false = None
+way_for true false true = None
+way_for true false false = Some Free
+way_for false method has_object = None

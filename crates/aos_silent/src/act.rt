@@ -10,6 +10,24 @@ pub struct Spot {
     pub cell: u32,
 }
 
+/// A procedure value: a procedure, 0 for NIL, and the object whose method it is, 0 for none.
+#[derive(Clone, Copy)]
+pub struct Callable {
+    pub procedure: u32,
+    pub object: u32,
+}
+
+/// How the operands of a call are handed over.
+#[derive(Clone, Copy, PartialEq, Eq, Debug)]
+pub enum Way {
+    /// They are its arguments, with the object on which it is called as the first.
+    Direct,
+    /// The first one is a procedure value, whose object is handed over in its place.
+    Bound,
+    /// The first one is a procedure value, which isn't handed over.
+    Free,
+}
+
 /// Visible work that an instruction asks for. Its operands lie on the stack still.
 #[derive(Clone, Copy)]
 pub enum Question {
@@ -21,8 +39,8 @@ pub enum Question {
     PutsText(bool, Spot, i64, Spot, i64),
     /// The places and lengths of two texts that are compared.
     ComparesTexts(Relation, Spot, i64, Spot, i64),
-    /// A procedure is called, whose arguments are so many operands, with the object on which it is called as the first.
-    Calls(u32, usize),
+    /// A procedure is called with so many operands, which are handed over in this way.
+    Calls(u32, Way, usize),
     /// The end of the frame, with the result where there is one.
     Ends(Option<Cell>),
     /// An object of this type is made, an open array whose lengths are so many operands.

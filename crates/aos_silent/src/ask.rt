@@ -9,7 +9,7 @@ ghost use Rattle.aos_code.specs.Silent.{Stack, Act as ActOf, Sees, counted_on, o
 ghost use Rattle.aos_silent.specs.Acts.{act_in, IsStay, or_lost};
 ghost use Rattle.aos_silent.specs.Taken.{kinds_from};
 
-use crate::act::{Act, LOST, Question};
+use crate::act::{Act, LOST, Question, Way};
 use crate::image::numbered;
 use crate::operands::{is_of, number, object, of_kind, operand, spot};
 use crate::rows::are_numbers;
@@ -243,12 +243,12 @@ fn ask_called(method: bool, procedure: u32, count: usize, stack: &[Cell]) -> Act
     ensures stays { IsStay result }
 {
     if !method {
-        return Act::Sees(Question::Calls(procedure, count));
+        return Act::Sees(Question::Calls(procedure, Way::Direct, count));
     }
     match object(stack, count) {
         None => LOST,
         Some(0) => Act::Fails(1, 0),
-        Some(_) => Act::Sees(Question::Calls(procedure, count + 1)),
+        Some(_) => Act::Sees(Question::Calls(procedure, Way::Direct, count + 1)),
     }
 }
 

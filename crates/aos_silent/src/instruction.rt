@@ -17,8 +17,9 @@ use crate::ask::{
     ask_array, ask_call, ask_char, ask_compare, ask_copy, ask_end, ask_int, ask_put_text, ask_read,
     ask_start, ask_store, ask_string,
 };
+use crate::callables::{ask_value, compare_callables};
 use crate::image::numbered;
-use crate::methods::tell_method;
+use crate::methods::{tell_bound, tell_method};
 use crate::objects::{
     compare_objects, guard_place, tell_array, tell_as, tell_cell, tell_is, test_place,
 };
@@ -47,6 +48,7 @@ fn do_operands(instr: Instr, stack: &mut Vec<Cell>) -> Act
         Instr::Drop => drop_one(stack),
         Instr::Swap => swap(stack),
         Instr::EqRef => compare_objects(stack),
+        Instr::EqCall => compare_callables(stack),
         Instr::Offset(cells, of_type) => offset(stack, cells, of_type),
         Instr::Index(elements, cells) => index(stack, elements, cells),
         Instr::IndexOpen(lengths, cells) => index_open(stack, lengths, cells),
@@ -93,6 +95,7 @@ fn do_told(
         Instr::Is(other) => Ok(tell_is(&mut frame.operands, types, heap, other)),
         Instr::Guard(other) => Ok(tell_as(&frame.operands, types, heap, other)),
         Instr::OpenRef(count) => tell_array(frame, heap, count),
+        Instr::Bind(slot) => Ok(tell_bound(&mut frame.operands, types, heap, slot)),
         Instr::Virtual(slot, procedure) => Ok(tell_method(
             &frame.operands,
             shapes,
@@ -137,6 +140,7 @@ fn ask(instr: Instr, shapes: &[ProcShape], own: u32, stack: &[Cell]) -> Act
         Instr::Store(kind) => ask_store(kind, stack),
         Instr::Copy(count) => ask_copy(count, stack),
         Instr::Call(procedure) => ask_call(shapes, procedure, stack),
+        Instr::CallValue(procedure) => ask_value(shapes, procedure, stack),
         Instr::NewObject(of_type) => Act::Sees(Question::Makes(of_type, 0)),
         Instr::NewArray(of_type, lengths) => ask_array(of_type, lengths, stack),
         Instr::Start => ask_start(stack),
@@ -181,6 +185,8 @@ fn do_on_frame(instr: Instr, keeps: u32, here: u32, frame: &mut Frame) -> Result
     match instr {
         Instr::Num(n) => give_value(frame, Cell::Num(n)),
         Instr::Nil => give_value(frame, Cell::Ref(0)),
+        Instr::NilCall => give_value(frame, Cell::Call(0, 0)),
+        Instr::Proc(procedure) => give_value(frame, Cell::Call(procedure, 0)),
         Instr::SelfRef => self_value(frame),
         Instr::Frame(cell) => give_value(frame, Cell::Place(Root::Frame(here), cell, 0)),
         Instr::Module(module, cell) => give_value(
@@ -225,6 +231,8 @@ pub fn do_one(
         | Instr::Frame(_)
         | Instr::Module(_, _)
         | Instr::Nil
+        | Instr::NilCall
+        | Instr::Proc(_)
         | Instr::SelfRef
         | Instr::Dup
         | Instr::Keep(_, _)
@@ -236,6 +244,7 @@ pub fn do_one(
         | Instr::Drop
         | Instr::Swap
         | Instr::EqRef
+        | Instr::EqCall
         | Instr::Offset(_, _)
         | Instr::Index(_, _)
         | Instr::IndexOpen(_, _)
@@ -249,6 +258,7 @@ pub fn do_one(
         | Instr::OpenRef(_)
         | Instr::Is(_)
         | Instr::Guard(_)
+        | Instr::Bind(_)
         | Instr::Virtual(_, _) => do_told(instr, &image.shapes, &image.types, heap, frame),
         Instr::Jump(_)
         | Instr::JumpFalse(_)
@@ -260,6 +270,7 @@ pub fn do_one(
         | Instr::Store(_)
         | Instr::Copy(_)
         | Instr::Call(_)
+        | Instr::CallValue(_)
         | Instr::NewObject(_)
         | Instr::NewArray(_, _)
         | Instr::Start

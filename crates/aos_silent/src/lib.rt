@@ -3,6 +3,8 @@
 
 pub mod act;
 pub mod ask;
+pub mod callables;
+pub mod formals;
 pub mod image;
 pub mod instruction;
 pub mod methods;
@@ -13,7 +15,7 @@ pub mod silent;
 pub mod step;
 pub mod values;
 
-pub use act::{Act, Question, Spot};
+pub use act::{Act, Question, Spot, Way};
 pub use image::{code_of, home_of, numbered};
 pub use operands::{is_of, replace, take};
 pub use silent::{Stop, keeps_of, silent_from};

@@ -1,74 +1,22 @@
 // Methods that objects have in the slots of their types.
-ghost use Rattle.std.specs.Prelude.{◌≡◌, ℕ, List, Some, reverse, take, drop};
+ghost use Rattle.std.specs.Prelude.{◌≡◌, ℕ, List, Some, reverse, take, drop, vec_capacity};
 ghost use Rattle.aos_code.specs.declared.instr.Cell.{Cell as CellOf};
 ghost use Rattle.aos_code.specs.declared.instr.Instr.{Instr as InstrOf};
+ghost use Rattle.aos_code.specs.declared.image.ProcShape.{ProcShape as ShapeOf};
 ghost use Rattle.aos_code.specs.Numbered.{numbered as numbered_of};
-ghost use Rattle.aos_code.specs.Silent.{AtSlot, Looks, on_receiver, sends, invoked, method_at, same_kind as same_kind_of, same_param as same_param_of, same_params as same_params_of, same_result as same_result_of, stands_for as stands_for_of};
-ghost use Rattle.aos_silent.specs.Acts.{IsBeginOf, IsStay};
+ghost use Rattle.aos_code.specs.Silent.{Fails as FailsOf, Stops, AsMethod, AtSlot, Looks, looks, on_receiver, sends, invoked, method_at as method_at_of, stands_for as stands_for_of};
+ghost use Rattle.aos_silent.specs.Acts.{operands_in, IsBeginOf, IsStay, WhereStays};
 ghost use Rattle.aos_silent.specs.Known.{known};
 ghost use Rattle.aos_silent.specs.Steps.{IsTold};
 ghost use Rattle.aos_silent.specs.Taken.{invoking};
 
-use crate::act::{Act, LOST, Question};
+use crate::act::{Act, LOST, Question, Way};
 use crate::ask::arguments;
+use crate::formals::same_formals;
 use crate::image::numbered;
-use crate::operands::object;
-use aos_code::{Cell, Kind, ParamKind, ProcShape, TypeDesc};
+use crate::operands::{object, replace};
+use aos_code::{Cell, ProcShape, TypeDesc};
 use aos_store::Heap;
-
-fn same_kind(one: Kind, other: Kind) -> bool
-    ensures { result ≡ same_kind_of one other }
-{
-    match (one, other) {
-        (Kind::N, Kind::N) => true,
-        (Kind::R, Kind::R) => true,
-        (Kind::C, Kind::C) => true,
-        (Kind::A, Kind::A) => true,
-        _ => false,
-    }
-}
-
-fn same_param(one: ParamKind, other: ParamKind) -> bool
-    ensures { result ≡ same_param_of one other }
-{
-    match (one, other) {
-        (ParamKind::Scalar(kind), ParamKind::Scalar(named)) => same_kind(kind, named),
-        (ParamKind::Whole(cells), ParamKind::Whole(named)) => cells == named,
-        (ParamKind::Place, ParamKind::Place) => true,
-        (ParamKind::Open(lengths, true, cells), ParamKind::Open(rows, true, named)) => {
-            lengths == rows && cells == named
-        }
-        (ParamKind::Open(lengths, false, cells), ParamKind::Open(rows, false, named)) => {
-            lengths == rows && cells == named
-        }
-        _ => false,
-    }
-}
-
-fn same_params(one: &[ParamKind], other: &[ParamKind]) -> bool
-    ensures { result ≡ same_params_of one.now other.now }
-{
-    match one {
-        [] => match other {
-            [] => true,
-            [_, ..] => false,
-        },
-        [param, params @ ..] => match other {
-            [] => false,
-            [named, others @ ..] => same_param(*param, *named) && same_params(params, others),
-        },
-    }
-}
-
-fn same_result(one: Option<Kind>, other: Option<Kind>) -> bool
-    ensures { result ≡ same_result_of one other }
-{
-    match (one, other) {
-        (None, None) => true,
-        (Some(kind), Some(named)) => same_kind(kind, named),
-        _ => false,
-    }
-}
 
 /// Whether this is a method that may be called where the one of this shape is named.
 fn stands_for(shapes: &[ProcShape], procedure: u32, named: &ProcShape) -> bool
@@ -76,11 +24,17 @@ fn stands_for(shapes: &[ProcShape], procedure: u32, named: &ProcShape) -> bool
 {
     match numbered(shapes, procedure) {
         None => false,
-        Some(shape) => {
-            shape.method
-                && (same_params(&shape.params, &named.params)
-                    && same_result(shape.result, named.result))
-        }
+        Some(shape) => shape.method && same_formals(shape, named),
+    }
+}
+
+/// The method that a type has in a slot.
+fn method_at(types: &[TypeDesc], of_type: u32, slot: u32) -> Option<u32>
+    ensures { result ≡ method_at_of types.now of_type slot }
+{
+    match numbered(types, of_type) {
+        None => None,
+        Some(desc) => desc.methods.get(slot as usize).copied(),
     }
 }
 
@@ -93,17 +47,14 @@ fn method_for(
     named: &ProcShape,
 ) -> Option<u32>
     ensures { (p o : ℕ) (vs : List CellOf) → numbered_of shapes.now p ≡ Some named.now →
-        invoked shapes.now p (method_at types.now of_type slot) o vs ≡ invoking result o vs }
+        invoked shapes.now p (method_at_of types.now of_type slot) o vs ≡ invoking result o vs }
 {
-    match numbered(types, of_type) {
+    match method_at(types, of_type, slot) {
         None => None,
-        Some(desc) => match desc.methods.get(slot as usize).copied() {
-            None => None,
-            Some(method) => if stands_for(shapes, method, named) {
-                Some(method)
-            } else {
-                None
-            },
+        Some(method) => if stands_for(shapes, method, named) {
+            Some(method)
+        } else {
+            None
         },
     }
 }
@@ -129,7 +80,7 @@ fn tell_receiver(
             None => LOST,
             Some(object) => match method_for(shapes, types, object.made_of, slot, named) {
                 None => LOST,
-                Some(method) => Act::Sees(Question::Calls(method, count + 1)),
+                Some(method) => Act::Sees(Question::Calls(method, Way::Direct, count + 1)),
             },
         },
     }
@@ -154,6 +105,29 @@ pub fn tell_method(
         Some(named) => match arguments(stack, &named.params) {
             None => LOST,
             Some(count) => tell_receiver(stack, shapes, types, heap, slot, named, count),
+        },
+    }
+}
+
+/// The method that an object has in a slot, with the object, in its place; trap 1 at NIL.
+pub fn tell_bound(stack: &mut Vec<Cell>, types: &[TypeDesc], heap: &Heap, slot: u32) -> Act
+    ensures kept { WhereStays result (stack.new ≡ stack.old) }
+    ensures room { vec_capacity stack.new ≡ vec_capacity stack.old }
+    ensures told { (shapes : List ShapeOf) → IsTold shapes types.now (known heap.now) (looks (AsMethod slot) (λ s. Stops (FailsOf 1 0)) (operands_in stack.old)) result (operands_in stack.new) }
+    ensures begins { (code : List InstrOf) → IsBeginOf code result }
+{
+    match object(stack, 0) {
+        None => LOST,
+        Some(0) => Act::Fails(1, 0),
+        Some(number) => match heap.get(number) {
+            None => LOST,
+            Some(object) => match method_at(types, object.made_of, slot) {
+                None => LOST,
+                Some(method) => {
+                    replace(stack, 1, Cell::Call(method, number));
+                    Act::Goes(0)
+                }
+            },
         },
     }
 }

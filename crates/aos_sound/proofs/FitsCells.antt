@@ -146,7 +146,7 @@ module _ (image : Image) (laid : IsLaidOut image) where
       answer_has (Copies n from to) = copies_have (machine.cells_at n from (rooted (f ∷ fs) mem)) (is_some (machine.cells_at n to (rooted (f ∷ fs) mem))) to
       answer_has (PutsText strict from n to size) = puts_text_have strict (machine.text_at following from n (rooted (f ∷ fs) mem)) (machine.length_in following size) to (rooted (f ∷ fs) mem)
       answer_has (ComparesTexts r a n b m) = compares_have r (machine.text_at following a n (rooted (f ∷ fs) mem)) (machine.text_at following b m (rooted (f ∷ fs) mem))
-      answer_has (Calls p vs) = calls_have (numbered image.shapes.items p) p vs refl
+      answer_has (Calls how p vs) = calls_have (numbered image.shapes.items p) p vs refl
       answer_has (Ends result) = (ends_have result fs have.1, none)
       answer_has (Makes t vs) = makes_of_have (numbered image.types.items t) (machine.numbers_in following vs) t
       answer_has (Starts v) = starts_have v

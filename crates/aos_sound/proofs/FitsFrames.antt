@@ -179,7 +179,7 @@ module _ (image : Image) (whole : IsSoundImage image) where
       answer_fits (Copies n from to) st = copies_fit (machine.cells_at n from (rooted (f ∷ fs) mem)) (is_some (machine.cells_at n to (rooted (f ∷ fs) mem))) to st
       answer_fits (PutsText strict from n to size) st = puts_text_fit strict (machine.text_at following from n (rooted (f ∷ fs) mem)) (machine.length_in following size) to (rooted (f ∷ fs) mem) st
       answer_fits (ComparesTexts r a n b m) st = compares_fit r (machine.text_at following a n (rooted (f ∷ fs) mem)) (machine.text_at following b m (rooted (f ∷ fs) mem)) st
-      answer_fits (Calls p vs) st = calls_fit (numbered image.shapes.items p) p vs refl st
+      answer_fits (Calls how p vs) st = calls_fit (numbered image.shapes.items p) p vs refl st
       answer_fits (Ends result) st = ((ends_fit following result fs (result_of (numbered image.shapes.items f.procedure)) fit.2 st.1, follow), λ o e. absurd (cc e))
       answer_fits (Makes t vs) st = makes_of_fit (numbered image.types.items t) (machine.numbers_in following vs) t st
       answer_fits (Starts v) st = starts_fit v st.0 st.1 st.2

@@ -1,8 +1,8 @@
 -- Sound code finds the operands that it takes, but for what soundness doesn't decide.
-use Rattle.std.proofs.Common.{◌≡◌, ◌<◌, ℕ, zero, suc, ℤ, pos, negsuc, ◌+◌, ◌*◌, ◌-◌, ◌^◌, List, [], ◌∷◌, ◌++◌, length, map, replicate, Bool, true, false, ◌&&◌, ◌||◌, Option, Some, None, nat_eq, nat_lt, slice_get, if◌then◌else◌, refl, sym, ap, ◌∙◌, subst, arith, ltb-true, ltb-false}
+use Rattle.std.proofs.Common.{◌≡◌, ◌<◌, ℕ, zero, suc, ℤ, pos, negsuc, ◌+◌, ◌*◌, ◌-◌, ◌^◌, List, [], ◌∷◌, ◌++◌, length, map, replicate, reverse, drop, Bool, true, false, ◌&&◌, ◌||◌, Option, Some, None, nat_eq, nat_lt, slice_get, if◌then◌else◌, refl, sym, ap, ◌∙◌, subst, arith, ltb-true, ltb-false}
 use Rattle.std.specs.Option.{option_zip}
 use Rattle.std.proofs.lemmas.Option.{slice_get-get_or}
-use Rattle.std.proofs.lemmas.List.{append-nil}
+use Rattle.std.proofs.lemmas.List.{append-nil, length-reverse}
 use Rattle.aos_base.specs.declared.place.Root.{Root}
 use Rattle.aos_base.specs.declared.number.Width.{Width}
 use Rattle.aos_base.specs.declared.operator.Given.{Given}
@@ -17,19 +17,19 @@ use Rattle.aos_base.specs.Question.{Reads, Stores, Copies, PutsText, ComparesTex
 use Rattle.aos_code.specs.declared.instr.Cell.{Cell}
 use Rattle.aos_code.specs.declared.instr.Cell.TheVariants.{Num, Place}
 use Rattle.aos_code.specs.declared.instr.Kind.{Kind}
-use Rattle.aos_code.specs.declared.instr.Kind.TheVariants.{N, R, A}
+use Rattle.aos_code.specs.declared.instr.Kind.TheVariants.{N, R, C, A}
 use Rattle.aos_code.specs.declared.instr.Instr.{Instr}
 use Rattle.aos_code.specs.declared.instr.Instr.TheVariants as instr
 use Rattle.aos_code.specs.declared.image.ProcShape.{ProcShape}
 use Rattle.aos_code.specs.declared.image.Image.{Image}
 use Rattle.aos_code.specs.Numbered.{numbered}
 use Rattle.aos_code.specs.Silent as silent
-use Rattle.aos_code.specs.Silent.{Stack, Fails, Act, Goes, Puts, Look, AtCell, AtElements, IsType, AsType, Sees, Stops, lost, on_kind, on_number, on_object, counted_on, gives, extends, on_place, on_text, lengths_on, in_rows, gives_picked, keeps_in, Here, asserts, lands, jumps, jumps_on_false, act}
+use Rattle.aos_code.specs.Silent.{Stack, Fails, Act, Goes, Puts, Look, AtCell, AtElements, IsType, AsType, AsMethod, Sees, Stops, lost, kinds_of, on_callable, on_kind, on_number, on_object, counted_on, gives, extends, on_place, on_text, lengths_on, in_rows, gives_picked, keeps_in, Here, asserts, lands, jumps, jumps_on_false, act}
 use Rattle.aos_sound.specs.declared.stand.Role.{Role}
-use Rattle.aos_sound.specs.Sound.{Kinds, without, row, given, taken, called, sent, returned, is_begin, is_procedure, may_jump, may_stand, after, IsSound}
+use Rattle.aos_sound.specs.Sound.{Kinds, without, row, given, taken, taken_applied, called, sent, applied, returned, is_begin, is_procedure, may_jump, may_stand, after, IsSound}
 use Rattle.aos_sound.specs.Fits.{AreOf, StandsOn}
-use Rattle.aos_sound.specs.Undecided.{IsBelowOr, IsFar, IsFarElement, IsFarRow, IsNoFlag, IsUndecided}
-use Rattle.aos_sound.proofs.FitsOperands.{topped_is, all_topped_is, number_found, place_found, kind_holds, on_object_holds, looks_hold, on_place_holds, on_text_holds, counted_hold, call_holds, send_holds, twice_holds, drop_holds, swap_holds, ends_hold}
+use Rattle.aos_sound.specs.Undecided.{IsBelowOr, IsFar, IsFarElement, IsFarRow, IsNoFlag, OfCallable, may_call, may_call_as, IsOther, IsOtherBelow, IsUndecided}
+use Rattle.aos_sound.proofs.FitsOperands.{topped_is, all_topped_is, number_found, place_found, callable_found, kinds_below, kind_holds, on_object_holds, on_callable_holds, looks_hold, on_place_holds, on_text_holds, counted_hold, call_holds, send_holds, twice_holds, drop_holds, swap_holds, ends_hold}
 
 -- it isn't that trap
 abbrev Keeps : Act → Type 0
@@ -144,9 +144,9 @@ far_row (suc j) ns z k s t stack lt are e f =
     number_found (replicate j N ++ A ∷ []) s t stack (λ st. lengths_on (suc j) ns (λ ns s2. in_rows ns z k s2) st ≡ Stops lost → IsFarRow (suc j) ns z k st) are e
     (λ y u rest are1 e1. below y (λ n. IsFarRow j (n ∷ ns) z k rest) (λ n. lengths_on j (n ∷ ns) (λ ns s2. in_rows ns z k s2) rest) (λ n g. far_row j (n ∷ ns) z k u t rest (omega arith) are1 e1 g)) f
   where
-    below : (y : ℤ) (C : ℕ → Type 0) (a : ℕ → Act) → ((n : ℕ) → a n ≡ Stops lost → C n) → silent.length_then y a ≡ Stops lost → IsBelowOr C y
-    below (pos n) C a h g = h n g
-    below (negsuc n) C a h g = tt
+    below : (y : ℤ) (Q : ℕ → Type 0) (a : ℕ → Act) → ((n : ℕ) → a n ≡ Stops lost → Q n) → silent.length_then y a ≡ Stops lost → IsBelowOr Q y
+    below (pos n) Q a h g = h n g
+    below (negsuc n) Q a h g = tt
 
 -- A jump that may stand there comes to a place.
 jumps_keep : (role : Role) (code : List Instr) (to at : ℕ) (s : Stack) → may_jump role code to at ≡ true → Keeps (jumps code to at s)
@@ -186,6 +186,32 @@ sends_keep None k p s t stack are e = absurd (cc e)
 sends_keep (Some f) k p s t stack are e =
     let w = given_below f.result (without (taken true f) s) t e in send_holds Keeps f k p s w.0 stack are w.1 (λ f. cc f) (λ o ws rest are1 f. cc f)
 
+-- what a value stands for may not be called so
+other_value : (shapes : List ProcShape) (g : ProcShape) (p o : ℕ) (vs : List Cell) (s : Stack) → silent.applies shapes g p o vs s ≡ Stops lost → IsOther shapes g p o
+other_value shapes g zero o vs s e = cc e
+other_value shapes g (suc p) o vs s e = by (numbered shapes (suc p)) e
+  where
+    to : (is_same method : Bool) (o : ℕ) → silent.applies_to is_same method (suc p) o vs s ≡ Stops lost → may_call is_same method o ≡ false
+    to true true zero e = refl
+    to true true (suc o) e = absurd (cc e)
+    to true false zero e = absurd (cc e)
+    to true false (suc o) e = refl
+    to false method o e = refl
+
+    by : (f : Option ProcShape) → silent.applies_as f g (suc p) o vs s ≡ Stops lost → may_call_as f g o ≡ false
+    by None e = refl
+    by (Some f) e = to (silent.same_formals f g) f.method o e
+
+values_other : (shapes : List ProcShape) (f : Option ProcShape) (s t : Kinds) (stack : Stack) → AreOf s stack → applied f s ≡ Some t → silent.calls_value shapes f stack ≡ Stops lost → IsOtherBelow shapes f stack
+values_other shapes None s t stack are e f = absurd (cc e)
+values_other shapes (Some g) s t stack are e f =
+    let w = given_below g.result (without (taken_applied g) s) t e in
+    let ks = reverse (kinds_of g.params.items) in
+    let m = kinds_below ks (C ∷ []) [] s w.0 stack are w.1 in
+    let k = λ (vs : List Cell) (s1 : Stack). on_callable (λ p o s2. silent.applies shapes g p o vs s2) s1 in
+    subst (λ n. OfCallable (IsOther shapes g) (drop n stack)) (length-reverse (kinds_of g.params.items))
+    (callable_found [] m.1 w.0 (drop (length ks) stack) (λ st. k m.0 st ≡ Stops lost → OfCallable (IsOther shapes g) st) m.2 m.3 (λ p o u rest are1 e1 h. other_value shapes g p o m.0 rest h) (sym (m.4 k) ∙ f))
+
 no_self : (o : ℕ) (stack : Stack) → silent.gives_self o stack ≡ Stops lost → o ≡ 0
 no_self zero stack e = refl
 no_self (suc o) stack e = absurd (cc e)
@@ -199,11 +225,13 @@ module _ (image : Image) (own : ℕ) (role : Role) (code : List Instr) (here : H
   does i stack = act image.shapes.items image.types.items own here i code at stack
 
   abbrev Answer : Instr → Stack → Type 0
-  Answer i stack = does i stack ≡ Stops lost → IsUndecided here i stack
+  Answer i stack = does i stack ≡ Stops lost → IsUndecided image.shapes.items here i stack
 
   undecided : (i : Instr) (s t : Kinds) (stack : Stack) → may_stand image own role code at i ≡ true → AreOf s stack → after image own i s ≡ Some t → Answer i stack
   undecided (instr.Num n) s t stack may are e = λ f. cc f
   undecided instr.Nil s t stack may are e = λ f. cc f
+  undecided instr.NilCall s t stack may are e = λ f. cc f
+  undecided (instr.Proc p) s t stack may are e = λ f. cc f
   undecided instr.SelfRef s t stack may are e = no_self here.self stack
   undecided instr.Dup s t stack may are e = twice_holds Keeps s t stack are e (λ rest are1 f. cc f)
   undecided instr.Drop s t stack may are e = drop_holds Keeps s t stack are e (λ rest are1 f. cc f)
@@ -248,6 +276,11 @@ module _ (image : Image) (own : ℕ) (role : Role) (code : List Instr) (here : H
       let w = topped_is N (without (R ∷ R ∷ []) s) t e in
       on_object_holds Keeps (R ∷ []) s w.0 (λ b s1. on_object (λ a s2. gives (Num (flag (nat_eq a b))) s2) s1) stack are w.1
       (λ b u rest are1 e1. on_object_holds Keeps [] u w.0 (λ a s2. gives (Num (flag (nat_eq a b))) s2) rest are1 e1 (λ a u2 rest2 are2 e2 f. cc f))
+  undecided instr.EqCall s t stack may are e =
+      let w = topped_is N (without (C ∷ C ∷ []) s) t e in
+      on_callable_holds Keeps (C ∷ []) s w.0 (λ q i s1. on_callable (λ p o s2. gives (Num (flag (silent.are_one p o q i))) s2) s1) stack are w.1
+      (λ q i u rest are1 e1. on_callable_holds Keeps [] u w.0 (λ p o s2. gives (Num (flag (silent.are_one p o q i))) s2) rest are1 e1 (λ p o u2 rest2 are2 e2 f. cc f))
+  undecided (instr.Bind k) s t stack may are e = let w = topped_is C (without (R ∷ []) s) t e in looks_keep (AsMethod k) (λ s1. Stops (Fails 1 0)) s w.0 stack are w.1 (λ rest f. cc f)
   undecided (instr.Is ty) s t stack may are e = let w = topped_is N (without (R ∷ []) s) t e in looks_keep (IsType ty) (λ s1. gives (Num (pos 0)) s1) s w.0 stack are w.1 (λ rest f. cc f)
   undecided (instr.IsPlace ty) s t stack may are e =
       let w = topped_is N (without (A ∷ []) s) t e in
@@ -288,6 +321,7 @@ module _ (image : Image) (own : ℕ) (role : Role) (code : List Instr) (here : H
       (λ b m u rest are1 e1. on_text_holds Keeps [] u w.0 (λ a n s2. Sees (ComparesTexts r a n b m) s2) rest are1 e1 (λ a n u2 rest2 are2 e2 f. cc f))
   undecided (instr.Call p) s t stack may are e = calls_keep (numbered image.shapes.items p) p s t stack are e
   undecided (instr.Virtual k p) s t stack may are e = sends_keep (numbered image.shapes.items p) k p s t stack are e
+  undecided (instr.CallValue p) s t stack may are e = values_other image.shapes.items (numbered image.shapes.items p) s t stack are e
   undecided (instr.NewObject ty) s t stack may are e = λ f. cc f
   undecided (instr.NewArray ty j) s t stack may are e =
       let w = topped_is R (without (replicate j N) s) t e in
@@ -302,7 +336,7 @@ module _ (image : Image) (own : ℕ) (role : Role) (code : List Instr) (here : H
   undecided instr.OutLn s t stack may are e = λ f. cc f
   undecided instr.OutOpen s t stack may are e = λ f. cc f
 
-  pub lost_undecided : (depth : ℕ) → IsSound image own role code depth → (i : Instr) (stack : Stack) → slice_get code at ≡ Some i → StandsOn image own code at stack → act image.shapes.items image.types.items own here i code at stack ≡ Stops lost → IsUndecided here i stack
+  pub lost_undecided : (depth : ℕ) → IsSound image own role code depth → (i : Instr) (stack : Stack) → slice_get code at ≡ Some i → StandsOn image own code at stack → act image.shapes.items image.types.items own here i code at stack ≡ Stops lost → IsUndecided image.shapes.items here i stack
   lost_undecided depth sound i stack is st =
       let f = sound.paths.find at st.0 st.1 in
       let z : Some f.instr ≡ Some i = sym f.stands ∙ is in

@@ -1,9 +1,9 @@
 -- What instructions find whose operands are of the kinds that they take: whatever holds of the traps, and of what is made of such
 -- operands, holds of what they come to.
-use Rattle.std.proofs.Common.{◌≡◌, ℕ, zero, suc, ℤ, pos, negsuc, ◌+◌, ◌-◌, ◌*◌, ◌^◌, List, [], ◌∷◌, ◌++◌, length, map, replicate, reverse, Bool, true, false, Option, Some, None, nat_lt, if◌then◌else◌, refl, sym, ap, subst, arith, append_assoc}
+use Rattle.std.proofs.Common.{◌≡◌, ℕ, zero, suc, ℤ, pos, negsuc, ◌+◌, ◌-◌, ◌*◌, ◌^◌, List, [], ◌∷◌, ◌++◌, length, map, replicate, reverse, drop, Bool, true, false, ◌&&◌, Option, Some, None, nat_lt, if◌then◌else◌, refl, sym, ap, ◌∙◌, subst, arith, append_assoc}
 use Rattle.std.proofs.lemmas.List.{reverse-append}
 use Rattle.aos_base.specs.Operators.{natural}
-use Rattle.aos_base.specs.Question.{Calls as CallsOf, Ends}
+use Rattle.aos_base.specs.Question.{Calls as CallsOf, ByName, Ends}
 use Rattle.aos_base.specs.declared.place.Root.{Root}
 use Rattle.aos_base.specs.declared.operator.Given.{Given}
 use Rattle.aos_base.specs.declared.operator.Given.TheVariants.{Number, Trap, Undefined}
@@ -13,10 +13,11 @@ use Rattle.aos_code.specs.declared.instr.Kind.{Kind}
 use Rattle.aos_code.specs.declared.instr.Kind.TheVariants.{N, R, C, A}
 use Rattle.aos_code.specs.Memory.{Addr}
 use Rattle.aos_code.specs.declared.image.ProcShape.{ProcShape}
+use Rattle.aos_code.specs.Numbered.{numbered}
 use Rattle.aos_code.specs.Silent as silent
-use Rattle.aos_code.specs.Silent.{Stack, Fails, Act, Goes, Looks, Look, AtSlot, Sees, Stops, lost, is_of, if_of, on_any, on_kind, number_then, on_number, on_numbers, object_then, on_object, unless_nil, place_then, on_place, on_text, length_then, lengths_on, counted_on, duplicates, swaps, gives_place, element, length_cells, gives_picked, on_kinds, kinds_of}
-use Rattle.aos_sound.specs.Sound.{Kinds, same_kind, without, topped, all_topped, row, dropped, twice, swapped, if_empty, alone, object_below, taken}
-use Rattle.aos_sound.specs.Fits.{AreOf, IsResult}
+use Rattle.aos_code.specs.Silent.{Stack, Fails, Act, Goes, Looks, Look, AtSlot, Sees, Stops, lost, is_of, if_of, on_any, on_kind, number_then, on_number, on_numbers, object_then, on_object, unless_nil, place_then, on_place, callable_then, on_callable, on_text, length_then, lengths_on, counted_on, duplicates, swaps, gives_place, element, length_cells, gives_picked, on_kinds, kinds_of}
+use Rattle.aos_sound.specs.Sound.{Kinds, same_kind, without, topped, all_topped, row, dropped, twice, swapped, if_empty, alone, object_below, taken, taken_applied}
+use Rattle.aos_sound.specs.Fits.{AreOf, IsResult, result_of}
 use Rattle.aos_sound.proofs.Taken.{reverse_lengths}
 
 -- Kinds.
@@ -28,6 +29,27 @@ same_is R R e = refl
 same_is C C e = refl
 same_is A A e = refl
 same_is k x e = absurd (cc e)
+
+-- and those of results
+same_kind_is : (k l : Kind) → silent.same_kind k l ≡ true → l ≡ k
+same_kind_is N N e = refl
+same_kind_is R R e = refl
+same_kind_is C C e = refl
+same_kind_is A A e = refl
+same_kind_is k l e = absurd (cc e)
+
+same_result_is : (r s : Option Kind) → silent.same_result r s ≡ true → s ≡ r
+same_result_is None None e = refl
+same_result_is (Some k) (Some l) e = ap (λ x. Some x) (same_kind_is k l e)
+same_result_is r s e = absurd (cc e)
+
+pub second_is : (a b : Bool) → (a && b) ≡ true → b ≡ true
+second_is true b e = e
+second_is false b e = absurd (cc e)
+
+-- procedures with the same formals have one result
+pub formals_result : (f g : ProcShape) → silent.same_formals f g ≡ true → g.result ≡ f.result
+formals_result f g e = same_result_is f.result g.result (second_is (silent.same_params f.params.items g.params.items) (silent.same_result f.result g.result) e)
 
 some_is : {X : Type 0} (x y : X) → Some x ≡ Some y → x ≡ y
 some_is x y e = cc
@@ -104,6 +126,12 @@ of_place (Ref r) o Q h = absurd (cc o)
 of_place (CallCell p r) o Q h = absurd (cc o)
 of_place (Place root cell ty) o Q h = h root cell ty
 
+of_callable : (v : Cell) → is_of C v ≡ true → (Q : Cell → Type 0) → ((p o : ℕ) → Q (CallCell p o)) → Q v
+of_callable (Num z) e Q h = absurd (cc e)
+of_callable (Ref r) e Q h = absurd (cc e)
+of_callable (CallCell p o) e Q h = h p o
+of_callable (Place root cell ty) e Q h = absurd (cc e)
+
 pub number_found : (ks s t : Kinds) (stack : Stack) (Q : Stack → Type 0) → AreOf s stack → without (N ∷ ks) s ≡ Some t → ((z : ℤ) (u : Kinds) (rest : Stack) → AreOf u rest → without ks u ≡ Some t → Q (Num z ∷ rest)) → Q stack
 number_found ks [] t stack Q are e h = absurd (cc e)
 number_found ks (x ∷ s) t [] Q are e h = absurd are
@@ -119,6 +147,26 @@ place_found ks (x ∷ s) t (v ∷ vs) Q are e h = by v are.0
   where
     by : (v : Cell) → is_of x v ≡ true → Q (v ∷ vs)
     by v o = let w = first_taken A x ks s t e in of_place v (subst (λ y. is_of y v ≡ true) w.0 o) (λ y. Q (y ∷ vs)) (λ root cell ty. h root cell ty s vs are.1 w.1)
+
+pub callable_found : (ks s t : Kinds) (stack : Stack) (Q : Stack → Type 0) → AreOf s stack → without (C ∷ ks) s ≡ Some t → ((p o : ℕ) (u : Kinds) (rest : Stack) → AreOf u rest → without ks u ≡ Some t → Q (CallCell p o ∷ rest)) → Q stack
+callable_found ks [] t stack Q are e h = absurd (cc e)
+callable_found ks (x ∷ s) t [] Q are e h = absurd are
+callable_found ks (x ∷ s) t (v ∷ vs) Q are e h = by v are.0
+  where
+    by : (v : Cell) → is_of x v ≡ true → Q (v ∷ vs)
+    by v o = let w = first_taken C x ks s t e in of_callable v (subst (λ y. is_of y v ≡ true) w.0 o) (λ y. Q (y ∷ vs)) (λ p q. h p q s vs are.1 w.1)
+
+-- where operands of these kinds are found, the others lie below them
+pub kinds_below : (ks js : Kinds) (vs : List Cell) (s t : Kinds) (stack : Stack) → AreOf s stack → without (ks ++ js) s ≡ Some t →
+    (ws : List Cell) × (u : Kinds) × AreOf u (drop (length ks) stack) × (without js u ≡ Some t) × ((f : List Cell → Stack → Act) → on_kinds ks vs f stack ≡ f ws (drop (length ks) stack))
+kinds_below [] js vs s t stack are e = (vs, s, are, e, λ f. refl)
+kinds_below (k ∷ ks) js vs [] t stack are e = absurd (cc e)
+kinds_below (k ∷ ks) js vs (x ∷ s) t [] are e = absurd are
+kinds_below (k ∷ ks) js vs (x ∷ s) t (v ∷ stack) are e =
+    let w = first_taken k x (ks ++ js) s t e in
+    let o : is_of k v ≡ true = subst (λ y. is_of y v ≡ true) w.0 are.0 in
+    let m = kinds_below ks js (v ∷ vs) s t stack are.1 w.1 in
+    (m.0, m.1, m.2, m.3, λ f. ap (λ b. if b then on_kinds ks (v ∷ vs) f stack else Stops lost) o ∙ m.4 f)
 
 -- What operands come to.
 module _ (P : Act → Type 0) where
@@ -162,6 +210,19 @@ module _ (P : Act → Type 0) where
       let w = first_taken R x ks s t e in
       object_holds (λ o. f o vs) v (subst (λ y. is_of y v ≡ true) w.0 are.0) (λ o. h o s vs are.1 w.1)
 
+  callable_holds : (f : ℕ → ℕ → Act) (v : Cell) → is_of C v ≡ true → ((p o : ℕ) → P (f p o)) → P (callable_then f v)
+  callable_holds f (Num z) e h = absurd (cc e)
+  callable_holds f (Ref r) e h = absurd (cc e)
+  callable_holds f (CallCell p o) e h = h p o
+  callable_holds f (Place root cell ty) e h = absurd (cc e)
+
+  pub on_callable_holds : (ks s t : Kinds) (f : ℕ → ℕ → Stack → Act) (stack : Stack) → AreOf s stack → without (C ∷ ks) s ≡ Some t → ((p o : ℕ) (u : Kinds) (rest : Stack) → AreOf u rest → without ks u ≡ Some t → P (f p o rest)) → P (on_callable f stack)
+  on_callable_holds ks [] t f stack are e h = absurd (cc e)
+  on_callable_holds ks (x ∷ s) t f [] are e h = absurd are
+  on_callable_holds ks (x ∷ s) t f (v ∷ vs) are e h =
+      let w = first_taken C x ks s t e in
+      callable_holds (λ p o. f p o vs) v (subst (λ y. is_of y v ≡ true) w.0 are.0) (λ p o. h p o s vs are.1 w.1)
+
   unless_holds : (o : ℕ) (a b : Act) → P a → P b → P (unless_nil o a b)
   unless_holds zero a b p q = p
   unless_holds (suc o) a b p q = q
@@ -202,12 +263,12 @@ module _ (P : Act → Type 0) where
       on_object_holds [] s t (λ o s1. unless_nil o (Stops (Fails 1 0)) (f o s1)) stack are e
       (λ o u rest are1 e1. unless_holds o (Stops (Fails 1 0)) (f o rest) nil (h o rest (retyped u t rest e1 are1)))
 
-  called_holds : (method : Bool) (p : ℕ) (vs : List Cell) (s t : Kinds) (stack : Stack) → AreOf s stack → without (object_below method) s ≡ Some t → P (Stops (Fails 1 0)) → ((ws : List Cell) (rest : Stack) → AreOf t rest → P (Sees (CallsOf p ws) rest)) → P (silent.called method p vs stack)
-  called_holds true p vs s t stack are e nil h = receiver_holds s t (λ o s1. Sees (CallsOf p (Ref o ∷ vs)) s1) stack are e nil (λ o rest are1. h (Ref o ∷ vs) rest are1)
+  called_holds : (method : Bool) (p : ℕ) (vs : List Cell) (s t : Kinds) (stack : Stack) → AreOf s stack → without (object_below method) s ≡ Some t → P (Stops (Fails 1 0)) → ((ws : List Cell) (rest : Stack) → AreOf t rest → P (Sees (CallsOf ByName p ws) rest)) → P (silent.called method p vs stack)
+  called_holds true p vs s t stack are e nil h = receiver_holds s t (λ o s1. Sees (CallsOf ByName p (Ref o ∷ vs)) s1) stack are e nil (λ o rest are1. h (Ref o ∷ vs) rest are1)
   called_holds false p vs s t stack are e nil h = h vs stack (retyped s t stack e are)
 
   -- a call, and a call of a method by its slot
-  pub call_holds : (f : ProcShape) (p : ℕ) (s t : Kinds) (stack : Stack) → AreOf s stack → without (taken f.method f) s ≡ Some t → P (Stops (Fails 1 0)) → ((ws : List Cell) (rest : Stack) → AreOf t rest → P (Sees (CallsOf p ws) rest)) → P (silent.calls (Some f) p stack)
+  pub call_holds : (f : ProcShape) (p : ℕ) (s t : Kinds) (stack : Stack) → AreOf s stack → without (taken f.method f) s ≡ Some t → P (Stops (Fails 1 0)) → ((ws : List Cell) (rest : Stack) → AreOf t rest → P (Sees (CallsOf ByName p ws) rest)) → P (silent.calls (Some f) p stack)
   call_holds f p s t stack are e nil h =
       kinds_hold (reverse (kinds_of f.params.items)) (object_below f.method) [] s t (λ vs s1. silent.called f.method p vs s1) stack are e
       (λ vs u rest are1 e1. called_holds f.method p vs u t rest are1 e1 nil h)
@@ -261,6 +322,28 @@ module _ (P : Act → Type 0) (fails : (n c : ℕ) → P (Stops (Fails n c))) wh
   length_holds : (f : ℕ → Act) (z : ℤ) → ((n : ℕ) → P (f n)) → P (length_then z f)
   length_holds f (pos n) h = h n
   length_holds f (negsuc n) h = fails 16 0
+
+  -- what a procedure value stands for is called, which gives what the procedure of this shape gives
+  applies_hold : (shapes : List ProcShape) (g : ProcShape) (p o : ℕ) (vs : List Cell) (stack : Stack) → ((q : ℕ) (ws : List Cell) → result_of (numbered shapes q) ≡ g.result → P (Sees (CallsOf ByName q ws) stack)) → P (silent.applies shapes g p o vs stack)
+  applies_hold shapes g zero o vs stack h = fails 1 0
+  applies_hold shapes g (suc p) o vs stack h = by (numbered shapes (suc p)) refl
+    where
+      to : (is_same method : Bool) (o : ℕ) → ((ws : List Cell) → is_same ≡ true → P (Sees (CallsOf ByName (suc p) ws) stack)) → P (silent.applies_to is_same method (suc p) o vs stack)
+      to true true zero k = fails 16 0
+      to true true (suc o) k = k (Ref (suc o) ∷ vs) refl
+      to true false zero k = k vs refl
+      to true false (suc o) k = fails 16 0
+      to is_same method o k = fails 16 0
+
+      by : (f : Option ProcShape) → numbered shapes (suc p) ≡ f → P (silent.applies_as f g (suc p) o vs stack)
+      by None is = fails 16 0
+      by (Some f) is = to (silent.same_formals f g) f.method o (λ ws same. h (suc p) ws (ap result_of is ∙ sym (formals_result f g same)))
+
+  pub value_holds : (shapes : List ProcShape) (g : ProcShape) (s t : Kinds) (stack : Stack) → AreOf s stack → without (taken_applied g) s ≡ Some t → ((q : ℕ) (ws : List Cell) (rest : Stack) → AreOf t rest → result_of (numbered shapes q) ≡ g.result → P (Sees (CallsOf ByName q ws) rest)) → P (silent.calls_value shapes (Some g) stack)
+  value_holds shapes g s t stack are e h =
+      kinds_hold P (reverse (kinds_of g.params.items)) (C ∷ []) [] s t (λ vs s1. on_callable (λ p o s2. silent.applies shapes g p o vs s2) s1) stack are e
+      (λ vs u rest are1 e1. on_callable_holds P [] u t (λ p o s2. silent.applies shapes g p o vs s2) rest are1 e1
+      (λ p o u2 rest2 are2 e2. applies_hold shapes g p o vs rest2 (λ q ws same. h q ws rest2 (retyped u2 t rest2 e2 are2) same)))
 
   pub lengths_hold : (j : ℕ) (ls : List ℕ) (ks s t : Kinds) (f : List ℕ → Stack → Act) (stack : Stack) → AreOf s stack → without (replicate j N ++ ks) s ≡ Some t → ((ns : List ℕ) (u : Kinds) (rest : Stack) → length ns ≡ j + length ls → AreOf u rest → without ks u ≡ Some t → P (f ns rest)) → P (lengths_on j ls f stack)
   lengths_hold zero ls ks s t f stack are e h = h ls s stack (omega arith) are e

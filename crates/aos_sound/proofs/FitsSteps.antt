@@ -5,20 +5,20 @@ use Rattle.aos_base.specs.declared.place.Root.TheVariants.{Frame as FrameRoot, M
 use Rattle.aos_base.specs.Question.{Reads, Stores, Copies, PutsText, ComparesTexts, Makes, Starts, PutsInt, PutsChar, PutsString}
 use Rattle.aos_base.specs.Operators.{unary, binary, natural, flag}
 use Rattle.aos_code.specs.declared.instr.Cell.{Cell}
-use Rattle.aos_code.specs.declared.instr.Cell.TheVariants.{Num, Ref, Place}
+use Rattle.aos_code.specs.declared.instr.Cell.TheVariants.{Num, Ref, Call as CallCell, Place}
 use Rattle.aos_code.specs.declared.instr.Kind.{Kind}
-use Rattle.aos_code.specs.declared.instr.Kind.TheVariants.{N, R, A}
+use Rattle.aos_code.specs.declared.instr.Kind.TheVariants.{N, R, C, A}
 use Rattle.aos_code.specs.declared.instr.Instr.{Instr}
 use Rattle.aos_code.specs.declared.instr.Instr.TheVariants as instr
 use Rattle.aos_code.specs.declared.image.ProcShape.{ProcShape}
 use Rattle.aos_code.specs.declared.image.Image.{Image}
 use Rattle.aos_code.specs.Numbered.{numbered}
 use Rattle.aos_code.specs.Silent as silent
-use Rattle.aos_code.specs.Silent.{Stack, Fails, Act, Goes, Puts, Takes, Look, AtCell, AtElements, IsType, AsType, Sees, Stops, is_of, on_kind, on_number, on_object, on_place, on_text, counted_on, gives, extends, gives_place, lengths_on, in_rows, gives_picked, keeps_in, Here, asserts, lands, jumps, jumps_on_false, act}
-use Rattle.aos_sound.specs.Sound.{Kinds, without, row, given, taken, called, sent, returned, is_begin, next_of, Leads, after, Comes, Finds, ArePathsSound}
+use Rattle.aos_code.specs.Silent.{Stack, Fails, Act, Goes, Puts, Takes, Look, AtCell, AtElements, IsType, AsType, AsMethod, Sees, Stops, is_of, on_kind, on_number, on_object, on_place, on_callable, on_text, counted_on, gives, extends, gives_place, lengths_on, in_rows, gives_picked, keeps_in, Here, asserts, lands, jumps, jumps_on_false, act}
+use Rattle.aos_sound.specs.Sound.{Kinds, without, row, given, taken, taken_applied, called, sent, applied, returned, is_begin, next_of, Leads, after, Comes, Finds, ArePathsSound}
 use Rattle.aos_sound.specs.Sound as sound
 use Rattle.aos_sound.specs.Fits.{AreOf, IsResult, result_of, told_kinds, StandsOn, StandsGiven, StandsTold, StandsLooked, StandsAfter, StandsBegun}
-use Rattle.aos_sound.proofs.FitsOperands.{first_taken, topped_is, all_topped_is, retyped, with_top, are_both, kind_holds, on_number_holds, on_object_holds, looks_hold, on_place_holds, on_text_holds, lengths_hold, counted_hold, call_holds, send_holds, twice_holds, drop_holds, swap_holds, given_holds, if_holds, element_holds, rows_hold, picked_holds, ends_hold}
+use Rattle.aos_sound.proofs.FitsOperands.{first_taken, topped_is, all_topped_is, retyped, with_top, are_both, kind_holds, on_number_holds, on_object_holds, on_callable_holds, value_holds, looks_hold, on_place_holds, on_text_holds, lengths_hold, counted_hold, call_holds, send_holds, twice_holds, drop_holds, swap_holds, given_holds, if_holds, element_holds, rows_hold, picked_holds, ends_hold}
 
 module _ (image : Image) (own : ℕ) (code : List Instr) (here : Here) (at : ℕ) where
   abbrev After : Act → Type 0
@@ -109,6 +109,13 @@ module _ (image : Image) (own : ℕ) (code : List Instr) (here : Here) (at : ℕ
       (λ b u rest are1 e1. on_object_holds After [] u w.0 (λ a s2. gives (Num (flag (nat_eq a b))) s2) rest are1 e1
       (λ a u2 rest2 are2 e2. let v : Cell = Num (flag (nat_eq a b)) in going (v ∷ rest2) (top N w.0 t w.2 on u2 rest2 are2 e2 v refl)))
 
+  callables_stand : (s t : Kinds) (stack : Stack) → AreOf s stack → sound.topped N (without (C ∷ C ∷ []) s) ≡ Some t → On t → After (silent.on_callables (λ p o q i s1. gives (Num (flag (silent.are_one p o q i))) s1) stack)
+  callables_stand s t stack are e on =
+      let w = topped_is N (without (C ∷ C ∷ []) s) t e in
+      on_callable_holds After (C ∷ []) s w.0 (λ q i s1. on_callable (λ p o s2. gives (Num (flag (silent.are_one p o q i))) s2) s1) stack are w.1
+      (λ q i u rest are1 e1. on_callable_holds After [] u w.0 (λ p o s2. gives (Num (flag (silent.are_one p o q i))) s2) rest are1 e1
+      (λ p o u2 rest2 are2 e2. let v : Cell = Num (flag (silent.are_one p o q i)) in going (v ∷ rest2) (top N w.0 t w.2 on u2 rest2 are2 e2 v refl)))
+
   -- a test of a record's place, and a guard
   tests_place_stand : (ty : ℕ) (s t : Kinds) (stack : Stack) → AreOf s stack → sound.topped N (without (A ∷ []) s) ≡ Some t → On t → After (on_place (λ a d s1. gives (Num (flag (extends image.types.items d ty))) s1) stack)
   tests_place_stand ty s t stack are e on =
@@ -177,6 +184,12 @@ module _ (image : Image) (own : ℕ) (code : List Instr) (here : Here) (at : ℕ
       let w = given_stands f.result (without (taken true f) s) t e on in
       send_holds After f k p s w.0 stack are w.1 tt (λ o ws rest are1. subst (λ q. StandsGiven image own code (result_of q) (at + 1) rest) (sym is) (w.2 rest are1))
 
+  values_stand : (o : Option ProcShape) (s t : Kinds) (stack : Stack) → AreOf s stack → applied o s ≡ Some t → On t → After (silent.calls_value image.shapes.items o stack)
+  values_stand None s t stack are e on = absurd (cc e)
+  values_stand (Some g) s t stack are e on =
+      let w = given_stands g.result (without (taken_applied g) s) t e on in
+      value_holds After fails image.shapes.items g s w.0 stack are w.1 (λ q ws rest are1 same. subst (λ r. StandsGiven image own code r (at + 1) rest) (sym same) (w.2 rest are1))
+
   returns_stand : (o : Option ProcShape) (s t : Kinds) (stack : Stack) → numbered image.shapes.items own ≡ o → AreOf s stack → returned o s ≡ Some t → After (silent.ends o stack)
   returns_stand None s t stack is are e = absurd (cc e)
   returns_stand (Some f) s t stack is are e =
@@ -202,6 +215,8 @@ module _ (image : Image) (own : ℕ) (code : List Instr) (here : Here) (at : ℕ
   stands_after : (i : Instr) (s t : Kinds) (stack : Stack) → slice_get code at ≡ Some i → Comes image own code at s → AreOf s stack → after image own i s ≡ Some t → After (act image.shapes.items image.types.items own here i code at stack)
   stands_after (instr.Num n) s t stack is c are e = going (Num n ∷ stack) (give N (Num n) s t stack refl e are (onward (instr.Num n) s t is c e refl))
   stands_after instr.Nil s t stack is c are e = going (Ref 0 ∷ stack) (give R (Ref 0) s t stack refl e are (onward instr.Nil s t is c e refl))
+  stands_after instr.NilCall s t stack is c are e = going (CallCell 0 0 ∷ stack) (give C (CallCell 0 0) s t stack refl e are (onward instr.NilCall s t is c e refl))
+  stands_after (instr.Proc p) s t stack is c are e = going (CallCell p 0 ∷ stack) (give C (CallCell p 0) s t stack refl e are (onward (instr.Proc p) s t is c e refl))
   stands_after instr.SelfRef s t stack is c are e = self_stands here.self s t stack are e (onward instr.SelfRef s t is c e refl)
   stands_after instr.Dup s t stack is c are e = twice_holds After s t stack are e (goes t (onward instr.Dup s t is c e refl))
   stands_after instr.Drop s t stack is c are e = drop_holds After s t stack are e (goes t (onward instr.Drop s t is c e refl))
@@ -227,6 +242,10 @@ module _ (image : Image) (own : ℕ) (code : List Instr) (here : Here) (at : ℕ
       numbers_joined s t stack (λ a b s1. silent.given (binary op a b) s1) are e (onward (instr.Binary op) s t is c e refl)
       (λ y z rest h. given_holds After fails (binary op y z) rest h)
   stands_after instr.EqRef s t stack is c are e = objects_stand s t stack are e (onward instr.EqRef s t is c e refl)
+  stands_after instr.EqCall s t stack is c are e = callables_stand s t stack are e (onward instr.EqCall s t is c e refl)
+  stands_after (instr.Bind k) s t stack is c are e =
+      let w = topped_is C (without (R ∷ []) s) t e in
+      looks_stand (AsMethod k) (λ s1. Stops (Fails 1 0)) s t w.0 stack are w.1 w.2 (λ rest st. st) (onward (instr.Bind k) s t is c e refl) (λ rest are1. tt)
   stands_after (instr.Is ty) s t stack is c are e =
       let on = onward (instr.Is ty) s t is c e refl in
       let w = topped_is N (without (R ∷ []) s) t e in
@@ -284,6 +303,7 @@ module _ (image : Image) (own : ℕ) (code : List Instr) (here : Here) (at : ℕ
       (λ a n u2 rest2 are2 e2. w.2 rest2 (retyped u2 w.0 rest2 e2 are2)))
   stands_after (instr.Call p) s t stack is c are e = calls_stand (numbered image.shapes.items p) p s t stack refl are e (onward (instr.Call p) s t is c e refl)
   stands_after (instr.Virtual k p) s t stack is c are e = sends_stand (numbered image.shapes.items p) k p s t stack refl are e (onward (instr.Virtual k p) s t is c e refl)
+  stands_after (instr.CallValue p) s t stack is c are e = values_stand (numbered image.shapes.items p) s t stack are e (onward (instr.CallValue p) s t is c e refl)
   stands_after (instr.NewObject ty) s t stack is c are e = λ v o. give R v s t stack o e are (onward (instr.NewObject ty) s t is c e refl)
   stands_after (instr.NewArray ty j) s t stack is c are e = arrays_stand ty j s t stack are e (onward (instr.NewArray ty j) s t is c e refl)
   stands_after instr.Start s t stack is c are e = starts_stand s t stack is c are e (onward instr.Start s t is c e refl)

@@ -1,5 +1,5 @@
 -- What silent work over a sound body comes to, from operands that stand on a path; and that they never are more than its depth.
-use Rattle.std.proofs.Common.{◌≡◌, ◌≤◌, ◌<◌, nat_le, ℕ, zero, suc, pos, ◌+◌, List, [], ◌∷◌, ◌++◌, length, map, take, drop, true, Option, Some, None, slice_get, Bool, ◌&&◌, if◌then◌else◌, false, refl, sym, ap, ◌∙◌, subst, arith, leb-true, length-append}
+use Rattle.std.proofs.Common.{◌≡◌, ◌≤◌, ◌<◌, nat_le, ℕ, zero, suc, pos, ◌+◌, List, [], ◌∷◌, ◌++◌, length, map, take, drop, true, Option, Some, None, slice_get, Bool, if◌then◌else◌, false, refl, sym, ap, ◌∙◌, subst, arith, leb-true, length-append}
 use Rattle.std.proofs.lemmas.List.{append-nil, length-map, length-take-le}
 use Rattle.std.proofs.lemmas.Option.{slice_get_within}
 use Rattle.aos_base.specs.declared.place.Root.TheVariants.{Frame as FrameRoot, Object as ObjectRoot}
@@ -16,14 +16,14 @@ use Rattle.aos_code.specs.declared.image.ProcShape.{ProcShape}
 use Rattle.aos_code.specs.declared.image.TypeDesc.{TypeDesc}
 use Rattle.aos_code.specs.declared.image.Image.{Image}
 use Rattle.aos_code.specs.Numbered.{numbered}
-use Rattle.aos_code.specs.Silent.{Here, same_kind, same_params, same_result, stands_for, invoked, method_at, Invokes, AtSlot, Stack, Keeps, Question, Begins, Fails, Stop, Work, Act, Goes, Puts, Takes, Looks, Look, AtCell, AtElements, IsType, AsType, Sees, Stops, Ended, lost, is_of, act, noted, noted_as, on_noted, Noted, Visible, Answered, Unknown, Told, Tells, Refuses, Unheard, told_by, on_told, length_cells, extends, on_act, kept, walk, silent}
+use Rattle.aos_code.specs.Silent.{Here, same_formals, bound, stands_for, invoked, method_at, Invokes, AtSlot, Stack, Keeps, Question, Begins, Fails, Stop, Work, Act, Goes, Puts, Takes, Looks, Look, AtCell, AtElements, IsType, AsType, AsMethod, Sees, Stops, Ended, lost, is_of, act, noted, noted_as, on_noted, Noted, Visible, Answered, Unknown, Told, Tells, Refuses, Unheard, told_by, on_told, length_cells, extends, on_act, kept, walk, silent}
 use Rattle.aos_sound.specs.declared.effect.Effect.{Effect}
 use Rattle.aos_sound.specs.declared.effect.Effect.TheVariants.{Gives, Twice}
 use Rattle.aos_sound.specs.Sound.{Kinds, row, effect_of, next_of, left_by, Leads, after, Goes as PathGoes, ArePathsSound}
 use Rattle.aos_sound.specs.declared.effect.Next.TheVariants.{On}
 use Rattle.aos_sound.specs.Sound as sound
 use Rattle.aos_sound.specs.Fits.{AreOf, KeepsToPaths, gives_more, result_of, told_kinds, StandsOn, StandsGiven, StandsTold, StandsLooked, StandsAfter, StandsAsked, StandsBegun, StandsStopped}
-use Rattle.aos_sound.proofs.FitsOperands.{are_length, row_is}
+use Rattle.aos_sound.proofs.FitsOperands.{second_is, formals_result, are_length, row_is}
 use Rattle.aos_sound.proofs.FitsSteps.{step_stands}
 
 drop_next : {X : Type 0} (at : ℕ) (xs : List X) (x : X) (rest : List X) → drop at xs ≡ x ∷ rest → (slice_get xs at ≡ Some x) × (drop (at + 1) xs ≡ rest)
@@ -52,27 +52,8 @@ HeardSo shapes l (Tells vs) = AreOf (told_kinds l) vs
 HeardSo shapes l (Invokes q ws) = ⊥
 HeardSo shapes l told = Unit {0}
 
-same_kind_is : (k l : Kind) → same_kind k l ≡ true → l ≡ k
-same_kind_is N N e = refl
-same_kind_is R R e = refl
-same_kind_is C C e = refl
-same_kind_is A A e = refl
-same_kind_is k l e = absurd (cc e)
-
-same_result_is : (r s : Option Kind) → same_result r s ≡ true → s ≡ r
-same_result_is None None e = refl
-same_result_is (Some k) (Some l) e = ap (λ x. Some x) (same_kind_is k l e)
-same_result_is r s e = absurd (cc e)
-
-second_is : (a b : Bool) → (a && b) ≡ true → b ≡ true
-second_is true b e = e
-second_is false b e = absurd (cc e)
-
 stands_result : (f g : Option ProcShape) → stands_for f g ≡ true → result_of g ≡ result_of f
-stands_result (Some f) (Some g) e =
-    let a = same_params f.params.items g.params.items in
-    let b = same_result f.result g.result in
-    same_result_is f.result g.result (second_is a b (second_is f.method (a && b) e))
+stands_result (Some f) (Some g) e = formals_result f g (second_is f.method (same_formals f g) e)
 stands_result (Some f) None e = absurd (cc e)
 stands_result None g e = absurd (cc e)
 
@@ -89,6 +70,7 @@ heard_so shapes types (AtCell c) o None = tt
 heard_so shapes types (AtElements j) o None = tt
 heard_so shapes types (IsType t) o None = tt
 heard_so shapes types (AsType t) o None = tt
+heard_so shapes types (AsMethod k) o None = tt
 heard_so shapes types (AtSlot k p vs) o None = tt
 heard_so shapes types (AtCell c) o (Some m) = (refl, tt)
 heard_so shapes types (AtElements j) o (Some m) = by (nat_le j (length m.lengths)) refl
@@ -108,6 +90,11 @@ heard_so shapes types (AsType t) o (Some m) = by (extends types m.type t)
     by : (b : Bool) → HeardSo shapes (AsType t) (if b then Tells (Ref o ∷ []) else Refuses 3)
     by true = (refl, tt)
     by false = tt
+heard_so shapes types (AsMethod k) o (Some m) = by (method_at types m.type k)
+  where
+    by : (q : Option ℕ) → HeardSo shapes (AsMethod k) (bound q o)
+    by None = tt
+    by (Some q) = (refl, tt)
 heard_so shapes types (AtSlot k p vs) o (Some m) = invoked_so shapes k p (method_at types m.type k) o vs
 
 module _ (image : Image) (own : ℕ) (code : List Instr) (depth : ℕ) (paths : ArePathsSound image own code depth) where

@@ -5,13 +5,13 @@ use Rattle.aos_base.specs.Question.{Reads, Stores, Copies, PutsText, ComparesTex
 use Rattle.aos_base.specs.Rooted.{Made}
 use Rattle.aos_code.specs.declared.instr.Cell.{Cell}
 use Rattle.aos_code.specs.declared.instr.Kind.{Kind}
-use Rattle.aos_code.specs.declared.instr.Kind.TheVariants.{N, R, A}
+use Rattle.aos_code.specs.declared.instr.Kind.TheVariants.{N, R, C, A}
 use Rattle.aos_code.specs.declared.instr.Instr.{Instr}
 use Rattle.aos_code.specs.declared.instr.Instr.TheVariants.{Start}
 use Rattle.aos_code.specs.declared.image.ProcShape.{ProcShape}
 use Rattle.aos_code.specs.declared.image.Image.{Image}
 use Rattle.aos_code.specs.Numbered.{numbered}
-use Rattle.aos_code.specs.Silent.{Stack, Keeps, Question, Begins, Fails, Stop, Work, Ended, Act, Goes, Puts, Takes, Looks, Sees, Stops, Look, AtCell, AtElements, IsType, AsType, AtSlot, Here, lost, is_of, act, on_act, walk, silent}
+use Rattle.aos_code.specs.Silent.{Stack, Keeps, Question, Begins, Fails, Stop, Work, Ended, Act, Goes, Puts, Takes, Looks, Sees, Stops, Look, AtCell, AtElements, IsType, AsType, AsMethod, AtSlot, Here, lost, is_of, act, on_act, walk, silent}
 use Rattle.aos_sound.specs.declared.effect.Effect.{Effect}
 use Rattle.aos_sound.specs.declared.effect.Effect.TheVariants.{Gives, Twice}
 use Rattle.aos_sound.specs.Sound.{Kinds, Comes, row, is_begin, effect_of}
@@ -46,7 +46,7 @@ IsResult (Some k) (Some v) = is_of k v ≡ true
 abbrev pub answer_kind : List ProcShape → Question → Option Kind
 answer_kind shapes (Reads k a) = Some k
 answer_kind shapes (ComparesTexts r a n b m) = Some N
-answer_kind shapes (Calls p vs) = result_of (numbered shapes p)
+answer_kind shapes (Calls how p vs) = result_of (numbered shapes p)
 answer_kind shapes (Makes t ns) = Some R
 answer_kind shapes (Places a) = Some A
 answer_kind shapes (Lengths a) = Some N
@@ -70,6 +70,7 @@ told_kinds (AtCell c) = A ∷ []
 told_kinds (AtElements j) = row j
 told_kinds (IsType t) = N ∷ []
 told_kinds (AsType t) = R ∷ []
+told_kinds (AsMethod k) = C ∷ []
 told_kinds (AtSlot k p vs) = []
 
 -- in an image, as the procedure of this number, which has this code
@@ -158,4 +159,4 @@ pub record KeepsToPaths (image : Image) (own : ℕ) (code : List Instr) (depth :
 abbrev pub FindsAll : (image : Image) (own : ℕ) (code : List Instr) → Type 0
 FindsAll image own code =
     (here : Here) (at : ℕ) (i : Instr) (stack : Stack) → slice_get code at ≡ Some i → StandsOn image own code at stack
-    → act image.shapes.items image.types.items own here i code at stack ≡ Stops lost → IsUndecided here i stack
+    → act image.shapes.items image.types.items own here i code at stack ≡ Stops lost → IsUndecided image.shapes.items here i stack

@@ -1,9 +1,9 @@
 -- Soundness of a body: what may stand at its places, and what every path through it meets.
-use Rattle.std.specs.Prelude.{◌≡◌, ◌≤◌, ℕ, zero, suc, ◌+◌, ◌-◌, List, [], ◌∷◌, ◌++◌, length, replicate, reverse, Bool, true, false, ◌&&◌, ◌||◌, Option, Some, None, nat_lt, nat_le, if◌then◌else◌, slice_get, IsTrue, ◌⊎◌, option_map}
+use Rattle.std.specs.Prelude.{◌≡◌, ◌≤◌, ℕ, zero, suc, ◌+◌, ◌-◌, List, [], ◌∷◌, ◌++◌, length, replicate, reverse, Bool, true, false, not, ◌&&◌, ◌||◌, Option, Some, None, nat_lt, nat_le, if◌then◌else◌, slice_get, IsTrue, ◌⊎◌, option_map}
 use Rattle.aos_code.specs.declared.instr.Kind.{Kind}
 use Rattle.aos_code.specs.declared.instr.Kind.TheVariants.{N, R, C, A}
 use Rattle.aos_code.specs.declared.instr.Instr.{Instr}
-use Rattle.aos_code.specs.declared.instr.Instr.TheVariants.{Num, Nil, SelfRef, Virtual, Deref, OpenRef, EqRef, Is, IsPlace, Guard, GuardPlace, NewArray, Dup, Drop, Swap, Frame, Module, Param, Length, Offset, Index, IndexOpen, PickLen, Unary, Binary, Keep, Kept, Fail, Assert, Halt, Jump, JumpFalse, Begin, Load, Store, Copy, PutText, CmpText, Call, NewObject, Start, Return, OutChar, OutInt, OutString, OutLn, OutOpen}
+use Rattle.aos_code.specs.declared.instr.Instr.TheVariants.{Num, Nil, NilCall, Proc, SelfRef, Virtual, CallValue, Deref, OpenRef, EqRef, EqCall, Bind, Is, IsPlace, Guard, GuardPlace, NewArray, Dup, Drop, Swap, Frame, Module, Param, Length, Offset, Index, IndexOpen, PickLen, Unary, Binary, Keep, Kept, Fail, Assert, Halt, Jump, JumpFalse, Begin, Load, Store, Copy, PutText, CmpText, Call, NewObject, Start, Return, OutChar, OutInt, OutString, OutLn, OutOpen}
 use Rattle.aos_code.specs.declared.image.ModuleDesc.{ModuleDesc}
 use Rattle.aos_code.specs.declared.image.ProcShape.{ProcShape}
 use Rattle.aos_code.specs.declared.image.TypeDesc.{TypeDesc}
@@ -11,7 +11,7 @@ use Rattle.aos_code.specs.declared.image.Image.{Image}
 use Rattle.aos_code.specs.Numbered.{numbered}
 use Rattle.aos_code.specs.Silent.{kinds_of, keeps_in}
 use Rattle.aos_sound.specs.declared.effect.Effect.{Effect}
-use Rattle.aos_sound.specs.declared.effect.Effect.TheVariants.{Pass, Gives, Takes, TakesTwo, Turns, Joins, Twice, Drops, Swaps, Rows, Picks, Spreads, Makes, Texts, Calls, Sends, Returns}
+use Rattle.aos_sound.specs.declared.effect.Effect.TheVariants.{Pass, Gives, Takes, TakesTwo, Turns, Joins, Twice, Drops, Swaps, Rows, Picks, Spreads, Makes, Texts, Calls, Sends, Applies, Returns}
 use Rattle.aos_sound.specs.declared.effect.Next.{Next}
 use Rattle.aos_sound.specs.declared.effect.Next.TheVariants.{Ends, On, To, Either}
 use Rattle.aos_sound.specs.declared.stand.Role.{Role}
@@ -25,6 +25,8 @@ Kinds = List Kind
 abbrev pub effect_of : Instr → Effect
 effect_of (Num n) = Gives N
 effect_of Nil = Gives R
+effect_of NilCall = Gives C
+effect_of (Proc p) = Gives C
 effect_of SelfRef = Gives R
 effect_of Dup = Twice
 effect_of Drop = Drops
@@ -42,6 +44,8 @@ effect_of (PickLen d j) = Picks j
 effect_of (Unary op) = Turns N N
 effect_of (Binary op) = Joins N N N
 effect_of EqRef = Joins R R N
+effect_of EqCall = Joins C C N
+effect_of (Bind k) = Turns R C
 effect_of (Is t) = Turns R N
 effect_of (IsPlace t) = Turns A N
 effect_of (Guard t) = Turns R R
@@ -61,6 +65,7 @@ effect_of (PutText strict) = Texts None
 effect_of (CmpText r) = Texts (Some N)
 effect_of (Call p) = Calls p
 effect_of (Virtual k p) = Sends p
+effect_of (CallValue p) = Applies p
 effect_of (NewObject t) = Gives R
 effect_of (NewArray t j) = Makes j
 effect_of Start = Takes R
@@ -169,6 +174,14 @@ abbrev pub sent : Option ProcShape → Kinds → Option Kinds
 sent None s = None
 sent (Some f) s = given f.result (without (taken true f) s)
 
+-- and so does what a procedure value stands for, where that lies below the arguments of one of this shape
+abbrev pub taken_applied : ProcShape → Kinds
+taken_applied f = reverse (kinds_of f.params.items) ++ C ∷ []
+
+abbrev pub applied : Option ProcShape → Kinds → Option Kinds
+applied None s = None
+applied (Some f) s = given f.result (without (taken_applied f) s)
+
 -- a statement begins there
 abbrev pub is_begin : Option Instr → Bool
 is_begin (Some (Begin line col)) = true
@@ -203,6 +216,11 @@ abbrev pub is_method : Option ProcShape → Bool
 is_method None = false
 is_method (Some f) = f.method
 
+-- a procedure of this shape is called on no object
+abbrev pub is_plain : Option ProcShape → Bool
+is_plain None = false
+is_plain (Some f) = not f.method
+
 -- one of these types has a method in this slot
 abbrev pub has_slot : List TypeDesc → (slot : ℕ) → Bool
 has_slot [] k = false
@@ -227,6 +245,8 @@ module _ (image : Image) (own : ℕ) where
   may_stand role code at (Module m c) = has_place (slice_get image.modules.items m) c
   may_stand role code at (Param c) = nat_lt c (frame_cells (numbered image.shapes.items own))
   may_stand role code at (Length c) = nat_lt c (frame_cells (numbered image.shapes.items own))
+  may_stand role code at (Proc p) = is_plain (numbered image.shapes.items p)
+  may_stand role code at (Bind k) = has_slot image.types.items k
   may_stand role code at SelfRef = is_method (numbered image.shapes.items own)
   may_stand role code at (Offset c t) = is_type_or_none image t
   may_stand role code at (IndexOpen j k) = nat_lt 0 j
@@ -237,6 +257,7 @@ module _ (image : Image) (own : ℕ) where
   may_stand role code at (JumpFalse to) = may_jump role code to at
   may_stand role code at (Call p) = is_procedure role && is_some (numbered image.shapes.items p)
   may_stand role code at (Virtual k p) = is_procedure role && (is_method (numbered image.shapes.items p) && has_slot image.types.items k)
+  may_stand role code at (CallValue p) = is_procedure role && is_some (numbered image.shapes.items p)
   may_stand role code at (NewObject t) = is_procedure role && is_some (numbered image.types.items t)
   may_stand role code at (NewArray t j) = is_procedure role && is_some (numbered image.types.items t)
   may_stand role code at (Is t) = is_some (numbered image.types.items t)
@@ -276,6 +297,7 @@ module _ (image : Image) (own : ℕ) where
   left_by (Texts r) s = given r (without (N ∷ A ∷ N ∷ A ∷ []) s)
   left_by (Calls p) s = called (numbered image.shapes.items p) s
   left_by (Sends p) s = sent (numbered image.shapes.items p) s
+  left_by (Applies p) s = applied (numbered image.shapes.items p) s
   left_by Returns s = returned (numbered image.shapes.items own) s
 
   -- the operands behind an instruction, on whichever way the code goes on

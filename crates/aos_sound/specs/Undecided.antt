@@ -1,13 +1,16 @@
 -- What soundness doesn't decide, so that sound code may trap where it finds such an operand: a place whose cell has no number of 32
--- bits, a length below 0, a number that an operator doesn't take, a flag that is neither 0 nor 1, and no object on which the frame's
--- procedure is called. Code may also ask for the trap. Nor does it decide what a type has in a slot.
-use Rattle.std.specs.Prelude.{◌≡◌, ◌≤◌, ◌+◌, ◌*◌, ◌^◌, ℕ, zero, suc, ℤ, pos, negsuc, List, [], ◌∷◌, Option, Some, None}
+-- bits, a length below 0, a number that an operator doesn't take, a flag that is neither 0 nor 1, no object on which the frame's
+-- procedure is called, and a procedure value that stands for one with other formals, or has an object where that is no method. Code may
+-- also ask for the trap. Nor does it decide what a type has in a slot.
+use Rattle.std.specs.Prelude.{◌≡◌, ◌≤◌, ◌+◌, ◌*◌, ◌^◌, ℕ, zero, suc, ℤ, pos, negsuc, List, [], ◌∷◌, length, drop, Bool, true, false, Option, Some, None}
 use Rattle.aos_base.specs.declared.operator.Given.TheVariants.{Undefined}
 use Rattle.aos_base.specs.Operators.{unary, binary, natural}
-use Rattle.aos_code.specs.declared.instr.Cell.TheVariants.{Num, Place}
+use Rattle.aos_code.specs.declared.instr.Cell.TheVariants.{Num, Call as CallCell, Place}
 use Rattle.aos_code.specs.declared.instr.Instr.{Instr}
-use Rattle.aos_code.specs.declared.instr.Instr.TheVariants.{SelfRef, Offset, Index, IndexOpen, Unary, Binary, Fail, Assert, JumpFalse}
-use Rattle.aos_code.specs.Silent.{Here, Stack, cells_of}
+use Rattle.aos_code.specs.declared.instr.Instr.TheVariants.{SelfRef, Offset, Index, IndexOpen, Unary, Binary, Fail, Assert, JumpFalse, CallValue}
+use Rattle.aos_code.specs.declared.image.ProcShape.{ProcShape}
+use Rattle.aos_code.specs.Numbered.{numbered}
+use Rattle.aos_code.specs.Silent.{Here, Stack, cells_of, kinds_of, same_formals}
 
 -- this holds of the number on top and of the operands below it
 abbrev pub OfNumber : (ℤ → Stack → Type 0) → Stack → Type 0
@@ -45,15 +48,45 @@ IsNoFlag (pos (suc zero)) = ⊥
 IsNoFlag (pos (suc (suc n))) = Unit {0}
 IsNoFlag (negsuc n) = Unit {0}
 
--- the instruction finds such an operand, or no such object
-abbrev pub IsUndecided : Here → Instr → Stack → Type 0
-IsUndecided here SelfRef s = here.self ≡ 0
-IsUndecided here (Offset c t) s = OfPlace (λ cell. IsFar (cell + c)) s
-IsUndecided here (Index n k) s = OfNumber (λ z below. OfPlace (λ first. IsFarElement (natural n z) k first) below) s
-IsUndecided here (IndexOpen j k) s = OfNumber (λ z below. IsFarRow j [] z k below) s
-IsUndecided here (Unary op) s = OfNumber (λ a below. unary op a ≡ Undefined) s
-IsUndecided here (Binary op) s = OfNumber (λ b below. OfNumber (λ a rest. binary op a b ≡ Undefined) below) s
-IsUndecided here (Fail n) s = n ≡ 16
-IsUndecided here (Assert c) s = OfNumber (λ z below. IsNoFlag z) s
-IsUndecided here (JumpFalse to) s = OfNumber (λ z below. IsNoFlag z) s
-IsUndecided here _ s = ⊥
+-- this holds of the procedure value on top
+abbrev pub OfCallable : (ℕ → ℕ → Type 0) → Stack → Type 0
+OfCallable C (CallCell p o ∷ s) = C p o
+OfCallable C s = ⊥
+
+-- a method is called on an object, and another procedure on none
+abbrev pub may_call : (is_same method : Bool) → (object : ℕ) → Bool
+may_call true true zero = false
+may_call true true (suc o) = true
+may_call true false zero = true
+may_call true false (suc o) = false
+may_call false method o = false
+
+-- a procedure of this shape, if any, may be called so as one of the other shape
+abbrev pub may_call_as : Option ProcShape → ProcShape → (object : ℕ) → Bool
+may_call_as None g o = false
+may_call_as (Some f) g o = may_call (same_formals f g) f.method o
+
+-- this one, which isn't NIL, may not
+abbrev pub IsOther : List ProcShape → ProcShape → (procedure object : ℕ) → Type 0
+IsOther shapes g zero o = ⊥
+IsOther shapes g (suc p) o = may_call_as (numbered shapes (suc p)) g o ≡ false
+
+-- nor may the one below the arguments for this shape
+abbrev pub IsOtherBelow : List ProcShape → Option ProcShape → Stack → Type 0
+IsOtherBelow shapes None s = ⊥
+IsOtherBelow shapes (Some g) s = OfCallable (IsOther shapes g) (drop (length (kinds_of g.params.items)) s)
+
+module _ (shapes : List ProcShape) (here : Here) where
+  -- the instruction finds such an operand, or no such object
+  abbrev pub IsUndecided : Instr → Stack → Type 0
+  IsUndecided SelfRef s = here.self ≡ 0
+  IsUndecided (Offset c t) s = OfPlace (λ cell. IsFar (cell + c)) s
+  IsUndecided (Index n k) s = OfNumber (λ z below. OfPlace (λ first. IsFarElement (natural n z) k first) below) s
+  IsUndecided (IndexOpen j k) s = OfNumber (λ z below. IsFarRow j [] z k below) s
+  IsUndecided (Unary op) s = OfNumber (λ a below. unary op a ≡ Undefined) s
+  IsUndecided (Binary op) s = OfNumber (λ b below. OfNumber (λ a rest. binary op a b ≡ Undefined) below) s
+  IsUndecided (Fail n) s = n ≡ 16
+  IsUndecided (Assert c) s = OfNumber (λ z below. IsNoFlag z) s
+  IsUndecided (JumpFalse to) s = OfNumber (λ z below. IsNoFlag z) s
+  IsUndecided (CallValue p) s = IsOtherBelow shapes (numbered shapes p) s
+  IsUndecided _ s = ⊥

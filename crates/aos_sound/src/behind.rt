@@ -5,7 +5,7 @@ ghost use Rattle.aos_code.specs.declared.instr.Kind.{Kind};
 ghost use Rattle.aos_code.specs.declared.instr.Kind.TheVariants.{N};
 ghost use Rattle.aos_code.specs.Numbered.{numbered};
 ghost use Rattle.aos_sound.specs.Sound as sound;
-ghost use Rattle.aos_sound.specs.Sound.{Kinds, without, topped, all_topped, given, row, taken, called, sent, twice, swapped, returned};
+ghost use Rattle.aos_sound.specs.Sound.{Kinds, without, topped, all_topped, given, row, taken, taken_applied, called, sent, applied, twice, swapped, returned};
 ghost use Rattle.aos_sound.specs.Stacks.{stack_at, Extends, Means};
 
 use crate::effect::Effect;
@@ -118,6 +118,36 @@ fn take_called(stacks: &Stacks, shape: &ProcShape, method: bool, id: u32) -> Opt
         },
         None => None,
     }
+}
+
+/// What a call of a procedure value takes that stands for one of this shape, with the value.
+fn take_applied(stacks: &Stacks, shape: &ProcShape, id: u32) -> Option<u32>
+    requires { id < length stacks.now }
+    ensures { Means stacks.now result (without (taken_applied shape.now) (stack_at stacks.now id)) }
+{
+    match take_arguments(stacks, &shape.params, id) {
+        Some(below) => take(stacks, Kind::C, below),
+        None => None,
+    }
+}
+
+/// What a value stands for is called, a procedure that takes and gives the same as the one of this number.
+fn apply(
+    shapes: &[ProcShape],
+    p: u32,
+    stacks: &mut Stacks,
+    id: u32,
+) -> Result<Option<u32>, NoMemory>
+    requires { id < length stacks.old }
+    ensures kept { IfOk result (λ r. Extends stacks.old stacks.new) }
+    ensures left { IfOk result (λ r. Means stacks.new r
+        (applied (numbered shapes.now p) (stack_at stacks.old id))) }
+{
+    if p == 0 || p as usize > shapes.len() {
+        return Ok(None);
+    }
+    let shape = &shapes[p as usize - 1];
+    give_any(take_applied(stacks, shape, id), shape.result, stacks)
 }
 
 /// The method of this number is called on an object, or one that stands for it.
@@ -247,6 +277,7 @@ pub fn left_by(
         Effect::Texts(to) => give_any(take_texts(stacks, id), to, stacks),
         Effect::Calls(p) => call(&image.shapes, p, stacks, id),
         Effect::Sends(p) => send(&image.shapes, p, stacks, id),
+        Effect::Applies(p) => apply(&image.shapes, p, stacks, id),
         Effect::Returns => Ok(ends(&image.shapes, own, stacks, id)),
     }
 }

@@ -41,6 +41,8 @@ pub enum Effect {
     Calls(u32),
     /// Takes the arguments of the method of this number, and below them an object, and gives the method's result, if any.
     Sends(u32),
+    /// Takes the arguments of the procedure of this number, and below them a procedure value, and gives the procedure's result, if any.
+    Applies(u32),
     /// Takes the result of the procedure, where nothing else is there.
     Returns,
 }
@@ -65,6 +67,8 @@ pub fn effect_of(i: &Instr) -> Effect
     match *i {
         Instr::Num(_) => Effect::Gives(Kind::N),
         Instr::Nil => Effect::Gives(Kind::R),
+        Instr::NilCall => Effect::Gives(Kind::C),
+        Instr::Proc(_) => Effect::Gives(Kind::C),
         Instr::SelfRef => Effect::Gives(Kind::R),
         Instr::Dup => Effect::Twice,
         Instr::Drop => Effect::Drops,
@@ -82,6 +86,8 @@ pub fn effect_of(i: &Instr) -> Effect
         Instr::Unary(_) => Effect::Turns(Kind::N, Kind::N),
         Instr::Binary(_) => Effect::Joins(Kind::N, Kind::N, Kind::N),
         Instr::EqRef => Effect::Joins(Kind::R, Kind::R, Kind::N),
+        Instr::EqCall => Effect::Joins(Kind::C, Kind::C, Kind::N),
+        Instr::Bind(_) => Effect::Turns(Kind::R, Kind::C),
         Instr::Is(_) => Effect::Turns(Kind::R, Kind::N),
         Instr::IsPlace(_) => Effect::Turns(Kind::A, Kind::N),
         Instr::Guard(_) => Effect::Turns(Kind::R, Kind::R),
@@ -101,6 +107,7 @@ pub fn effect_of(i: &Instr) -> Effect
         Instr::CmpText(_) => Effect::Texts(Some(Kind::N)),
         Instr::Call(p) => Effect::Calls(p),
         Instr::Virtual(_, p) => Effect::Sends(p),
+        Instr::CallValue(p) => Effect::Applies(p),
         Instr::NewObject(_) => Effect::Gives(Kind::R),
         Instr::NewArray(_, j) => Effect::Makes(j),
         Instr::Start => Effect::Takes(Kind::R),

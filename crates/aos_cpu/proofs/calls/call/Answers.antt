@@ -7,5 +7,5 @@ use Rattle.aos_cpu.proofs.calls.call.Goals as goal
 
 pub returns-in-Some-numbered-clause-ok : goal.returns-in-Some-numbered-clause-ok
 returns-in-Some-numbered-clause-ok c out =
-    subst (λ shape. IfOk c.call_shape.result (λ did. IsCalled shape c.args.procedure c.args.count c.args.at c.args.frames.now c.call_shape.new.frames (memory_in c.args.store.now) did out))
+    subst (λ shape. IfOk c.call_shape.result (λ did. IsCalled shape c.args.procedure c.args.way c.args.count c.args.at c.args.frames.now c.call_shape.new.frames (memory_in c.args.store.now) did out))
     (c.in-Some-numbered.ensures ∙ ap (λ shapes. numbered shapes c.args.procedure) c.deref-2.ensures.value) (c.call_shape.ensures.ok out)

@@ -1,4 +1,4 @@
-use Rattle.std.proofs.Common.{◌≡◌, ◌∙◌, sym, ap, subst, List}
+use Rattle.std.proofs.Common.{sym, subst}
 use Rattle.std.specs.Prelude.{Bool, slice_set}
 use Rattle.aos_kernel_tests.specs.Waits.{Keeps}
 use Rattle.aos_kernel_tests.proofs.Flags.{keeps_entered}

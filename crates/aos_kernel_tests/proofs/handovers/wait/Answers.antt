@@ -1,4 +1,4 @@
-use Rattle.std.proofs.Common.{◌≡◌, ◌∙◌, sym, ap}
+use Rattle.std.proofs.Common.{◌∙◌, sym, ap}
 use Rattle.aos_lock.specs.Heirs.{new_owner}
 use Rattle.aos_kernel_tests.proofs.Flags.{keeps_waited}
 use Rattle.aos_kernel_tests.proofs.handovers.wait.Goals as goal

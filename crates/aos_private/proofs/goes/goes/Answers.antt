@@ -8,7 +8,7 @@ use Rattle.aos_code.specs.declared.image.ProcShape.{ProcShape}
 use Rattle.aos_code.specs.Numbered.{numbered}
 use Rattle.aos_code.specs.Machine.{rooted, answer, calls, text_at, length_in}
 use Rattle.aos_store.specs.Store.{memory_in, has_all}
-use Rattle.aos_silent.specs.Acts.{question_in, addr_in}
+use Rattle.aos_silent.specs.Acts.{question_in, addr_in, passed}
 use Rattle.aos_cpu.specs.Answers.{ordered}
 use Rattle.aos_cpu.specs.Private.{has_gone}
 use Rattle.aos_private.specs.Goes.{holds, takes_text}
@@ -68,5 +68,5 @@ returns-in-Calls c f fs is own following at k s =
     let mem = memory_in c.args.store.now in
     let p = c.in-Calls.procedure in
     c.calls.ensures f fs is following p at k s
-    ∙ ap (λ (shape : Option ProcShape). has_gone (calls following shape p (reverse (take c.in-Calls.count f.stack)) at k s f fs mem).left) (c.numbered.ensures ∙ ap (λ (l : List ProcShape). numbered l p) c.deref.ensures.value)
+    ∙ ap (λ (shape : Option ProcShape). has_gone (calls following shape p (passed c.in-Calls.way (reverse (take c.in-Calls.count f.stack))) at k s f fs mem).left) (c.numbered.ensures ∙ ap (λ (l : List ProcShape). numbered l p) c.deref.ensures.value)
     ∙ ap (λ q. has_gone (answer following c.args.image.now.shapes.items c.args.image.now.types.items (question_in q f.stack) at k s f fs mem).left) (sym c.in-Calls.is)

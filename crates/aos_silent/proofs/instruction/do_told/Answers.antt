@@ -55,3 +55,12 @@ returns-in-Guard-clause-ok c own here at code =
     (told_step shapes types (known c.args.heap.now) _ c.tell_as.result f f.stack
     (subst (λ (xs : List Cell). IsTold shapes types (known c.args.heap.now) (looks (AsType c.in-Guard.other) (λ r. Stops (Fails 3 0)) (reverse xs)) c.tell_as.result (reverse xs)) c.deref.ensures.value
     (c.tell_as.ensures.told shapes)))
+
+pub returns-in-Bind-clause-ok : goal.returns-in-Bind-clause-ok
+returns-in-Bind-clause-ok c own here at code =
+    let shapes = c.args.shapes.now in
+    let types = c.args.types.now in
+    let f = frame_in c.args.frame.now in
+    let s = reverse c.tell_bound.new.stack.items in
+    subst (λ i. IsStepOf shapes types (known c.args.heap.now) (act shapes types own here i code at f.stack) c.tell_bound.result f (record f { stack = s })) (sym c.in-Bind.is)
+    (told_step shapes types (known c.args.heap.now) _ c.tell_bound.result f s (c.tell_bound.ensures.told shapes))

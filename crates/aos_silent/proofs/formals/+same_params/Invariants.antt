@@ -1,5 +1,5 @@
 use Rattle.std.proofs.Common.{length}
-use Rattle.aos_silent.proofs.methods.+same_params.Given as goal
+use Rattle.aos_silent.proofs.formals.+same_params.Given as goal
 
 -- the parameters that are left
 abbrev pub decreases-same_params : goal.decreases-same_params
