@@ -6,9 +6,10 @@ use Rattle.aos_base.specs.declared.operator.Unary.TheVariants.{Range}
 use Rattle.aos_base.specs.declared.operator.Binary.TheVariants.{SetSpan}
 use Rattle.aos_typed.specs.declared.tree.Literal.{Literal}
 use Rattle.aos_typed.specs.declared.tree.Literal.TheVariants as literal
-use Rattle.aos_typed.specs.Program.{Place, ModuleVar, Local, Passed, Field, Index, Of, Deref, Typed, Guarded, Rows, Known, Opened, Row, Spread, Longer, Arguments, NoMore, Scalar, Whole, Opening, Callee, Plain, Dispatched, Upper, Expr, Lit, SelfRef, Read, Unary, Binary, And, Or, Element, Ord, Chr, CompareTexts, Len, LenBehind, Function, Same, Is, IsRecord, Guard, Had, Procedure, Program}
+use Rattle.aos_typed.specs.Numbers.{procedure_number}
+use Rattle.aos_typed.specs.Program.{Place, ModuleVar, Local, Passed, Field, Index, Of, Deref, Typed, Guarded, Rows, Known, Opened, Row, Spread, Longer, Arguments, NoMore, Scalar, Whole, Opening, Callee, Plain, Dispatched, Upper, Through, Expr, Lit, SelfRef, Read, Unary, Binary, And, Or, Element, Ord, Chr, CompareTexts, Len, LenBehind, Function, Same, Is, IsRecord, Guard, ProcedureOf, MethodOf, SameProcedure, Had, Procedure, Program}
 use Rattle.aos_code.specs.declared.instr.Instr.{Instr}
-use Rattle.aos_code.specs.declared.instr.Instr.TheVariants.{Num, SelfRef as SelfOf, Deref as DerefOf, OpenRef, EqRef, Is as IsOf, IsPlace, Guard as GuardOf, GuardPlace, Dup, Drop, Frame as FrameOf, Param, Length, Module, Offset, Index as IndexOf, IndexOpen, PickLen, Unary as OnOne, Binary as OnTwo, Jump, JumpFalse, Load, CmpText}
+use Rattle.aos_code.specs.declared.instr.Instr.TheVariants.{Num, Proc, Bind, EqCall, SelfRef as SelfOf, Deref as DerefOf, OpenRef, EqRef, Is as IsOf, IsPlace, Guard as GuardOf, GuardPlace, Dup, Drop, Frame as FrameOf, Param, Length, Module, Offset, Index as IndexOf, IndexOpen, PickLen, Unary as OnOne, Binary as OnTwo, Jump, JumpFalse, Load, CmpText}
 use Rattle.aos_sim.specs.Code.{literal_code, call_instr, kind_of, variable_cell, own_cell, field_cell, cells_of, dimensions, lengths_code, drops, place_code, rows_code, arguments_code, receiver_code, value_code}
 use Rattle.aos_emit.specs.Back.{back_place, back_rows, back_arguments, back_receiver, back_code, placed}
 use Rattle.aos_emit.specs.Forwards.{forwards}
@@ -38,6 +39,7 @@ literal_placed end (literal.Char c) = refl
 literal_placed end (literal.Set s) = refl
 literal_placed end (literal.Text t) = refl
 literal_placed end literal.Nil = refl
+literal_placed end literal.NoProcedure = refl
 
 -- where code ends at a place, so it is placed from its last instruction to its first
 abbrev pub IsPlaced : (ℕ → List Instr) → (List Instr → List Instr) → Type 0
@@ -93,6 +95,7 @@ module _ (p : Program) (own : Option Procedure) where
   call_placed end (Plain m k) = refl
   call_placed end (Dispatched e t k) = refl
   call_placed end (Upper t k) = refl
+  call_placed end (Through e t) = refl
 
   mutual
     pub place_forth : (x : Place) → IsPlaced (place_code p own x) (back_place p own x)
@@ -161,12 +164,13 @@ module _ (p : Program) (own : Option Procedure) where
     receiver_forth (Plain m k) at behind end ends = refl
     receiver_forth (Dispatched e t k) at behind end ends = forth e at behind end ends
     receiver_forth (Upper t k) at behind end ends = last_first end behind SelfOf
+    receiver_forth (Through e t) at behind end ends = forth e at behind end ends
 
     pub forth : (e : Expr) → IsPlaced (value_code p own e) (back_code p own e)
     forth (Lit l) at behind end ends = last_first end behind (literal_code l) ∙ ap (λ i. i ∷ forwards end behind) (literal_placed end l)
     forth SelfRef at behind end ends = last_first end behind SelfOf
     forth (Read t x) at behind end ends =
-        let load = Load (kind_of t) in
+        let load = Load (kind_of p.types t) in
         operand (place_code p own x) (back_place p own x) at end (load ∷ []) (behind ++ load ∷ []) behind (place_forth x) (last_first end behind load) ends
     forth (Unary op a) at behind end ends =
         operand (value_code p own a) (back_code p own a) at end (OnOne op ∷ []) (behind ++ OnOne op ∷ []) behind (forth a) (last_first end behind (OnOne op)) ends
@@ -244,4 +248,13 @@ module _ (p : Program) (own : Option Procedure) where
         operand (place_code p own x) (back_place p own x) at end (IsPlace (t + 1) ∷ []) (behind ++ IsPlace (t + 1) ∷ []) behind (place_forth x) (last_first end behind (IsPlace (t + 1))) ends
     forth (Guard a t) at behind end ends =
         operand (value_code p own a) (back_code p own a) at end (GuardOf (t + 1) ∷ []) (behind ++ GuardOf (t + 1) ∷ []) behind (forth a) (last_first end behind (GuardOf (t + 1))) ends
+    forth (ProcedureOf m k) at behind end ends = last_first end behind (Proc (procedure_number p m k))
+    forth (MethodOf a t k) at behind end ends =
+        operand (value_code p own a) (back_code p own a) at end (Bind k ∷ []) (behind ++ Bind k ∷ []) behind (forth a) (last_first end behind (Bind k)) ends
+    forth (SameProcedure a b) at behind end ends =
+        let ca = value_code p own a at in
+        let cb = value_code p own b (at + length ca) in
+        let both = length-append ca (cb ++ EqCall ∷ []) in
+        let second = operand (value_code p own b) (back_code p own b) (at + length ca) end (EqCall ∷ []) (behind ++ EqCall ∷ []) behind (forth b) (last_first end behind EqCall) (omega arith) in
+        operand (value_code p own a) (back_code p own a) at end (cb ++ EqCall ∷ []) (back_code p own b (behind ++ EqCall ∷ [])) behind (forth a) second ends
     forth (Had v) at behind end ends = refl

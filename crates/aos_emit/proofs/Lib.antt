@@ -7,5 +7,6 @@ pub mod Ends
 pub mod Owned
 pub mod Matching
 pub mod Made
+pub mod Stash
 pub mod Sorts
 pub mod Searches

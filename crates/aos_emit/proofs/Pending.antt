@@ -15,11 +15,14 @@ use Rattle.aos_typed.specs.declared.tree.Change.TheVariants as change
 use Rattle.aos_typed.specs.declared.tree.TType.{TType}
 use Rattle.aos_typed.specs.declared.tree.TType.TheVariants.{Integer}
 use Rattle.aos_typed.specs.Meaning.{until}
-use Rattle.aos_typed.specs.Program.{Place, ModuleVar, Local, Passed, Field, Index, Of, Deref, Typed, Guarded, Rows, Known, Opened, Row, Spread, Longer, Arguments, NoMore, Scalar, Whole, Opening, Callee, Plain, Dispatched, Upper, Expr, Lit, SelfRef, Read, Unary, Binary, And, Or, Element, Ord, Chr, CompareTexts, Len, LenBehind, Function, Same, Is, IsRecord, Guard, Had, Call, Open, Char, Int, String, Ln, Stat, Assign, Copy, PutText, If, Case, While, Repeat, Loop, Exit, For, Block, Assert, Halt, Change, Perform, Return, New, Make, With, WithRecord, Out, Stats, Nothing, Then, Arms, Otherwise, Arm, Cases, NoElse, Else, OfLabels, Procedure, Program}
+use Rattle.aos_typed.specs.Program.{Place, ModuleVar, Local, Passed, Field, Index, Of, Deref, Typed, Guarded, Rows, Known, Opened, Row, Spread, Longer, Arguments, NoMore, Scalar, Whole, Opening, Callee, Plain, Dispatched, Upper, Through, Expr, Lit, SelfRef, Read, Unary, Binary, And, Or, Element, Ord, Chr, CompareTexts, Len, LenBehind, Function, Same, Is, IsRecord, Guard, ProcedureOf, MethodOf, SameProcedure, Had, Call, Open, Char, Int, String, Ln, Stat, Assign, Copy, PutText, If, Case, While, Repeat, Loop, Exit, For, Block, Assert, Halt, Change, Perform, Return, New, Make, With, WithRecord, Out, Stats, Nothing, Then, Arms, Otherwise, Arm, Cases, NoElse, Else, OfLabels, Procedure, Program}
 use Rattle.aos_code.specs.declared.instr.Instr.{Instr}
 use Rattle.aos_code.specs.declared.instr.Instr.TheVariants as i
+use Rattle.aos_code.specs.declared.instr.Kind.{Kind}
 use Rattle.aos_code.specs.declared.instr.Kind.TheVariants.{N}
-use Rattle.aos_sim.specs.Code.{begin, literal_code, lengths_code, drops, dimensions, make_instr, call_instr, own_cell, place_code, rows_code, arguments_code, receiver_code, value_code, values_code, make_code, out_code, new_code, change_code, changed_code, assign_code, for_head, step_code, body_place, rounds_with, stat_code, stats_code, arms_code, cases_code, arm_place}
+use Rattle.aos_typed.specs.Methods.{is_active, body_type, initializer}
+use Rattle.aos_typed.specs.Numbers.{body_number}
+use Rattle.aos_sim.specs.Code.{begin, literal_code, lengths_code, drops, dimensions, make_instr, call_instr, own_cell, place_code, rows_code, arguments_code, receiver_code, value_code, values_code, make_code, out_code, stash, unstash, initial_kinds, initialize_code, carry_out_instr, store_code, new_code, change_code, changed_code, assign_code, for_head, step_code, body_place, rounds_with, stat_code, stats_code, arms_code, cases_code, arm_place}
 use Rattle.aos_sim.specs.Search.{Search, Nowhere, At, Split, arms_in, search_of, search_size, search_code}
 use Rattle.aos_sim.proofs.Sizes.{search_length, stat_length, stats_length, arms_length, cases_length}
 use Rattle.aos_emit.specs.Redirect.{redirected, redirect}
@@ -80,6 +83,7 @@ module _ (p x : ℕ) where
   literal_same (literal.Set s) = refl
   literal_same (literal.Text t) = refl
   literal_same literal.Nil = refl
+  literal_same literal.NoProcedure = refl
 
   numbers_same : (ns : List ℕ) → map (redirect p x) (map (λ n. i.Num (pos n)) ns) ≡ map (λ n. i.Num (pos n)) ns
   numbers_same [] = refl
@@ -93,6 +97,14 @@ module _ (p x : ℕ) where
   drops_same zero n = refl
   drops_same (suc k) n = ap (λ l. i.Drop ∷ l) (drops_same k n)
 
+  kept_turn : {at : ℕ} (ks : List Kind) (d : ℕ) → Turns at (stash ks d) (stash ks d)
+  kept_turn {at = at} [] d = nothing
+  kept_turn {at = at} (k ∷ ks) d = turn refl (kept_turn {at = at + 1} ks (suc d))
+
+  again_turns : {at : ℕ} (ks : List Kind) (d : ℕ) → Turns at (unstash ks d) (unstash ks d)
+  again_turns {at = at} [] d = nothing
+  again_turns {at = at} (k ∷ ks) d = behind (again_turns {at = at} ks (suc d)) refl
+
   made_same : (t n : ℕ) → redirect p x (make_instr t n) ≡ make_instr t n
   made_same t zero = refl
   made_same t (suc n) = refl
@@ -102,6 +114,7 @@ module _ (p x : ℕ) where
     call_same (Plain m k) = refl
     call_same (Dispatched e t k) = refl
     call_same (Upper t k) = refl
+    call_same (Through e t) = refl
 
     mutual
       place_turns : (q : Place) (at : ℕ) → Turns at (place_code program own q at) (place_code program own q at)
@@ -132,6 +145,7 @@ module _ (p x : ℕ) where
       receiver_turns (Plain m k) at = nothing
       receiver_turns (Dispatched e t k) at = value_turns e at
       receiver_turns (Upper t k) at = turn refl nothing
+      receiver_turns (Through e t) at = value_turns e at
 
       value_turns : (e : Expr) (at : ℕ) → Turns at (value_code program own e at) (value_code program own e at)
       value_turns (Lit l) at = turn (literal_same l) nothing
@@ -166,6 +180,9 @@ module _ (p x : ℕ) where
       value_turns (Is a t) at = behind (value_turns a at) refl
       value_turns (IsRecord q t) at = behind (place_turns q at) refl
       value_turns (Guard a t) at = behind (value_turns a at) refl
+      value_turns (ProcedureOf m k) at = turn refl nothing
+      value_turns (MethodOf a t k) at = behind (value_turns a at) refl
+      value_turns (SameProcedure a b) at = both (value_turns a at) (behind (value_turns b (at + length (value_code program own a at))) refl)
       value_turns (Had v) at = nothing
 
     values_turn : (es : List Expr) (at : ℕ) → Turns at (values_code program own es at) (values_code program own es at)
@@ -183,8 +200,26 @@ module _ (p x : ℕ) where
     out_turns (String r) at = behind (rows_turn r at) refl
     out_turns Ln at = turn refl nothing
 
-    new_turns : (q : Place) (t at : ℕ) → Turns at (new_code program own q t at) (new_code program own q t at)
-    new_turns q t at = turn refl (turn refl (behind (moved (omega arith) (place_turns q (at + 2))) refl))
+    initialize_turns : {at : ℕ} (slot : Option ℕ) (t : ℕ) (ks : List Kind) (d : ℕ) → Turns at (initialize_code program own slot t ks d) (initialize_code program own slot t ks d)
+    initialize_turns None t ks d = nothing
+    initialize_turns (Some k) t ks d = turn refl (behind (again_turns ks d) refl)
+
+    carry_out_same : (b : ℕ) → redirect p x (carry_out_instr program own b) ≡ carry_out_instr program own b
+    carry_out_same b = by (is_active program b)
+      where
+        by : (active : Bool) → redirect p x (if active then i.Start else i.Call (body_number program b)) ≡ (if active then i.Start else i.Call (body_number program b))
+        by true = refl
+        by false = refl
+
+    store_turns : {at : ℕ} (body_of : Option ℕ) (d : ℕ) → Turns at (store_code program own body_of d) (store_code program own body_of d)
+    store_turns None d = turn refl nothing
+    store_turns (Some b) d = turn refl (turn refl (turn refl (turn refl (turn (carry_out_same b) nothing))))
+
+    new_turns : (q : Place) (t : ℕ) (more : Arguments) (at d : ℕ) → Turns at (new_code program own q t more at d) (new_code program own q t more at d)
+    new_turns q t more at d =
+        let ks = initial_kinds program own (initializer program t) t in
+        both (place_turns q at) (both (arguments_turn more (at + length (place_code program own q at)))
+        (both (kept_turn ks d) (turn refl (both (initialize_turns (initializer program t) t ks d) (store_turns (body_type program t) d)))))
 
     assign_turns : (here : Pos) (t : TType) (q : Place) (e : Expr) (at : ℕ) → Turns at (assign_code program own here t q e at) (assign_code program own here t q e at)
     assign_turns here t q e at = turn refl (both (place_turns q (at + 1)) (behind (value_turns e (at + 1 + length (place_code program own q (at + 1)))) refl))
@@ -300,7 +335,7 @@ module _ (p x : ℕ) where
       stat_turns (Perform here c more) at y d = turn refl (value_turns (Function c more) (at + 1))
       stat_turns (Return here None) at y d = turn refl (turn refl nothing)
       stat_turns (Return here (Some e)) at y d = turn refl (behind (value_turns e (at + 1)) refl)
-      stat_turns (New here q t) at y d = turn refl (new_turns q t (at + 1))
+      stat_turns (New here q t more) at y d = turn refl (new_turns q t more (at + 1) d)
       stat_turns (Make here q t es) at y d = turn refl (make_turns q t es (at + 1))
       stat_turns (With here e body) at y d =
           turn refl (both (value_turns e (at + 1)) (turn refl (stats_turn body (at + 1 + length (value_code program own e (at + 1)) + 1) y d)))

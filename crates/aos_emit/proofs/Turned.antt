@@ -10,6 +10,7 @@ use Rattle.aos_typed.specs.Program.{Arguments, NoMore, Procedure, Program}
 use Rattle.aos_typed.specs.Seen.{seen_argument, seen_list}
 use Rattle.aos_sim.specs.Code.{lengths_code, drops}
 use Rattle.aos_sim.specs.Need.{arguments_need}
+use Rattle.aos_laid.proofs.Taken.{seen_next}
 use Rattle.aos_emit.specs.Back.{back_arguments}
 
 -- one length more before those that are there
@@ -55,12 +56,6 @@ drops_more n i code lt =
     append_assoc code (Drop ∷ []) (drops (n - (i + 1))) ∙ ap (λ m. code ++ drops m) e
 
 -- one argument more before those that are there
-seen_next : (as' : List TArgument) (k left : ℕ) (a : TArgument) → k < length as' → k + 1 ≡ left → a ≡ get_or as' k a → seen_argument a (seen_list (drop left as')) ≡ seen_list (drop k as')
-seen_next as' k left a lt next at =
-    ap (λ n. seen_argument a (seen_list (drop n as'))) (sym next)
-    ∙ ap (λ x. seen_argument x (seen_list (drop (k + 1) as'))) at
-    ∙ ap seen_list (sym (drop_more as' k a lt))
-
 pub argument_more : (p : Program) (own : Option Procedure) (as' : List TArgument) (k left : ℕ) (a : TArgument) (start code new : List Instr) → k < length as' → k + 1 ≡ left → a ≡ get_or as' k a → code ≡ back_arguments p own (seen_list (drop left as')) start → new ≡ back_arguments p own (seen_argument a NoMore) code → new ≡ back_arguments p own (seen_list (drop k as')) start
 argument_more p own as' k left a start code new lt next at is e =
     e ∙ ap (back_arguments p own (seen_argument a NoMore)) is ∙ before a (seen_list (drop left as')) ∙ ap (λ l. back_arguments p own l start) (seen_next as' k left a lt next at)

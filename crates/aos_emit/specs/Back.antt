@@ -1,10 +1,14 @@
 -- The code of a designator and of an expression, from its last instruction to its first.
-use Rattle.std.specs.Prelude.{ℕ, suc, pos, ◌+◌, ◌-◌, Option, List, [], ◌∷◌, ◌++◌, length, map, reverse}
+use Rattle.std.specs.Prelude.{ℕ, suc, pos, ◌+◌, ◌-◌, Option, None, Some, List, [], ◌∷◌, ◌++◌, length, map, reverse}
 use Rattle.aos_base.specs.declared.operator.Unary.TheVariants.{Range}
 use Rattle.aos_base.specs.declared.operator.Binary.TheVariants.{SetSpan}
-use Rattle.aos_typed.specs.Program.{Place, ModuleVar, Local, Passed, Field, Index, Of, Deref, Typed, Guarded, Rows, Known, Opened, Row, Spread, Longer, Arguments, NoMore, Scalar, Whole, Opening, Callee, Plain, Dispatched, Upper, Expr, Lit, SelfRef, Read, Unary, Binary, And, Or, Element, Ord, Chr, CompareTexts, Len, LenBehind, Function, Same, Is, IsRecord, Guard, Had, Procedure, Program}
+use Rattle.aos_typed.specs.Program.{Place, ModuleVar, Local, Passed, Field, Index, Of, Deref, Typed, Guarded, Rows, Known, Opened, Row, Spread, Longer, Arguments, NoMore, Scalar, Whole, Opening, Callee, Plain, Dispatched, Upper, Through, Expr, Lit, SelfRef, Read, Unary, Binary, And, Or, Element, Ord, Chr, CompareTexts, Len, LenBehind, Function, Same, Is, IsRecord, Guard, ProcedureOf, MethodOf, SameProcedure, Had, Procedure, Program}
 use Rattle.aos_code.specs.declared.instr.Instr.{Instr}
-use Rattle.aos_code.specs.declared.instr.Instr.TheVariants.{Num, SelfRef as SelfOf, Deref as DerefOf, OpenRef, EqRef, Is as IsOf, IsPlace, Guard as GuardOf, GuardPlace, Dup, Frame as FrameOf, Param, Module, Offset, Index as IndexOf, IndexOpen, PickLen, Unary as OnOne, Binary as OnTwo, Jump, JumpFalse, Load, CmpText}
+use Rattle.aos_code.specs.declared.instr.Instr.TheVariants.{Num, Proc, Bind, EqCall, SelfRef as SelfOf, Deref as DerefOf, OpenRef, EqRef, Is as IsOf, IsPlace, Guard as GuardOf, GuardPlace, Dup, Frame as FrameOf, Param, Module, Offset, Index as IndexOf, IndexOpen, PickLen, Unary as OnOne, Binary as OnTwo, Jump, JumpFalse, Load, CmpText}
+use Rattle.aos_typed.specs.Numbers.{procedure_number}
+use Rattle.aos_typed.specs.Seen.{seen_place, seen_rows, seen_expr}
+use Rattle.aos_emit.specs.declared.fronts.Front.{Front}
+use Rattle.aos_emit.specs.declared.fronts.Front.TheVariants.{Value, Place as Located, Rows as Spanned}
 use Rattle.aos_sim.specs.Code.{literal_code, call_instr, kind_of, variable_cell, own_cell, field_cell, cells_of, dimensions, lengths_code, drops}
 
 -- in a program, whose variables have their cells, in the body of this procedure or of none
@@ -42,11 +46,12 @@ module _ (program : Program) (own : Option Procedure) where
     back_receiver (Plain m k) behind = behind
     back_receiver (Dispatched e t k) behind = back_code e behind
     back_receiver (Upper t k) behind = behind ++ SelfOf ∷ []
+    back_receiver (Through e t) behind = back_code e behind
 
     pub back_code : Expr → List Instr → List Instr
     back_code (Lit l) behind = behind ++ literal_code l ∷ []
     back_code SelfRef behind = behind ++ SelfOf ∷ []
-    back_code (Read t p) behind = back_place p (behind ++ Load (kind_of t) ∷ [])
+    back_code (Read t p) behind = back_place p (behind ++ Load (kind_of program.types t) ∷ [])
     back_code (Unary op a) behind = back_code a (behind ++ OnOne op ∷ [])
     back_code (Binary op a b) behind = back_code a (back_code b (behind ++ OnTwo op ∷ []))
     back_code (And a b) behind =
@@ -66,7 +71,20 @@ module _ (program : Program) (own : Option Procedure) where
     back_code (Is a t) behind = back_code a (behind ++ IsOf (t + 1) ∷ [])
     back_code (IsRecord p t) behind = back_place p (behind ++ IsPlace (t + 1) ∷ [])
     back_code (Guard a t) behind = back_code a (behind ++ GuardOf (t + 1) ∷ [])
+    back_code (ProcedureOf m k) behind = behind ++ Proc (procedure_number program m k) ∷ []
+    back_code (MethodOf a t k) behind = back_code a (behind ++ Bind k ∷ [])
+    back_code (SameProcedure a b) behind = back_code a (back_code b (behind ++ EqCall ∷ []))
     back_code (Had v) behind = behind
+
+  -- what code begins with, if anything is left
+  abbrev pub back_front : Front → List Instr → List Instr
+  back_front (Value e) behind = back_code (seen_expr e.now) behind
+  back_front (Located p) behind = back_place (seen_place p.now) behind
+  back_front (Spanned r) behind = back_rows (seen_rows r.now) behind
+
+  abbrev pub back_rest : Option Front → List Instr → List Instr
+  back_rest None behind = behind
+  back_rest (Some f) behind = back_front f behind
 
 -- the same instruction, where the code ends at this place: a jump has its target's place
 abbrev pub placed : ℕ → Instr → Instr

@@ -1,5 +1,7 @@
+pub mod Parts
 pub mod Back
 pub mod Forwards
 pub mod Redirect
 pub mod Places
 pub mod Scope
+pub mod Made

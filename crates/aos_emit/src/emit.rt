@@ -1,20 +1,23 @@
 // From typed designators and expressions to instructions: what is emitted is the code that the definitions give.
 
-ghost use Rattle.std.specs.Prelude.{◌≡◌, ◌+◌, ◌<◌, suc, [], ◌∷◌, ◌++◌, length, map, reverse, pos, IfOk, OnOk};
+ghost use Rattle.std.specs.Prelude.{◌≡◌, ◌+◌, ◌<◌, ◌≤◌, suc, [], ◌∷◌, ◌++◌, length, map, reverse, pos, IfOk, OnOk};
 ghost use Rattle.aos_base.specs.declared.operator.Binary.TheVariants as binary;
 ghost use Rattle.aos_typed.specs.Seen.{seen_place, seen_rows, seen_argument, seen_list, seen_callee, seen_expr};
-ghost use Rattle.aos_typed.specs.Program.{NoMore};
-ghost use Rattle.aos_emit.specs.Back.{back_place, back_rows, back_arguments, back_receiver, back_code, placed};
+ghost use Rattle.aos_typed.specs.Program.{NoMore, Function};
+ghost use Rattle.aos_emit.specs.Back.{back_place, back_rows, back_arguments, back_receiver, back_code, back_front, back_rest, placed};
+ghost use Rattle.aos_emit.specs.Parts.{place_size, rows_size, callee_size, value_size, front_size, rest_size};
 ghost use Rattle.aos_emit.specs.Scope.{program_of, own_of};
 ghost use Rattle.aos_emit.specs.Forwards.{forwards};
 ghost use Rattle.aos_emit.specs.Redirect.{pending_end};
 ghost use Rattle.aos_sim.specs.Code as codes;
-ghost use Rattle.aos_sim.specs.Code.{literal_code, kind_of, own_cell, lengths_code, drops, place_code, rows_code, called_code, value_code};
+ghost use Rattle.aos_sim.specs.Code.{literal_code, own_cell, lengths_code, drops, place_code, rows_code, arguments_code, called_code, value_code};
 
+use crate::fronts::Front;
 use crate::scope::Scope;
-use aos_base::{Binary, Pos, Relation, Unary, truth};
-use aos_code::{Instr, Kind};
-use aos_typed::{Literal, TArgument, TCallee, TExpr, TPlace, TRows, TType};
+use aos_base::{Binary, Pos, Unary, truth};
+use aos_code::Instr;
+use aos_laid::dimensions;
+use aos_typed::{Literal, TArgument, TCallee, TExpr, TPlace, TRows};
 use std::alloc::{AllocError, Global};
 
 /// The number that a jump to the end of a statement has until that is known: no instruction has it.
@@ -65,20 +68,6 @@ pub fn described(of: u32) -> Result<u32, AllocError>
     }
 }
 
-/// The kind of what a variable of this type holds.
-pub fn cell_kind(of: TType) -> Kind
-    ensures { result ≡ kind_of of }
-{
-    match of {
-        TType::Integer(_) => Kind::N,
-        TType::Boolean => Kind::N,
-        TType::Char => Kind::N,
-        TType::Set => Kind::N,
-        TType::Any => Kind::R,
-        TType::Named(_) => Kind::R,
-    }
-}
-
 fn literal_instr(literal: Literal) -> Instr
     ensures { result ≡ literal_code literal }
 {
@@ -89,98 +78,55 @@ fn literal_instr(literal: Literal) -> Instr
         Literal::Set(s) => Instr::Num(i64::from(s)),
         Literal::Text(text) => Instr::Num(i64::from(text.first)),
         Literal::Nil => Instr::Nil,
+        Literal::NoProcedure => Instr::NilCall,
     }
 }
 
-// The code of a designator, from its last instruction to its first. A long designator has as many parts, one in another: the
-// loop over them takes no stack.
+// The last instruction of a designator, with what stands before it.
 #[cycle(emit_back)]
-fn emit_place_back(
+fn emit_place_end<'b>(
     scope: &Scope<'_>,
     code: &mut Vec<Instr>,
-    place: &TPlace,
-) -> Result<(), AllocError>
-    ensures { OnOk result (code.new.items ≡ back_place (program_of scope.now) (own_of scope.now) (seen_place place.now) code.old.items) }
+    place: &'b TPlace,
+) -> Result<Option<Front<'b>>, AllocError>
+    ensures code { IfOk result (λ rest. back_rest (program_of scope.now) (own_of scope.now) rest code.new.items ≡
+        back_place (program_of scope.now) (own_of scope.now) (seen_place place.now) code.old.items) }
+    ensures less { IfOk result (λ rest. rest_size rest ≤ place_size (seen_place place.now)) }
 {
-    let mut rest = place;
-    loop {
-        match rest {
-            TPlace::ModuleVar(module, variable) => {
-                let cell = scope.cell(*module, *variable);
-                return put(code, Instr::Module(*module, cell));
-            }
-            TPlace::Local(number) => return put(code, Instr::Frame(scope.own_cell(*number))),
-            TPlace::Passed(number) => return put(code, Instr::Param(scope.own_cell(*number))),
-            TPlace::Of(rows) => return emit_rows_back(scope, code, rows),
-            TPlace::Deref(object, _) => {
-                return emit_object_back(scope, code, Instr::Deref(0), object);
-            }
-            TPlace::Typed(whole, of) => {
-                put(code, Instr::Offset(0, described(*of)?))?;
-                rest = whole;
-            }
-            TPlace::Guarded(whole, of) => {
-                put(code, Instr::GuardPlace(described(*of)?))?;
-                rest = whole;
-            }
-            TPlace::Field(whole, of, number) => {
-                let before = scope.field(*of, *number)?;
-                put(code, Instr::Offset(before, 0))?;
-                rest = whole;
-            }
-            TPlace::Index(whole, elements, of, index) => {
-                let cells = scope.cells_of(*of);
-                put(code, Instr::Index(*elements, cells))?;
-                emit_back(scope, code, index)?;
-                rest = whole;
-            }
+    match place {
+        TPlace::ModuleVar(module, variable) => {
+            put(code, Instr::Module(*module, scope.cell(*module, *variable)))?;
+            Ok(None)
         }
-    }
-}
-
-// What is found by an object, from the last instruction to the first.
-#[cycle(emit_back)]
-fn emit_object_back(
-    scope: &Scope<'_>,
-    code: &mut Vec<Instr>,
-    last: Instr,
-    object: &TExpr,
-) -> Result<(), AllocError>
-    ensures { OnOk result (code.new.items ≡ back_code (program_of scope.now) (own_of scope.now) (seen_expr object.now)
-        (code.old.items ++ last ∷ [])) }
-{
-    put(code, last)?;
-    emit_back(scope, code, object)
-}
-
-#[cycle(emit_back)]
-fn emit_read_back(
-    scope: &Scope<'_>,
-    code: &mut Vec<Instr>,
-    of: TType,
-    place: &TPlace,
-) -> Result<(), AllocError>
-    ensures { OnOk result (code.new.items ≡ back_place (program_of scope.now) (own_of scope.now) (seen_place place.now)
-        (code.old.items ++ Instr.Load (kind_of of) ∷ [])) }
-{
-    put(code, Instr::Load(cell_kind(of)))?;
-    emit_place_back(scope, code, place)
-}
-
-/// How many dimensions of an array have their lengths behind its place.
-pub fn dimensions(rows: &TRows) -> Result<u32, AllocError>
-    ensures { IfOk result (λ n. n ≡ codes.dimensions (seen_rows rows.now)) }
-{
-    match rows {
-        TRows::Known(_, lengths) => number_of(lengths.len()),
-        TRows::Opened(_, count) => Ok(*count),
-        TRows::Row(whole, _, _) => Ok(dimensions(whole)?.saturating_sub(1)),
-        TRows::Spread(_, count) => Ok(*count),
-        TRows::Longer(whole, lengths) => {
-            match dimensions(whole)?.checked_add(number_of(lengths.len())?) {
-                Some(count) => Ok(count),
-                None => Err(AllocError),
-            }
+        TPlace::Local(number) => {
+            put(code, Instr::Frame(scope.own_cell(*number)))?;
+            Ok(None)
+        }
+        TPlace::Passed(number) => {
+            put(code, Instr::Param(scope.own_cell(*number)))?;
+            Ok(None)
+        }
+        TPlace::Of(rows) => Ok(Some(Front::Rows(rows))),
+        TPlace::Deref(object, _) => {
+            put(code, Instr::Deref(0))?;
+            Ok(Some(Front::Value(object)))
+        }
+        TPlace::Typed(whole, of) => {
+            put(code, Instr::Offset(0, described(*of)?))?;
+            Ok(Some(Front::Place(whole)))
+        }
+        TPlace::Guarded(whole, of) => {
+            put(code, Instr::GuardPlace(described(*of)?))?;
+            Ok(Some(Front::Place(whole)))
+        }
+        TPlace::Field(whole, of, number) => {
+            put(code, Instr::Offset(scope.field(*of, *number)?, 0))?;
+            Ok(Some(Front::Place(whole)))
+        }
+        TPlace::Index(whole, elements, of, index) => {
+            put(code, Instr::Index(*elements, scope.cells_of(*of)))?;
+            emit_back(scope, code, Front::Value(index))?;
+            Ok(Some(Front::Place(whole)))
         }
     }
 }
@@ -214,71 +160,43 @@ fn put_opened(code: &mut Vec<Instr>, cell: u32, count: u32) -> Result<(), AllocE
     put(code, Instr::Param(cell))
 }
 
-// An array with the lengths of its dimensions, from the last instruction to the first.
+// The last instructions of an array with the lengths of its dimensions, and what stands before them.
 #[cycle(emit_back)]
-fn emit_rows_back(scope: &Scope<'_>, code: &mut Vec<Instr>, rows: &TRows) -> Result<(), AllocError>
-    ensures { OnOk result (code.new.items ≡ back_rows (program_of scope.now) (own_of scope.now) (seen_rows rows.now) code.old.items) }
+fn emit_rows_end<'b>(
+    scope: &Scope<'_>,
+    code: &mut Vec<Instr>,
+    rows: &'b TRows,
+) -> Result<Option<Front<'b>>, AllocError>
+    ensures code { IfOk result (λ rest. back_rest (program_of scope.now) (own_of scope.now) rest code.new.items ≡
+        back_rows (program_of scope.now) (own_of scope.now) (seen_rows rows.now) code.old.items) }
+    ensures less { IfOk result (λ rest. rest_size rest ≤ rows_size (seen_rows rows.now)) }
 {
-    let mut rest = rows;
-    loop {
-        match rest {
-            TRows::Known(place, lengths) => {
-                put_lengths(code, lengths)?;
-                return emit_place_back(scope, code, place);
-            }
-            TRows::Opened(number, count) => {
-                return put_opened(code, scope.own_cell(*number), *count);
-            }
-            TRows::Row(whole, of, index) => {
-                let instr = Instr::IndexOpen(dimensions(whole)?, scope.cells_of(*of));
-                put(code, instr)?;
-                emit_back(scope, code, index)?;
-                rest = whole;
-            }
-            TRows::Spread(object, count) => {
-                return emit_object_back(scope, code, Instr::OpenRef(*count), object);
-            }
-            TRows::Longer(whole, lengths) => {
-                put_lengths(code, lengths)?;
-                rest = whole;
-            }
+    match rows {
+        TRows::Known(place, lengths) => {
+            put_lengths(code, lengths)?;
+            Ok(Some(Front::Place(place)))
+        }
+        TRows::Opened(number, count) => {
+            put_opened(code, scope.own_cell(*number), *count)?;
+            Ok(None)
+        }
+        TRows::Row(whole, of, index) => {
+            put(
+                code,
+                Instr::IndexOpen(dimensions(whole)?, scope.cells_of(*of)),
+            )?;
+            emit_back(scope, code, Front::Value(index))?;
+            Ok(Some(Front::Rows(whole)))
+        }
+        TRows::Spread(object, count) => {
+            put(code, Instr::OpenRef(*count))?;
+            Ok(Some(Front::Value(object)))
+        }
+        TRows::Longer(whole, lengths) => {
+            put_lengths(code, lengths)?;
+            Ok(Some(Front::Rows(whole)))
         }
     }
-}
-
-// Two texts and their relation, from the last instruction to the first.
-#[cycle(emit_back)]
-fn emit_texts_back(
-    scope: &Scope<'_>,
-    code: &mut Vec<Instr>,
-    relation: Relation,
-    left: &TRows,
-    right: &TRows,
-) -> Result<(), AllocError>
-    ensures { OnOk result (code.new.items ≡
-        back_rows (program_of scope.now) (own_of scope.now) (seen_rows left.now)
-        (back_rows (program_of scope.now) (own_of scope.now) (seen_rows right.now)
-        (code.old.items ++ Instr.CmpText relation ∷ []))) }
-{
-    put(code, Instr::CmpText(relation))?;
-    emit_rows_back(scope, code, right)?;
-    emit_rows_back(scope, code, left)
-}
-
-// The length of a dimension of an array, from the last instruction to the first.
-#[cycle(emit_back)]
-fn emit_length_back(
-    scope: &Scope<'_>,
-    code: &mut Vec<Instr>,
-    rows: &TRows,
-    dimension: u32,
-) -> Result<(), AllocError>
-    ensures { OnOk result (code.new.items ≡ back_rows (program_of scope.now) (own_of scope.now) (seen_rows rows.now)
-        (code.old.items ++ Instr.PickLen dimension (codes.dimensions (seen_rows rows.now)) ∷ [])) }
-{
-    let count = dimensions(rows)?;
-    put(code, Instr::PickLen(dimension, count))?;
-    emit_rows_back(scope, code, rows)
 }
 
 // So many operands are taken.
@@ -292,22 +210,13 @@ fn put_drops(code: &mut Vec<Instr>, count: u32) -> Result<(), AllocError>
     Ok(())
 }
 
-// A length that is known of an array, which is found first, from the last instruction to the first.
-#[cycle(emit_back)]
-fn emit_behind_back(
-    scope: &Scope<'_>,
-    code: &mut Vec<Instr>,
-    rows: &TRows,
-    length: u32,
-) -> Result<(), AllocError>
-    ensures { OnOk result (code.new.items ≡ back_rows (program_of scope.now) (own_of scope.now) (seen_rows rows.now)
-        (code.old.items ++ Instr.Num (pos length) ∷ drops (suc (codes.dimensions (seen_rows rows.now))))) }
+// A length that is known, behind an array that is found first and taken again: from the last instruction to the first.
+fn put_behind(code: &mut Vec<Instr>, count: u32, length: u32) -> Result<(), AllocError>
+    ensures { OnOk result (code.new.items ≡ code.old.items ++ Instr.Num (pos length) ∷ drops (suc count)) }
 {
-    let count = dimensions(rows)?;
     put(code, Instr::Num(i64::from(length)))?;
     put(code, Instr::Drop)?;
-    put_drops(code, count)?;
-    emit_rows_back(scope, code, rows)
+    put_drops(code, count)
 }
 
 // What is handed over for a parameter, from the last instruction to the first.
@@ -321,9 +230,9 @@ fn emit_argument_back(
         (seen_argument argument.now NoMore) code.old.items) }
 {
     match argument {
-        TArgument::Scalar(value) => emit_back(scope, code, value),
-        TArgument::Whole(place) => emit_place_back(scope, code, place),
-        TArgument::Opening(rows) => emit_rows_back(scope, code, rows),
+        TArgument::Scalar(value) => emit_back(scope, code, Front::Value(value)),
+        TArgument::Whole(place) => emit_back(scope, code, Front::Place(place)),
+        TArgument::Opening(rows) => emit_back(scope, code, Front::Rows(rows)),
     }
 }
 
@@ -346,7 +255,8 @@ fn emit_arguments_back(
     Ok(())
 }
 
-// What calls a procedure: a method is found by the object's own type, or known where it is called on SELF.
+// What calls a procedure: a method is found by the object's own type, or known where it is called on SELF; a value of a procedure
+// type says which one it stands for.
 fn call_instr(scope: &Scope<'_>, callee: &TCallee) -> Result<Instr, AllocError>
     ensures { IfOk result (λ i. i ≡ codes.call_instr (program_of scope.now) (seen_callee callee.now)) }
 {
@@ -354,42 +264,48 @@ fn call_instr(scope: &Scope<'_>, callee: &TCallee) -> Result<Instr, AllocError>
         TCallee::Plain(home, number) => Ok(Instr::Call(scope.called(*home, *number)?)),
         TCallee::Dispatched(_, of, slot) => Ok(Instr::Virtual(*slot, scope.method(*of, *slot)?)),
         TCallee::Upper(of, slot) => Ok(Instr::Call(scope.method(*of, *slot)?)),
+        TCallee::Through(_, of) => Ok(Instr::CallValue(scope.body_beside(*of)?)),
     }
 }
 
-// What something is called on, from the last instruction to the first.
-#[cycle(emit_back)]
-fn emit_receiver_back(
+// What something is called on, which stands before all that it is handed.
+fn put_receiver<'b>(
     scope: &Scope<'_>,
     code: &mut Vec<Instr>,
-    callee: &TCallee,
-) -> Result<(), AllocError>
-    ensures { OnOk result (code.new.items ≡
+    callee: &'b TCallee,
+) -> Result<Option<Front<'b>>, AllocError>
+    ensures code { IfOk result (λ rest. back_rest (program_of scope.now) (own_of scope.now) rest code.new.items ≡
         back_receiver (program_of scope.now) (own_of scope.now) (seen_callee callee.now) code.old.items) }
+    ensures less { IfOk result (λ rest. rest_size rest ≤ suc (callee_size (seen_callee callee.now))) }
 {
     match callee {
-        TCallee::Plain(_, _) => Ok(()),
-        TCallee::Dispatched(object, _, _) => emit_back(scope, code, object),
-        TCallee::Upper(_, _) => put(code, Instr::SelfRef),
+        TCallee::Plain(_, _) => Ok(None),
+        TCallee::Dispatched(object, _, _) => Ok(Some(Front::Value(object))),
+        TCallee::Upper(_, _) => {
+            put(code, Instr::SelfRef)?;
+            Ok(None)
+        }
+        TCallee::Through(value, _) => Ok(Some(Front::Value(value))),
     }
 }
 
-// A call, from the last instruction to the first.
+// A call without what something is called on, from the last instruction to the first.
 #[cycle(emit_back)]
-fn emit_call_back(
+fn emit_call_end<'b>(
     scope: &Scope<'_>,
     code: &mut Vec<Instr>,
-    callee: &TCallee,
+    callee: &'b TCallee,
     arguments: &[TArgument],
-) -> Result<(), AllocError>
-    ensures { OnOk result (code.new.items ≡
+) -> Result<Option<Front<'b>>, AllocError>
+    ensures code { IfOk result (λ rest. back_rest (program_of scope.now) (own_of scope.now) rest code.new.items ≡
         back_receiver (program_of scope.now) (own_of scope.now) (seen_callee callee.now)
         (back_arguments (program_of scope.now) (own_of scope.now) (seen_list arguments.now)
         (code.old.items ++ codes.call_instr (program_of scope.now) (seen_callee callee.now) ∷ []))) }
+    ensures less { IfOk result (λ rest. rest_size rest ≤ suc (callee_size (seen_callee callee.now))) }
 {
     put(code, call_instr(scope, callee)?)?;
     emit_arguments_back(scope, code, arguments)?;
-    emit_receiver_back(scope, code, callee)
+    put_receiver(scope, code, callee)
 }
 
 // The second operand of `&` with what stands around it, from the last instruction to the first.
@@ -404,7 +320,7 @@ fn emit_and_back(scope: &Scope<'_>, code: &mut Vec<Instr>, second: &TExpr) -> Re
     put(code, Instr::Num(0))?;
     let from_false = next_place(code)?;
     put(code, Instr::Jump(past))?;
-    emit_back(scope, code, second)?;
+    emit_back(scope, code, Front::Value(second))?;
     put(code, Instr::JumpFalse(from_false))
 }
 
@@ -415,7 +331,7 @@ fn emit_or_back(scope: &Scope<'_>, code: &mut Vec<Instr>, second: &TExpr) -> Res
         code.new.items ≡ all ++ Instr.Jump (length code.old.items) ∷ Instr.Num (pos 1) ∷ Instr.JumpFalse (length all) ∷ []) }
 {
     let behind = next_place(code)?;
-    emit_back(scope, code, second)?;
+    emit_back(scope, code, Front::Value(second))?;
     let from_second = next_place(code)?;
     put(code, Instr::Jump(behind))?;
     put(code, Instr::Num(1))?;
@@ -430,70 +346,147 @@ fn put_element(code: &mut Vec<Instr>) -> Result<(), AllocError>
     put(code, Instr::Dup)
 }
 
-// The code of an expression, from its last instruction to its first. A long sum has as many left operands, one in
-// another: the loop over them takes no stack. A jump is given the number of instructions from its target to the end.
+// The last instructions of an expression, and what stands before them. A jump is given the number of instructions from its
+// target to the end.
 #[cycle(emit_back)]
-fn emit_back(scope: &Scope<'_>, code: &mut Vec<Instr>, value: &TExpr) -> Result<(), AllocError>
-    ensures { OnOk result (code.new.items ≡ back_code (program_of scope.now) (own_of scope.now) (seen_expr value.now) code.old.items) }
+fn emit_value_end<'b>(
+    scope: &Scope<'_>,
+    code: &mut Vec<Instr>,
+    value: &'b TExpr,
+) -> Result<Option<Front<'b>>, AllocError>
+    ensures code { IfOk result (λ rest. back_rest (program_of scope.now) (own_of scope.now) rest code.new.items ≡
+        back_code (program_of scope.now) (own_of scope.now) (seen_expr value.now) code.old.items) }
+    ensures less { IfOk result (λ rest. rest_size rest ≤ value_size (seen_expr value.now)) }
 {
-    let mut rest = value;
-    loop {
-        match rest {
-            TExpr::Lit(literal) => return put(code, literal_instr(*literal)),
-            TExpr::SelfRef => return put(code, Instr::SelfRef),
-            TExpr::Read(of, place) => return emit_read_back(scope, code, *of, place),
-            TExpr::Len(rows, number) => return emit_length_back(scope, code, rows, *number),
-            TExpr::LenBehind(rows, length) => return emit_behind_back(scope, code, rows, *length),
-            TExpr::CompareTexts(relation, left, right) => {
-                return emit_texts_back(scope, code, *relation, left, right);
-            }
-            TExpr::Function(callee, arguments) => {
-                return emit_call_back(scope, code, callee, arguments);
-            }
-            TExpr::Unary(operator, operand) => {
-                put(code, Instr::Unary(*operator))?;
-                rest = operand;
-            }
-            TExpr::Binary(operator, left, right) => {
-                put(code, Instr::Binary(*operator))?;
-                emit_back(scope, code, right)?;
-                rest = left;
-            }
-            TExpr::And(left, right) => {
-                emit_and_back(scope, code, right)?;
-                rest = left;
-            }
-            TExpr::Or(left, right) => {
-                emit_or_back(scope, code, right)?;
-                rest = left;
-            }
-            TExpr::Element(operand) => {
-                put_element(code)?;
-                rest = operand;
-            }
-            TExpr::Ord(operand) => rest = operand,
-            TExpr::Chr(operand) => {
-                put(code, Instr::Unary(Unary::Range(0, 255)))?;
-                rest = operand;
-            }
-            TExpr::Same(left, right) => {
-                put(code, Instr::EqRef)?;
-                emit_back(scope, code, right)?;
-                rest = left;
-            }
-            TExpr::Is(operand, of) => {
-                put(code, Instr::Is(described(*of)?))?;
-                rest = operand;
-            }
-            TExpr::IsRecord(place, of) => {
-                put(code, Instr::IsPlace(described(*of)?))?;
-                return emit_place_back(scope, code, place);
-            }
-            TExpr::Guard(operand, of) => {
-                put(code, Instr::Guard(described(*of)?))?;
-                rest = operand;
-            }
+    match value {
+        TExpr::Lit(literal) => {
+            put(code, literal_instr(*literal))?;
+            Ok(None)
         }
+        TExpr::SelfRef => {
+            put(code, Instr::SelfRef)?;
+            Ok(None)
+        }
+        TExpr::Read(of, place) => {
+            put(code, Instr::Load(scope.cell_kind(*of)))?;
+            Ok(Some(Front::Place(place)))
+        }
+        TExpr::Len(rows, number) => {
+            put(code, Instr::PickLen(*number, dimensions(rows)?))?;
+            Ok(Some(Front::Rows(rows)))
+        }
+        TExpr::LenBehind(rows, length) => {
+            put_behind(code, dimensions(rows)?, *length)?;
+            Ok(Some(Front::Rows(rows)))
+        }
+        TExpr::CompareTexts(relation, left, right) => {
+            put(code, Instr::CmpText(*relation))?;
+            emit_back(scope, code, Front::Rows(right))?;
+            Ok(Some(Front::Rows(left)))
+        }
+        TExpr::Function(callee, arguments) => emit_call_end(scope, code, callee, arguments),
+        TExpr::Unary(operator, operand) => {
+            put(code, Instr::Unary(*operator))?;
+            Ok(Some(Front::Value(operand)))
+        }
+        TExpr::Binary(operator, left, right) => {
+            put(code, Instr::Binary(*operator))?;
+            emit_back(scope, code, Front::Value(right))?;
+            Ok(Some(Front::Value(left)))
+        }
+        TExpr::And(left, right) => {
+            emit_and_back(scope, code, right)?;
+            Ok(Some(Front::Value(left)))
+        }
+        TExpr::Or(left, right) => {
+            emit_or_back(scope, code, right)?;
+            Ok(Some(Front::Value(left)))
+        }
+        TExpr::Element(operand) => {
+            put_element(code)?;
+            Ok(Some(Front::Value(operand)))
+        }
+        TExpr::Ord(operand) => Ok(Some(Front::Value(operand))),
+        TExpr::Chr(operand) => {
+            put(code, Instr::Unary(Unary::Range(0, 255)))?;
+            Ok(Some(Front::Value(operand)))
+        }
+        TExpr::Same(left, right) => {
+            put(code, Instr::EqRef)?;
+            emit_back(scope, code, Front::Value(right))?;
+            Ok(Some(Front::Value(left)))
+        }
+        TExpr::Is(operand, of) => {
+            put(code, Instr::Is(described(*of)?))?;
+            Ok(Some(Front::Value(operand)))
+        }
+        TExpr::IsRecord(place, of) => {
+            put(code, Instr::IsPlace(described(*of)?))?;
+            Ok(Some(Front::Place(place)))
+        }
+        TExpr::Guard(operand, of) => {
+            put(code, Instr::Guard(described(*of)?))?;
+            Ok(Some(Front::Value(operand)))
+        }
+        TExpr::ProcedureOf(home, number) => {
+            put(code, Instr::Proc(scope.called(*home, *number)?))?;
+            Ok(None)
+        }
+        TExpr::MethodOf(operand, _, slot) => {
+            put(code, Instr::Bind(*slot))?;
+            Ok(Some(Front::Value(operand)))
+        }
+        TExpr::SameProcedure(left, right) => {
+            put(code, Instr::EqCall)?;
+            emit_back(scope, code, Front::Value(right))?;
+            Ok(Some(Front::Value(left)))
+        }
+    }
+}
+
+#[cycle(emit_back)]
+fn emit_end<'b>(
+    scope: &Scope<'_>,
+    code: &mut Vec<Instr>,
+    front: Front<'b>,
+) -> Result<Option<Front<'b>>, AllocError>
+    ensures code { IfOk result (λ rest. back_rest (program_of scope.now) (own_of scope.now) rest code.new.items ≡
+        back_front (program_of scope.now) (own_of scope.now) front.entry code.old.items) }
+    ensures less { IfOk result (λ rest. rest_size rest ≤ front_size front.entry) }
+{
+    match front {
+        Front::Value(value) => emit_value_end(scope, code, value),
+        Front::Place(place) => emit_place_end(scope, code, place),
+        Front::Rows(rows) => emit_rows_end(scope, code, rows),
+    }
+}
+
+// The code of a designator, an array or an expression, from its last instruction to its first. A long designator and a long sum
+// have as many parts, one in another: the loop over them takes no stack.
+#[cycle(emit_back)]
+fn emit_back(scope: &Scope<'_>, code: &mut Vec<Instr>, all: Front<'_>) -> Result<(), AllocError>
+    ensures { OnOk result (code.new.items ≡ back_front (program_of scope.now) (own_of scope.now) all.entry code.old.items) }
+{
+    let mut rest = Some(all);
+    while let Some(front) = rest {
+        rest = emit_end(scope, code, front)?;
+    }
+    Ok(())
+}
+
+// The code of a call, from its last instruction to its first.
+fn emit_call_back(
+    scope: &Scope<'_>,
+    code: &mut Vec<Instr>,
+    callee: &TCallee,
+    arguments: &[TArgument],
+) -> Result<(), AllocError>
+    ensures { OnOk result (code.new.items ≡ back_code (program_of scope.now) (own_of scope.now)
+        (Function (seen_callee callee.now) (seen_list arguments.now)) code.old.items) }
+{
+    match emit_call_end(scope, code, callee, arguments)? {
+        Some(object) => emit_back(scope, code, object),
+        None => Ok(()),
     }
 }
 
@@ -532,7 +525,7 @@ pub fn emit_place(
         place_code (program_of scope.now) (own_of scope.now) (seen_place place.now) (length code.old.items)) }
 {
     let mut back = Vec::new(alloc);
-    emit_place_back(scope, &mut back, place)?;
+    emit_back(scope, &mut back, Front::Place(place))?;
     put_forwards(code, back)
 }
 
@@ -547,7 +540,7 @@ pub fn emit_rows(
         rows_code (program_of scope.now) (own_of scope.now) (seen_rows rows.now) (length code.old.items)) }
 {
     let mut back = Vec::new(alloc);
-    emit_rows_back(scope, &mut back, rows)?;
+    emit_back(scope, &mut back, Front::Rows(rows))?;
     put_forwards(code, back)
 }
 
@@ -568,6 +561,21 @@ pub fn emit_call(
     put_forwards(code, back)
 }
 
+/// The code of what is handed over.
+pub fn emit_arguments(
+    alloc: Global,
+    scope: &Scope<'_>,
+    code: &mut Vec<Instr>,
+    arguments: &[TArgument],
+) -> Result<(), AllocError>
+    ensures { OnOk result (code.new.items ≡ code.old.items ++
+        arguments_code (program_of scope.now) (own_of scope.now) (seen_list arguments.now) (length code.old.items)) }
+{
+    let mut back = Vec::new(alloc);
+    emit_arguments_back(scope, &mut back, arguments)?;
+    put_forwards(code, back)
+}
+
 /// The code of an expression.
 pub fn emit_value(
     alloc: Global,
@@ -579,6 +587,6 @@ pub fn emit_value(
         value_code (program_of scope.now) (own_of scope.now) (seen_expr value.now) (length code.old.items)) }
 {
     let mut back = Vec::new(alloc);
-    emit_back(scope, &mut back, value)?;
+    emit_back(scope, &mut back, Front::Value(value))?;
     put_forwards(code, back)
 }

@@ -3,6 +3,7 @@
 
 mod bodies;
 mod emit;
+mod fronts;
 mod need;
 mod objects;
 mod scope;

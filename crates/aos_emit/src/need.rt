@@ -1,11 +1,15 @@
 // How many operands code has at most.
 
-ghost use Rattle.std.specs.Prelude.{◌≡◌, ◌+◌, map, max, IfOk};
+ghost use Rattle.std.specs.Prelude.{◌≡◌, ◌+◌, ◌≤◌, suc, map, max, IfOk};
 ghost use Rattle.aos_typed.specs.Seen.{seen_place, seen_rows, seen_argument, seen_list, seen_callee, seen_expr, seen_call, seen_stat, seen_stats, seen_else, arms_of, cases_of};
-ghost use Rattle.aos_typed.specs.Program.{Arguments};
+ghost use Rattle.aos_typed.specs.Program.{Arguments, Function};
+ghost use Rattle.aos_emit.specs.Parts.{place_size, rows_size, callee_size, value_size, front_size, rest_size, rest_need};
+ghost use Rattle.aos_emit.specs.Parts as parts;
 ghost use Rattle.aos_sim.specs.Need as need_of;
 
-use crate::emit::{dimensions, number_of};
+use crate::emit::number_of;
+use crate::fronts::Front;
+use aos_laid::{dimensions, operands};
 use aos_typed::{
     Change, OutCall, TArgument, TArm, TCallee, TCase, TElse, TExpr, TPlace, TRows, TStat,
 };
@@ -21,71 +25,55 @@ fn above(others: u32, need: u32) -> Result<u32, AllocError>
     }
 }
 
-// A long designator has as many parts, one in another: the loop over them takes no stack.
+// How many operands what is left of a designator needs, where its last instructions need so many: as many as the whole.
 #[cycle(value_need)]
-fn place_need(place: &TPlace) -> Result<u32, AllocError>
-    ensures { IfOk result (λ n. n ≡ need_of.place_need (seen_place place.now)) }
+fn place_end<'b>(place: &'b TPlace) -> Result<(u32, Option<Front<'b>>), AllocError>
+    ensures need { IfOk result (λ r. max r.0 (rest_need r.1) ≡ need_of.place_need (seen_place place.now)) }
+    ensures less { IfOk result (λ r. rest_size r.1 ≤ place_size (seen_place place.now)) }
 {
-    let mut rest = place;
-    let mut need = 0;
-    loop {
-        match rest {
-            TPlace::ModuleVar(_, _) => return Ok(need.max(1)),
-            TPlace::Local(_) => return Ok(need.max(1)),
-            TPlace::Passed(_) => return Ok(need.max(1)),
-            TPlace::Of(rows) => return Ok(need.max(rows_need(rows)?)),
-            TPlace::Deref(object, _) => return Ok(need.max(value_need(object)?)),
-            TPlace::Typed(whole, _) => rest = whole,
-            TPlace::Guarded(whole, _) => rest = whole,
-            TPlace::Field(whole, _, _) => rest = whole,
-            TPlace::Index(whole, _, _, index) => {
-                need = need.max(above(1, value_need(index)?)?);
-                rest = whole;
-            }
+    match place {
+        TPlace::ModuleVar(_, _) => Ok((1, None)),
+        TPlace::Local(_) => Ok((1, None)),
+        TPlace::Passed(_) => Ok((1, None)),
+        TPlace::Of(rows) => Ok((0, Some(Front::Rows(rows)))),
+        TPlace::Deref(object, _) => Ok((0, Some(Front::Value(object)))),
+        TPlace::Typed(whole, _) => Ok((0, Some(Front::Place(whole)))),
+        TPlace::Guarded(whole, _) => Ok((0, Some(Front::Place(whole)))),
+        TPlace::Field(whole, _, _) => Ok((0, Some(Front::Place(whole)))),
+        TPlace::Index(whole, _, _, index) => {
+            let need = above(1, value_need(index)?)?;
+            Ok((need, Some(Front::Place(whole))))
         }
     }
 }
 
 // An array: the lengths of its dimensions lie above its place.
 #[cycle(value_need)]
-fn rows_need(rows: &TRows) -> Result<u32, AllocError>
-    ensures { IfOk result (λ n. n ≡ need_of.rows_need (seen_rows rows.now)) }
+fn rows_end<'b>(rows: &'b TRows) -> Result<(u32, Option<Front<'b>>), AllocError>
+    ensures need { IfOk result (λ r. max r.0 (rest_need r.1) ≡ need_of.rows_need (seen_rows rows.now)) }
+    ensures less { IfOk result (λ r. rest_size r.1 ≤ rows_size (seen_rows rows.now)) }
 {
-    let mut rest = rows;
-    let mut need = 0;
-    loop {
-        match rest {
-            TRows::Known(place, lengths) => {
-                need = need.max(above(1, number_of(lengths.len())?)?);
-                return Ok(need.max(place_need(place)?));
-            }
-            TRows::Opened(_, count) => return Ok(need.max(above(1, *count)?)),
-            TRows::Row(whole, _, index) => {
-                let below = above(1, dimensions(whole)?)?;
-                need = need.max(above(below, value_need(index)?)?);
-                rest = whole;
-            }
-            TRows::Spread(object, count) => {
-                need = need.max(above(1, *count)?);
-                return Ok(need.max(value_need(object)?));
-            }
-            TRows::Longer(whole, lengths) => {
-                let below = above(1, dimensions(whole)?)?;
-                need = need.max(above(below, number_of(lengths.len())?)?);
-                rest = whole;
-            }
+    match rows {
+        TRows::Known(place, lengths) => {
+            let need = above(1, number_of(lengths.len())?)?;
+            Ok((need, Some(Front::Place(place))))
+        }
+        TRows::Opened(_, count) => Ok((above(1, *count)?, None)),
+        TRows::Row(whole, _, index) => {
+            let below = above(1, dimensions(whole)?)?;
+            let need = above(below, value_need(index)?)?;
+            Ok((need, Some(Front::Rows(whole))))
+        }
+        TRows::Spread(object, count) => {
+            let need = above(1, *count)?;
+            Ok((need, Some(Front::Value(object))))
+        }
+        TRows::Longer(whole, lengths) => {
+            let below = above(1, dimensions(whole)?)?;
+            let need = above(below, number_of(lengths.len())?)?;
+            Ok((need, Some(Front::Rows(whole))))
         }
     }
-}
-
-// Two texts: the first lies below the second.
-#[cycle(value_need)]
-fn texts_need(left: &TRows, right: &TRows) -> Result<u32, AllocError>
-    ensures { IfOk result (λ n. n ≡ need_of.texts_need
-        (need_of.rows_need (seen_rows left.now)) (need_of.rows_need (seen_rows right.now))) }
-{
-    let first = rows_need(left)?;
-    Ok(first.max(above(2, rows_need(right)?)?))
 }
 
 // What is handed over for a parameter, where what is handed over behind it needs so many.
@@ -127,77 +115,157 @@ fn receivers(callee: &TCallee) -> u32
         TCallee::Plain(_, _) => 0,
         TCallee::Dispatched(_, _, _) => 1,
         TCallee::Upper(_, _) => 1,
+        TCallee::Through(_, _) => 1,
     }
 }
 
-#[cycle(value_need)]
-fn receiver_need(callee: &TCallee) -> Result<u32, AllocError>
-    ensures { IfOk result (λ n. n ≡ need_of.receiver_need (seen_callee callee.now)) }
+// What something is called on, which is found before all that it is handed.
+fn receiver_end<'b>(callee: &'b TCallee) -> (u32, Option<Front<'b>>)
+    ensures need { max result.0 (rest_need result.1) ≡ need_of.receiver_need (seen_callee callee.now) }
+    ensures less { rest_size result.1 ≤ suc (callee_size (seen_callee callee.now)) }
 {
     match callee {
-        TCallee::Plain(_, _) => Ok(0),
-        TCallee::Dispatched(object, _, _) => value_need(object),
-        TCallee::Upper(_, _) => Ok(1),
+        TCallee::Plain(_, _) => (0, None),
+        TCallee::Dispatched(object, _, _) => (0, Some(Front::Value(object))),
+        TCallee::Upper(_, _) => (1, None),
+        TCallee::Through(value, _) => (0, Some(Front::Value(value))),
     }
 }
 
 // A call: what something is called on lies below what is handed over.
 #[cycle(value_need)]
+fn call_end<'b>(
+    callee: &'b TCallee,
+    arguments: &[TArgument],
+) -> Result<(u32, Option<Front<'b>>), AllocError>
+    ensures need { IfOk result (λ r. max r.0 (rest_need r.1) ≡ max
+        (need_of.receiver_need (seen_callee callee.now))
+        (need_of.receivers (seen_callee callee.now) + need_of.arguments_need (seen_list arguments.now))) }
+    ensures less { IfOk result (λ r. rest_size r.1 ≤ suc (callee_size (seen_callee callee.now))) }
+{
+    let handed = above(receivers(callee), arguments_need(arguments)?)?;
+    let (first, rest) = receiver_end(callee);
+    Ok((handed.max(first), rest))
+}
+
+#[cycle(value_need)]
+fn function_end<'b>(
+    callee: &'b TCallee,
+    arguments: &[TArgument],
+) -> Result<(u32, Option<Front<'b>>), AllocError>
+    ensures need { IfOk result (λ r. max r.0 (rest_need r.1) ≡
+        need_of.value_need (Function (seen_callee callee.now) (seen_list arguments.now))) }
+    ensures less { IfOk result (λ r. rest_size r.1 ≤ suc (callee_size (seen_callee callee.now))) }
+{
+    let (need, rest) = call_end(callee, arguments)?;
+    Ok((need.max(1), rest))
+}
+
+#[cycle(value_need)]
+fn value_end<'b>(value: &'b TExpr) -> Result<(u32, Option<Front<'b>>), AllocError>
+    ensures need { IfOk result (λ r. max r.0 (rest_need r.1) ≡ need_of.value_need (seen_expr value.now)) }
+    ensures less { IfOk result (λ r. rest_size r.1 ≤ value_size (seen_expr value.now)) }
+{
+    match value {
+        TExpr::Lit(_) => Ok((1, None)),
+        TExpr::SelfRef => Ok((1, None)),
+        TExpr::Read(_, place) => Ok((0, Some(Front::Place(place)))),
+        TExpr::Len(rows, _) => Ok((0, Some(Front::Rows(rows)))),
+        TExpr::LenBehind(rows, _) => Ok((0, Some(Front::Rows(rows)))),
+        TExpr::CompareTexts(_, left, right) => {
+            let need = above(2, rows_need(right)?)?;
+            Ok((need, Some(Front::Rows(left))))
+        }
+        TExpr::Function(callee, arguments) => function_end(callee, arguments),
+        TExpr::Unary(_, operand) => Ok((0, Some(Front::Value(operand)))),
+        TExpr::Binary(_, left, right) => Ok((
+            above(1, value_need(right)?)?,
+            Some(Front::Value(left)),
+        )),
+        TExpr::And(left, right) => Ok((value_need(right)?, Some(Front::Value(left)))),
+        TExpr::Or(left, right) => Ok((value_need(right)?, Some(Front::Value(left)))),
+        TExpr::Element(operand) => Ok((2, Some(Front::Value(operand)))),
+        TExpr::Ord(operand) => Ok((0, Some(Front::Value(operand)))),
+        TExpr::Chr(operand) => Ok((0, Some(Front::Value(operand)))),
+        TExpr::Same(left, right) => Ok((above(1, value_need(right)?)?, Some(Front::Value(left)))),
+        TExpr::Is(operand, _) => Ok((0, Some(Front::Value(operand)))),
+        TExpr::IsRecord(place, _) => Ok((0, Some(Front::Place(place)))),
+        TExpr::Guard(operand, _) => Ok((0, Some(Front::Value(operand)))),
+        TExpr::ProcedureOf(_, _) => Ok((1, None)),
+        TExpr::MethodOf(operand, _, _) => Ok((0, Some(Front::Value(operand)))),
+        TExpr::SameProcedure(left, right) => {
+            Ok((above(1, value_need(right)?)?, Some(Front::Value(left))))
+        }
+    }
+}
+
+#[cycle(value_need)]
+fn front_end<'b>(front: Front<'b>) -> Result<(u32, Option<Front<'b>>), AllocError>
+    ensures need { IfOk result (λ r. max r.0 (rest_need r.1) ≡ parts.front_need front.entry) }
+    ensures less { IfOk result (λ r. rest_size r.1 ≤ front_size front.entry) }
+{
+    match front {
+        Front::Value(value) => value_end(value),
+        Front::Place(place) => place_end(place),
+        Front::Rows(rows) => rows_end(rows),
+    }
+}
+
+// A long designator and a long sum have as many parts, one in another: the loop over them takes no stack.
+#[cycle(value_need)]
+fn front_need(all: Front<'_>) -> Result<u32, AllocError>
+    ensures { IfOk result (λ n. n ≡ parts.front_need all.entry) }
+{
+    let mut need = 0;
+    let mut rest = Some(all);
+    while let Some(front) = rest {
+        let (last, before) = front_end(front)?;
+        need = need.max(last);
+        rest = before;
+    }
+    Ok(need)
+}
+
+#[cycle(value_need)]
+fn value_need(value: &TExpr) -> Result<u32, AllocError>
+    ensures { IfOk result (λ n. n ≡ need_of.value_need (seen_expr value.now)) }
+{
+    front_need(Front::Value(value))
+}
+
+#[cycle(value_need)]
+fn place_need(place: &TPlace) -> Result<u32, AllocError>
+    ensures { IfOk result (λ n. n ≡ need_of.place_need (seen_place place.now)) }
+{
+    front_need(Front::Place(place))
+}
+
+#[cycle(value_need)]
+fn rows_need(rows: &TRows) -> Result<u32, AllocError>
+    ensures { IfOk result (λ n. n ≡ need_of.rows_need (seen_rows rows.now)) }
+{
+    front_need(Front::Rows(rows))
+}
+
 fn call_need(callee: &TCallee, arguments: &[TArgument]) -> Result<u32, AllocError>
     ensures { IfOk result (λ n. n ≡ max
         (need_of.receiver_need (seen_callee callee.now))
         (need_of.receivers (seen_callee callee.now) + need_of.arguments_need (seen_list arguments.now))) }
 {
-    let handed = above(receivers(callee), arguments_need(arguments)?)?;
-    Ok(handed.max(receiver_need(callee)?))
+    let (handed, rest) = call_end(callee, arguments)?;
+    match rest {
+        Some(object) => Ok(handed.max(front_need(object)?)),
+        None => Ok(handed),
+    }
 }
 
-// A long sum has as many left operands, one in another: the loop over them takes no stack.
-#[cycle(value_need)]
-fn value_need(value: &TExpr) -> Result<u32, AllocError>
-    ensures { IfOk result (λ n. n ≡ need_of.value_need (seen_expr value.now)) }
+// Two texts: the first lies below the second.
+fn texts_need(left: &TRows, right: &TRows) -> Result<u32, AllocError>
+    ensures { IfOk result (λ n. n ≡ need_of.texts_need
+        (need_of.rows_need (seen_rows left.now)) (need_of.rows_need (seen_rows right.now))) }
 {
-    let mut rest = value;
-    let mut need = 0;
-    loop {
-        match rest {
-            TExpr::Lit(_) => return Ok(need.max(1)),
-            TExpr::SelfRef => return Ok(need.max(1)),
-            TExpr::Read(_, place) => return Ok(need.max(place_need(place)?)),
-            TExpr::Len(rows, _) => return Ok(need.max(rows_need(rows)?)),
-            TExpr::LenBehind(rows, _) => return Ok(need.max(rows_need(rows)?)),
-            TExpr::CompareTexts(_, left, right) => return Ok(need.max(texts_need(left, right)?)),
-            TExpr::Function(callee, arguments) => {
-                return Ok(need.max(1).max(call_need(callee, arguments)?));
-            }
-            TExpr::Unary(_, operand) => rest = operand,
-            TExpr::Binary(_, left, right) => {
-                need = need.max(above(1, value_need(right)?)?);
-                rest = left;
-            }
-            TExpr::And(left, right) => {
-                need = need.max(value_need(right)?);
-                rest = left;
-            }
-            TExpr::Or(left, right) => {
-                need = need.max(value_need(right)?);
-                rest = left;
-            }
-            TExpr::Element(operand) => {
-                need = need.max(2);
-                rest = operand;
-            }
-            TExpr::Ord(operand) => rest = operand,
-            TExpr::Chr(operand) => rest = operand,
-            TExpr::Same(left, right) => {
-                need = need.max(above(1, value_need(right)?)?);
-                rest = left;
-            }
-            TExpr::Is(operand, _) => rest = operand,
-            TExpr::IsRecord(place, _) => return Ok(need.max(place_need(place)?)),
-            TExpr::Guard(operand, _) => rest = operand,
-        }
-    }
+    let first = rows_need(left)?;
+    Ok(first.max(above(2, rows_need(right)?)?))
 }
 
 fn out_need(call: &OutCall) -> Result<u32, AllocError>
@@ -267,6 +335,18 @@ fn make_need(place: &TPlace, lengths: &[TExpr]) -> Result<u32, AllocError>
         max (need_of.place_need (seen_place place.now)) (1 + max 1 (need_of.values_need (map seen_expr lengths.now)))) }
 {
     let made = above(1, values_need(lengths)?.max(1))?;
+    Ok(made.max(place_need(place)?))
+}
+
+// The place that an object is stored at lies below what its initializer is handed; that lies once more above the object, which is
+// there twice.
+fn new_need(place: &TPlace, arguments: &[TArgument]) -> Result<u32, AllocError>
+    ensures { IfOk result (λ n. n ≡ max
+        (need_of.place_need (seen_place place.now))
+        (1 + max (need_of.arguments_need (seen_list arguments.now)) (2 + need_of.operands (seen_list arguments.now)))) }
+{
+    let handed = above(2, operands(arguments)?)?;
+    let made = above(1, arguments_need(arguments)?.max(handed))?;
     Ok(made.max(place_need(place)?))
 }
 
@@ -352,7 +432,7 @@ fn stat_need(statement: &TStat) -> Result<u32, AllocError>
         TStat::Perform(_, callee, arguments) => call_need(callee, arguments),
         TStat::Return(_, None) => Ok(0),
         TStat::Return(_, Some(value)) => value_need(value),
-        TStat::New(_, place, _) => above(2, place_need(place)?),
+        TStat::New(_, place, _, arguments) => new_need(place, arguments),
         TStat::Make(_, place, _, lengths) => make_need(place, lengths),
         TStat::With(_, object, body) => {
             let guarded = value_need(object)?;

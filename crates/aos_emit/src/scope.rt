@@ -1,17 +1,18 @@
 // A routine whose code is emitted: its program, and its procedure with its cells, if the routine is one.
 
-ghost use Rattle.std.specs.Prelude.{◌≡◌, None, Some, slice_get, IfOk};
+ghost use Rattle.std.specs.Prelude.{◌≡◌, None, Some, reverse, slice_get, if◌then◌else◌, IfOk};
 ghost use Rattle.std.specs.Option.{unwrap_or};
-ghost use Rattle.aos_typed.specs.Methods.{method_number};
-ghost use Rattle.aos_typed.specs.Numbers.{procedure_number};
-ghost use Rattle.aos_typed.specs.Routines.{gives};
+ghost use Rattle.aos_typed.specs.Methods.{body_type, initializer, is_active, method_number};
+ghost use Rattle.aos_typed.specs.Numbers.{body_number, procedure_number};
+ghost use Rattle.aos_typed.specs.Routines.{gives, parameters_at};
 ghost use Rattle.aos_typed.specs.Seen.{seen_program, seen_procedure};
-ghost use Rattle.aos_sim.specs.Code.{variable_cell, own_cell, field_cell, cells_of};
+ghost use Rattle.aos_sim.specs.Code.{variable_cell, own_cell, field_cell, cells_of, handed_kinds, kind_of};
 ghost use Rattle.aos_emit.specs.Scope.{AreOwn, program_of, own_of};
 
+use aos_code::Kind;
 use aos_laid::Laid;
 use aos_typed::{TProcedure, TType};
-use std::alloc::AllocError;
+use std::alloc::{AllocError, Global};
 use std::marker::Model;
 
 /// A routine of a program: its procedure, if it is one, and the first cell of each parameter and then of each local.
@@ -99,6 +100,20 @@ impl<'a> Scope<'a> {
         self.program.cells_of(of)
     }
 
+    /// The kind of what a variable of a type holds.
+    pub fn cell_kind(&self, of: TType) -> Kind
+        ensures { result ≡ kind_of (program_of self.now).types of }
+    {
+        match of {
+            TType::Integer(_) => Kind::N,
+            TType::Boolean => Kind::N,
+            TType::Char => Kind::N,
+            TType::Set => Kind::N,
+            TType::Any => Kind::R,
+            TType::Named(_) => named_kind(self.program.is_procedure(of)),
+        }
+    }
+
     /// The number of a procedure, by the numbers of its module and its own there.
     pub fn called(&self, home: u32, number: u32) -> Result<u32, AllocError>
         ensures { IfOk result (λ n. n ≡ procedure_number (program_of self.now) home number) }
@@ -113,6 +128,42 @@ impl<'a> Scope<'a> {
         self.program.method(of, slot)
     }
 
+    /// The number of the body beside a type, by the type's number in the program.
+    pub fn body_beside(&self, of: u32) -> Result<u32, AllocError>
+        ensures { IfOk result (λ n. n ≡ body_number (program_of self.now) of) }
+    {
+        self.program.body(of)
+    }
+
+    /// The type whose body the objects of a type have, by the numbers of both in the program.
+    pub fn body_type(&self, of: u32) -> Result<Option<u32>, AllocError>
+        ensures { IfOk result (λ t. t ≡ body_type (program_of self.now) of) }
+    {
+        self.program.body_type(of)
+    }
+
+    /// Whether the body of a type is carried out by activities of its objects' own, by the type's number in the program.
+    pub fn is_active(&self, of: u32) -> bool
+        ensures { result ≡ is_active (program_of self.now) of }
+    {
+        self.program.is_active(of)
+    }
+
+    /// The slot of the initializer that the objects of a type have, by the type's number in the program.
+    pub fn initializer(&self, of: u32) -> Result<Option<u32>, AllocError>
+        ensures { IfOk result (λ k. k ≡ initializer (program_of self.now) of) }
+    {
+        self.program.initializer(of)
+    }
+
+    /// The kinds of what a call of the routine of this number takes beside an object, the topmost operand first.
+    pub fn taken(&self, alloc: Global, number: u32) -> Result<Vec<Kind>, AllocError>
+        ensures { IfOk result (λ kinds. kinds.items ≡ reverse (handed_kinds (program_of self.now).types
+            (parameters_at (program_of self.now) number))) }
+    {
+        self.program.taken(alloc, number)
+    }
+
     /// Whether the routine is a function.
     pub fn gives(&self) -> bool
         ensures { result ≡ gives (own_of self.now) }
@@ -122,6 +173,13 @@ impl<'a> Scope<'a> {
             None => false,
         }
     }
+}
+
+// The kind of what a variable of a named type holds, which may be a procedure type.
+fn named_kind(is_procedure: bool) -> Kind
+    ensures { result ≡ (if is_procedure then Kind.C else Kind.R) }
+{
+    if is_procedure { Kind::C } else { Kind::R }
 }
 
 // The cell of this number, or the one behind all.

@@ -13,8 +13,8 @@ ghost use Rattle.aos_sim.specs.Search.{arms_in, search_of, search_size, search_c
 ghost use Rattle.aos_sim.specs.Code.{begin, value_code, out_code, assign_code, change_code, changed_code, for_head, step_code, rounds_code, arm_code, stat_code, stats_code, arms_code, cases_code, arm_place, end_code, body_code};
 
 use crate::emit::{
-    PENDING_END, cell_kind, emit_begin, emit_call, emit_place, emit_rows, emit_value, next_place,
-    number_of, put,
+    PENDING_END, emit_begin, emit_call, emit_place, emit_rows, emit_value, next_place, number_of,
+    put,
 };
 use crate::need::stats_need;
 use crate::objects::{emit_make, emit_new, emit_object, emit_record};
@@ -111,7 +111,7 @@ fn emit_assign(
     emit_begin(code, at)?;
     emit_place(alloc, scope, code, place)?;
     emit_value(alloc, scope, code, value)?;
-    put(code, Instr::Store(cell_kind(of)))
+    put(code, Instr::Store(scope.cell_kind(of)))
 }
 
 fn emit_copy(
@@ -326,7 +326,7 @@ fn emit_test(
         (Instr.Kept level Kind.N ∷ (Instr.Binary (Binary.Cmp (meaning.until step.now)) ∷ [])))) }
 {
     emit_place(alloc, scope, code, variable)?;
-    put(code, Instr::Load(cell_kind(TType::Integer(width))))?;
+    put(code, Instr::Load(Kind::N))?;
     put(code, Instr::Kept(level, Kind::N))?;
     put(code, Instr::Binary(Binary::Cmp(until(step))))
 }
@@ -726,7 +726,9 @@ fn emit_stat(
             emit_perform(alloc, scope, code, *at, callee, arguments)
         }
         TStat::Return(at, value) => emit_return(alloc, scope, code, *at, value),
-        TStat::New(at, place, object) => emit_new(alloc, scope, code, *at, place, *object),
+        TStat::New(at, place, object, arguments) => {
+            emit_new(alloc, scope, code, *at, place, *object, arguments, level)
+        }
         TStat::Make(at, place, of, lengths) => {
             emit_make(alloc, scope, code, *at, place, *of, lengths)
         }

@@ -1,27 +1,25 @@
 -- What describes the modules and the types of a program, one more of them, and all.
-use Rattle.std.proofs.Common.{◌≡◌, ◌<◌, ℕ, zero, suc, ◌+◌, List, [], ◌∷◌, ◌++◌, Some, Option, length, map, take, drop, get_or, if◌then◌else◌, refl, sym, ap, ◌∙◌, subst, arith}
+use Rattle.std.proofs.Common.{◌≡◌, ◌<◌, ℕ, zero, suc, ◌+◌, List, [], ◌∷◌, ◌++◌, Some, Option, length, map, take, drop, get_or, refl, sym, ap, ◌∙◌, subst, arith}
 use Rattle.std.specs.Prelude.{slice_get}
 use Rattle.std.specs.List.{flat_map, range_with_len}
 use Rattle.std.specs.String.{string_bytes}
 use Rattle.std.specs.declared.vec.Vec.{Vec}
 use Rattle.std.specs.declared.alloc.Global.{Global}
-use Rattle.std.proofs.lemmas.List.{take-map, take_all}
 use Rattle.std.proofs.lemmas.List.FromFn.{map-range_with_len_more}
 use Rattle.aos_types.specs.declared.row.TypeRow.{TypeRow}
 use Rattle.aos_types.specs.Shape.{leaves, row}
 use Rattle.aos_types.specs.Table.{base_of}
 use Rattle.aos_typed.specs.Numbers.{predeclared_types}
 use Rattle.aos_typed.specs.declared.tree.TModule.{TModule}
-use Rattle.aos_typed.specs.declared.tree.TObject.{TObject}
-use Rattle.aos_typed.specs.Program.{Module, ObjectType, Program}
-use Rattle.aos_typed.specs.Seen.{seen_module, seen_object}
+use Rattle.aos_typed.specs.Program.{Module, Program}
+use Rattle.aos_typed.specs.Seen.{seen_module}
 use Rattle.aos_code.specs.Machine.{first_cell}
 use Rattle.aos_code.specs.declared.image.ModuleDesc.{ModuleDesc}
 use Rattle.aos_code.specs.declared.image.TypeDesc.{TypeDesc}
 use Rattle.aos_layout.specs.Layout.{variable_cells}
 use Rattle.aos_laid.proofs.Lists.{more, more_of, next_of, count_of}
-use Rattle.aos_sim.specs.Shows.{numbers_from, text_cells, first_cells, body_numbers, base_number}
-use Rattle.aos_image.specs.Made.{base_at, kinds_at, methods_at, AreModules, AreTypesOf}
+use Rattle.aos_sim.specs.Shows.{numbers_from, text_cells, first_cells, base_number}
+use Rattle.aos_image.specs.Made.{body_at, base_at, kinds_at, methods_at, AreModules, AreTypesOf}
 
 numbers-append : {A : Type 0} (k : ℕ) (xs : List A) (x : A) → numbers_from k (xs ++ x ∷ []) ≡ numbers_from k xs ++ (k + length xs) ∷ []
 numbers-append k [] x = let e : k ≡ k + 0 = omega arith in ap (λ n. n ∷ []) e
@@ -49,27 +47,11 @@ module _ (p : Program) where
         names = more_of (λ (x : ModuleDesc). string_bytes x.name) (λ (x : Module). x.name) ds xs d (seen_module m) h.names name;
       }))
 
--- one more body
-last : (a : ℕ) (os : List ObjectType) (o : ObjectType) → body_numbers a (os ++ o ∷ []) ≡ body_numbers a os ++ (if o.has_body then a + length os else 0) ∷ []
-last a [] o = let e : a ≡ a + 0 = omega arith in ap (λ n. (if o.has_body then n else 0) ∷ []) e
-last a (x ∷ os) o =
-    let e : suc a + length os ≡ a + suc (length os) = omega arith in
-    ap (λ l. (if x.has_body then a else 0) ∷ l) (last (suc a) os o ∙ ap (λ n. body_numbers (suc a) os ++ (if o.has_body then n else 0) ∷ []) e)
-
 -- one more type
-pub type_more : (p : Program) (os : List TObject) (k n j : ℕ) (o : TObject) (ts ts' : List TypeDesc) (t : TypeDesc) → p.objects ≡ map seen_object os → k < length os → o ≡ get_or os k o → suc (length p.modules) + k ≡ n → predeclared_types + k ≡ j → ts' ≡ ts ++ t ∷ [] → t.body ≡ (if o.has_body then n else 0) → t.base ≡ base_at p j → t.kinds.items ≡ kinds_at p j → t.methods.items ≡ methods_at p k → AreTypesOf p k ts → AreTypesOf p (k + 1) ts'
-type_more p os k n j o ts ts' t seen lt at first number is body base kinds methods h =
-    let start = suc (length p.modules) in
-    let so_far : take k p.objects ≡ map seen_object (take k os) = ap (take k) seen ∙ take-map seen_object k os in
-    let one_more : take (k + 1) p.objects ≡ map seen_object (take k os) ++ seen_object o ∷ [] =
-    ap (take (k + 1)) seen ∙ take-map seen_object (k + 1) os ∙ next_of seen_object os k o lt at in
-    let counted : start + length (map seen_object (take k os)) ≡ n = omega (arith, count_of seen_object os k lt, first) in
-    let numbers : body_numbers start (take (k + 1) p.objects) ≡ body_numbers start (take k p.objects) ++ (if o.has_body then n else 0) ∷ [] =
-    ap (body_numbers start) one_more
-    ∙ last start (map seen_object (take k os)) (seen_object o)
-    ∙ (λ i. body_numbers start (sym so_far i) ++ (if o.has_body then counted i else 0) ∷ []) in
+pub type_more : (p : Program) (k j : ℕ) (ts ts' : List TypeDesc) (t : TypeDesc) → predeclared_types + k ≡ j → ts' ≡ ts ++ t ∷ [] → t.body ≡ body_at p k → t.base ≡ base_at p j → t.kinds.items ≡ kinds_at p j → t.methods.items ≡ methods_at p k → AreTypesOf p k ts → AreTypesOf p (k + 1) ts'
+type_more p k j ts ts' t number is body base kinds methods h =
     subst (λ l. AreTypesOf p (k + 1) l) (sym is) (record {
-      bodies = more (λ (x : TypeDesc). x.body) ts _ t (if o.has_body then n else 0) h.bodies body ∙ sym numbers;
+      bodies = more (λ (x : TypeDesc). x.body) ts _ t (body_at p k) h.bodies body ∙ sym (map-range_with_len_more (body_at p) 0 k k (omega arith));
       methods = more (λ (x : TypeDesc). x.methods.items) ts _ t (methods_at p k) h.methods methods ∙ sym (map-range_with_len_more (methods_at p) 0 k k (omega arith));
       bases = more (λ (x : TypeDesc). x.base) ts _ t (base_at p j) h.bases base ∙ sym (map-range_with_len_more (base_at p) predeclared_types k j number);
       kinds = more (λ (x : TypeDesc). x.kinds.items) ts _ t (kinds_at p j) h.kinds kinds ∙ sym (map-range_with_len_more (kinds_at p) predeclared_types k j number);
@@ -94,8 +76,5 @@ module _ {A B : Type 0} (f : Option A → B) where
 
 -- all types
 module _ (p : Program) (ts : List TypeDesc) (h : AreTypesOf p (length p.objects) ts) where
-  pub bodies_are : map (λ t. t.body) ts ≡ body_numbers (suc (length p.modules)) p.objects
-  bodies_are = h.bodies ∙ ap (body_numbers (suc (length p.modules))) (take_all (length p.objects) p.objects (omega arith))
-
   pub bases_are : length p.types ≡ length p.objects + predeclared_types → map (λ t. t.base) ts ≡ map (λ r. base_number (base_of (Some r))) (drop predeclared_types p.types)
   bases_are beside = h.bases ∙ sym (behind (λ o. base_number (base_of o)) predeclared_types (length p.objects) p.types beside)

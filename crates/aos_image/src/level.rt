@@ -1,11 +1,11 @@
 // How many numbers a body keeps something under.
 
-ghost use Rattle.std.specs.Prelude.{◌≡◌, IfOk};
-ghost use Rattle.aos_typed.specs.Seen.{seen_stat, seen_stats, seen_else, arms_of, cases_of};
+ghost use Rattle.std.specs.Prelude.{◌≡◌, ◌+◌, suc, max, IfOk};
+ghost use Rattle.aos_typed.specs.Seen.{seen_list, seen_stat, seen_stats, seen_else, arms_of, cases_of};
 ghost use Rattle.aos_sim.specs.Need as need_of;
 
-use aos_laid::next;
-use aos_typed::{TArm, TCase, TElse, TStat};
+use aos_laid::{after, next, operands};
+use aos_typed::{TArgument, TArm, TCase, TElse, TStat};
 use std::alloc::AllocError;
 
 #[cycle(stat_level)]
@@ -43,6 +43,16 @@ fn cases_level(cases: &[TCase], otherwise: &TElse, around: u32) -> Result<u32, A
     Ok(most.max(else_level(otherwise, around)?))
 }
 
+// NEW: what the initializer is handed is kept till the object is made, and the object while it is stored.
+fn new_level(arguments: &[TArgument], around: u32) -> Result<u32, AllocError>
+    ensures { IfOk result (λ n. n ≡ max (suc around) (around + need_of.operands (seen_list arguments.now))) }
+{
+    let kept = next(around)?;
+    let handed = operands(arguments)?;
+    let behind = after(around, handed as usize)?;
+    Ok(kept.max(behind))
+}
+
 #[cycle(stat_level)]
 fn stat_level(statement: &TStat, around: u32) -> Result<u32, AllocError>
     ensures { IfOk result (λ n. n ≡ need_of.stat_level (seen_stat statement.now) around) }
@@ -70,7 +80,7 @@ fn stat_level(statement: &TStat, around: u32) -> Result<u32, AllocError>
         TStat::Change(_, _, _, _) => Ok(around),
         TStat::Perform(_, _, _) => Ok(around),
         TStat::Return(_, _) => Ok(around),
-        TStat::New(_, _, _) => Ok(around),
+        TStat::New(_, _, _, arguments) => new_level(arguments, around),
         TStat::Make(_, _, _, _) => Ok(around),
         TStat::With(_, _, body) => stats_level(body, around),
         TStat::WithRecord(_, _, body) => stats_level(body, around),

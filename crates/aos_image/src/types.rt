@@ -1,19 +1,19 @@
 // The types of an image: their bases, the kinds of their objects' cells, their methods by slots, and what their objects carry out.
 
-ghost use Rattle.std.specs.Prelude.{◌≡◌, ◌<◌, ◌≤◌, ◌^◌, if◌then◌else◌, ◌∷◌, [], ◌++◌, length, IfOk, OnOk};
+ghost use Rattle.std.specs.Prelude.{◌≡◌, ◌<◌, ◌≤◌, ◌^◌, ◌∷◌, [], ◌++◌, length, IfOk, OnOk};
 ghost use Rattle.aos_types.specs.Chain.{NoneContainsItself};
 ghost use Rattle.aos_types.specs.Table.{row_of, base_of};
 ghost use Rattle.aos_typed.specs.Seen.{seen_program};
 ghost use Rattle.aos_typed.specs.WellTyped.{IsWellTyped};
 ghost use Rattle.aos_layout.specs.Marks.{AreMade};
 ghost use Rattle.aos_sim.specs.Shows.{made_kinds, base_number};
-ghost use Rattle.aos_image.specs.Made.{AreTypesOf};
+ghost use Rattle.aos_image.specs.Made.{AreTypesOf, body_at};
 
 use aos_base::NoMemory;
 use aos_code::TypeDesc;
 use aos_laid::{Laid, PREDECLARED_TYPES};
 use aos_layout::{base_number, made_kinds, made_types};
-use aos_typed::{Program, TObject};
+use aos_typed::Program;
 use aos_types::{TypeId, Types};
 use std::alloc::{AllocError, Global};
 
@@ -61,14 +61,18 @@ fn put_type(types: &mut Vec<TypeDesc>, one: TypeDesc) -> Result<(), AllocError>
     Ok(())
 }
 
-// The number of the body beside a type, which is this one where there is one.
-fn body_number(object: &TObject, number: u32) -> u32
-    ensures { result ≡ (if object.now.has_body then number else 0) }
+// The number of the body that the objects of a type have, 0 where they have none.
+fn body_of(laid: &Laid<'_>, of: u32) -> Result<u32, AllocError>
+    ensures { IfOk result (λ n. n ≡ body_at (seen_program laid.now) of) }
 {
-    if object.has_body { number } else { 0 }
+    let Some(t) = laid.body_type(of)? else {
+        return Ok(0);
+    };
+    let number = laid.body(t)?;
+    Ok(number)
 }
 
-/// The types that a program names: their bodies are numbered on from those of its modules.
+/// The types that a program names. The body of a type's objects is that of its nearest base that has one, itself first.
 pub fn types_of(
     alloc: Global,
     laid: &Laid<'_>,
@@ -82,16 +86,13 @@ pub fn types_of(
         AreTypesOf (seen_program program.now) (length program.now.objects.items) types.items) }
 {
     let made = made_types(alloc, &program.types)?;
-    let first = program.modules.len() as u32 + 1;
     let mut types = Vec::new(alloc);
-    let mut number = 0;
-    for object in &program.objects {
-        let body = body_number(object, first + number);
-        let methods = laid.methods(number);
-        let of = TypeId(number + PREDECLARED_TYPES);
+    for number in 0..program.objects.len() {
+        let body = body_of(laid, number as u32)?;
+        let methods = laid.methods(number as u32);
+        let of = TypeId(number as u32 + PREDECLARED_TYPES);
         let one = describe_type(alloc, &program.types, &made, of, methods, body)?;
         put_type(&mut types, one)?;
-        number += 1;
     }
     Ok(types)
 }

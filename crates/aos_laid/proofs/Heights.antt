@@ -25,7 +25,7 @@ abbrev mutual
   height (Change at c p e) = 0
   height (Perform at c more) = 0
   height (Return at e) = 0
-  height (New at p t) = 0
+  height (New at p t more) = 0
   height (Make at p t ns) = 0
   height (With at e body) = suc (heights body)
   height (WithRecord at p body) = suc (heights body)

@@ -4,3 +4,5 @@ pub mod Found
 pub mod Fields
 pub mod Tables
 pub mod Listed
+pub mod Told
+pub mod Taken

@@ -1,5 +1,5 @@
 -- The routines of a program: one more of each kind, and those of a well-typed program are typed.
-use Rattle.std.proofs.Common.{◌≡◌, ◌<◌, ℕ, zero, suc, ◌+◌, List, [], ◌∷◌, ◌++◌, length, get_or, map, take, All, None, Some, sym, ap, ◌∙◌, append-nil, append_assoc, arith}
+use Rattle.std.proofs.Common.{◌≡◌, ◌<◌, ℕ, zero, suc, ◌+◌, List, [], ◌∷◌, ◌++◌, length, get_or, map, take, All, None, sym, ap, ◌∙◌, append-nil, append_assoc, arith}
 use Rattle.std.proofs.lemmas.List.{map-append}
 use Rattle.std.proofs.lemmas.List.Elements.{All-append}
 use Rattle.aos_typed.specs.declared.tree.TModule.{TModule}
@@ -7,7 +7,7 @@ use Rattle.aos_typed.specs.declared.tree.TObject.{TObject}
 use Rattle.aos_typed.specs.Program.{Stats, Procedure, Method, Module, ObjectType, Program}
 use Rattle.aos_typed.specs.Routines.{Routine, routine_of, bodies_from, methods_from, procedures_from, routines}
 use Rattle.aos_typed.specs.Seen.{seen_stats, seen_method, seen_module, seen_object, seen_procedure}
-use Rattle.aos_typed.specs.WellTyped.{IsProcedure, AreObjectTypes, IsWellTyped}
+use Rattle.aos_typed.specs.WellTyped.{IsProcedure, IsMethod, AreObjectTypes, IsWellTyped}
 use Rattle.aos_laid.specs.Routines.{IsTyped}
 use Rattle.aos_laid.proofs.Lists.{next_of, count_of}
 
@@ -110,7 +110,7 @@ procedures_typed p a (m ∷ ms) h =
     (procedures_typed p (suc a) ms (λ i e l. h (suc i) e (omega (arith, l))))
 
 -- and methods
-own_typed : (p : Program) (a t : ℕ) (ms : List Method) → All (λ m. IsProcedure p m.procedure × (m.procedure.of ≡ Some t)) ms → All (IsTyped p) (map (of_method a) ms)
+own_typed : (p : Program) (a t : ℕ) (ms : List Method) → All (λ m. IsMethod p t m.procedure) ms → All (IsTyped p) (map (of_method a) ms)
 own_typed p a t [] h k d lt = absurd (omega arith)
 own_typed p a t (m ∷ ms) h zero d lt = (h zero m (omega arith)).0
 own_typed p a t (m ∷ ms) h (suc k) d lt = own_typed p a t ms (λ i e l. h (suc i) e (omega (arith, l))) k d (omega arith)

@@ -1,6 +1,6 @@
 -- The cells of a program's variables, of their parts and of its string constants, and the numbers of its procedures, as they are
 -- looked up.
-use Rattle.std.specs.Prelude.{◌≡◌, ◌≤◌, ◌<◌, ◌^◌, All, ℕ, suc, ◌+◌, ◌∷◌, List, [], length, map, Option, Some, None, slice_get, option_map, nat_lt, if◌then◌else◌}
+use Rattle.std.specs.Prelude.{◌≡◌, ◌≤◌, ◌<◌, ◌^◌, All, ℕ, suc, ◌+◌, ◌∷◌, List, [], length, map, Option, Some, None, slice_get, option_map, nat_lt, if◌then◌else◌, Bool, false}
 use Rattle.std.specs.List.{range_with_len}
 use Rattle.std.specs.Option.{unwrap_or}
 use Rattle.std.specs.declared.vec.Vec.{Vec}
@@ -13,6 +13,12 @@ use Rattle.aos_typed.specs.declared.tree.TModule.{TModule}
 use Rattle.aos_typed.specs.declared.tree.TType.{TType}
 use Rattle.aos_typed.specs.Methods.{slots, own_numbers}
 use Rattle.aos_typed.specs.Numbers.{id_of}
+use Rattle.aos_typed.specs.Routines.{routines}
+use Rattle.aos_typed.specs.declared.tree.TObject.{TObject}
+use Rattle.aos_laid.specs.declared.nearest.Asked.TheVariants.{Body, Initializer}
+use Rattle.aos_laid.specs.declared.routines.Routine.{Routine}
+use Rattle.aos_laid.specs.Nearest.{AreNearest}
+use Rattle.aos_laid.specs.Routines.{AreHandedThere, seen_routines}
 use Rattle.aos_typed.specs.Program.{Module, Program}
 use Rattle.aos_typed.specs.WellTyped.{AreTypes}
 use Rattle.aos_layout.specs.declared.block.BlockShape.{BlockShape as CodeBlockShape}
@@ -45,14 +51,18 @@ AreFirsts p ns = ns ≡ firsts_from (suc (length p.modules + length p.objects)) 
 abbrev pub AreTables : Program → List (Vec ℕ Global) → Type 0
 AreTables p tables = map (λ v. v.items) tables ≡ map (λ k. slots p (own_numbers p) k) (range_with_len 0 (length p.objects))
 
--- the program's types are as they are to be, and these are the cells of each module, the numbers of their first procedures, and the
--- methods of each type
-pub record IsLaid (p : Program) (bs : List CodeBlockShape) (ns : List ℕ) (ts : List (Vec ℕ Global)) : Type 0 where
+-- the program's types are as they are to be, and these are the cells of each module, the numbers of their first procedures, the
+-- methods of each type, the type whose body and the slot of the initializer that each type's objects have, and what runs
+pub record IsLaid (p : Program) (bs : List CodeBlockShape) (ns : List ℕ) (ts : List (Vec ℕ Global)) (os is : List (Option ℕ)) (rs : List Routine) : Type 0 where
   pub few : length p.types ≤ 2 ^ 32
   pub types : AreTypes p.types
   pub blocks : AreBlocks p bs
   pub firsts : AreFirsts p ns
   pub tables : AreTables p ts
+  pub bodies : AreNearest p Body os
+  pub initials : AreNearest p Initializer is
+  pub all : seen_routines rs ≡ routines p
+  pub handed : AreHandedThere p.types (routines p)
 
 -- a type, where it is in the table
 abbrev pub there_in : List TypeRow → TType → Option TypeId
@@ -62,6 +72,11 @@ there_in rows t = if nat_lt (id_of t).0 (length rows) then Some (id_of t) else N
 abbrev pub cell_in : Option BlockShape → ℕ → ℕ
 cell_in None i = 0
 cell_in (Some b) i = unwrap_or (slice_get b.places i) b.cells
+
+-- whether the objects of a type have activities of their own, where it is there
+abbrev pub active_of : Option TObject → Bool
+active_of None = false
+active_of (Some o) = o.is_active
 
 -- how many variables a module has, where there is one
 abbrev pub variables_in : Option TModule → ℕ

@@ -1,24 +1,30 @@
 // A program with the cells of its modules, the numbers of its procedures, and the methods of its types by their slots.
 
-ghost use Rattle.std.specs.Prelude.{◌≡◌, true, is_some, ◌≤◌, ◌<◌, ◌^◌, [], ◌∷◌, ◌++◌, length, map, take, slice_get, Some, None, option_map, IfOk, OnOk};
+ghost use Rattle.std.specs.Prelude.{◌≡◌, true, is_some, ◌≤◌, ◌<◌, ◌^◌, [], ◌∷◌, ◌++◌, length, map, reverse, take, slice_get, Some, None, option_map, IfOk, OnOk};
 ghost use Rattle.std.specs.Option.{unwrap_or};
 ghost use Rattle.aos_typed.specs.Seen.{seen_program, seen_procedure};
 ghost use Rattle.aos_typed.specs.WellTyped.{AreTypes, IsProcedure, IsWellTyped};
 ghost use Rattle.aos_layout.specs.Frame as frame;
 ghost use Rattle.aos_layout.specs.Seen.{seen_block, seen_frame};
 ghost use Rattle.aos_types.specs.Shape as shape;
+ghost use Rattle.aos_types.specs.Table.{is_procedure, row_of};
 ghost use Rattle.aos_types.specs.Contents.{contents, variable_scalars};
-ghost use Rattle.aos_typed.specs.Methods.{method_number, own_numbers, slots};
-ghost use Rattle.aos_typed.specs.Numbers.{id_of, procedure_number};
+ghost use Rattle.aos_code.specs.Silent.{kinds_of as kinds_handed};
+ghost use Rattle.aos_typed.specs.Methods.{body_type, initializer, is_active, method_number, own_numbers, slots};
+ghost use Rattle.aos_typed.specs.Numbers.{body_number, id_of, procedure_number};
+ghost use Rattle.aos_typed.specs.Routines.{parameters_at};
 ghost use Rattle.aos_typed.specs.Source.{module_shape};
-ghost use Rattle.aos_laid.specs.Laid.{AreBlocks, AreNarrow, there_in, cell_in, variables_in, module_kinds};
+ghost use Rattle.aos_laid.specs.Laid.{AreBlocks, AreNarrow, active_of, there_in, cell_in, variables_in, module_kinds};
 
+use crate::handed::taken_by;
 use crate::methods::{number_in, tables_of};
-use crate::numbers::{first_number, firsts_of, method_firsts, number_at};
+use crate::nearest::{Asked, nearest_of_each, told_in};
+use crate::numbers::{after, first_number, firsts_of, method_firsts, next, number_at};
+use crate::routines::{Routine, routines_of};
 use aos_base::{NoMemory, Width};
 use aos_code::Kind;
 use aos_layout::{BlockShape, FrameShape, block_shape, frame_shape, offset, width};
-use aos_typed::{Program, TModule, TProcedure, TType};
+use aos_typed::{Program, TModule, TObject, TProcedure, TType};
 use aos_types::{TypeId, TypeRow, Types};
 use std::alloc::{AllocError, Global};
 use std::marker::Model;
@@ -165,6 +171,20 @@ fn cells_before(types: &Types, of: TType, number: u32) -> Result<u32, AllocError
     Err(AllocError)
 }
 
+// Whether a type is a procedure type.
+fn is_procedure_in(types: &Types, of: TType) -> bool
+    requires few { length types.now ≤ 2 ^ 32 }
+    ensures { result ≡ is_procedure (row_of types.now (id_of of)) }
+{
+    let Some(t) = type_in(types, of) else {
+        return false;
+    };
+    match types.row(t) {
+        TypeRow::Procedure(_, _) => true,
+        _ => false,
+    }
+}
+
 // What a type has in its slots, by its number.
 fn table_in(tables: &[Vec<u32>], number: u32) -> &[u32]
     ensures { result.now ≡ unwrap_or (option_map (λ v. v.items) (slice_get tables.now number)) [] }
@@ -175,13 +195,27 @@ fn table_in(tables: &[Vec<u32>], number: u32) -> &[u32]
     }
 }
 
-/// A program, with the cells of its modules, the numbers of their procedures, and the methods of its types by their slots.
+// Whether one of these types has objects with activities of their own.
+fn active_in(objects: &[TObject], of: u32) -> bool
+    ensures { result ≡ active_of (slice_get objects.now of) }
+{
+    match objects.get(of as usize) {
+        Some(object) => object.is_active,
+        None => false,
+    }
+}
+
+/// A program, with the cells of its modules, the numbers of their procedures, the methods of its types by their slots, the types
+/// whose bodies and the slots of the initializers that their objects have, and all that runs in it.
 #[derive(Drop)]
 pub struct Laid<'a> {
     program: &'a Program,
     blocks: Vec<BlockShape>,
     firsts: Vec<u32>,
     tables: Vec<Vec<u32>>,
+    bodies: Vec<Option<u32>>,
+    initials: Vec<Option<u32>>,
+    routines: Vec<Routine<'a>>,
 }
 
 impl<'a> Model for Laid<'a> {
@@ -197,12 +231,12 @@ impl<'a> Model for Laid<'a> {
 
     ghost view = { λ l. l.program.now };
 
-    ghost invariant = { λ l. IsLaid (seen_program l.program.now) l.blocks.items l.firsts.items l.tables.items };
+    ghost invariant = { λ l. IsLaid (seen_program l.program.now) l.blocks.items l.firsts.items l.tables.items
+        l.bodies.items l.initials.items l.routines.items };
 }
 
 impl<'a> Laid<'a> {
     /// A well-typed program, whose variables and string constants have their cells.
-    #[tactic(auto, using(crate::proofs::Found::firsts_are))]
     pub fn new(alloc: Global, program: &'a Program) -> Result<Laid<'a>, NoMemory>
         requires few { length program.now.modules.items ≤ 64 }
         requires few_types { length program.now.objects.items ≤ 2 ^ 26 }
@@ -216,11 +250,17 @@ impl<'a> Laid<'a> {
         let behind = number_at(&firsts, program.modules.len() as u32, 0)?;
         let methods = method_firsts(alloc, &program.objects, behind)?;
         let tables = tables_of(alloc, program, &methods)?;
+        let bodies = nearest_of_each(alloc, program, Asked::Body)?;
+        let initials = nearest_of_each(alloc, program, Asked::Initializer)?;
+        let routines = routines_of(alloc, program)?;
         Ok(Laid {
             program,
             blocks,
             firsts,
             tables,
+            bodies,
+            initials,
+            routines,
         })
     }
 
@@ -247,6 +287,13 @@ impl<'a> Laid<'a> {
         variable_cells(&self.program.types, of)
     }
 
+    /// Whether a type is a procedure type.
+    pub fn is_procedure(&self, of: TType) -> bool
+        ensures { result ≡ is_procedure (row_of (seen_program self.now).types (id_of of)) }
+    {
+        is_procedure_in(&self.program.types, of)
+    }
+
     /// The number of a procedure, by the numbers of its module and its own there.
     pub fn called(&self, home: u32, number: u32) -> Result<u32, AllocError>
         ensures { IfOk result (λ n. n ≡ procedure_number (seen_program self.now) home number) }
@@ -269,6 +316,46 @@ impl<'a> Laid<'a> {
         ensures { result.now ≡ slots (seen_program self.now) (own_numbers (seen_program self.now)) of }
     {
         table_in(&self.tables, of)
+    }
+
+    /// The type whose body the objects of a type have, by the numbers of both in the program.
+    pub fn body_type(&self, of: u32) -> Result<Option<u32>, AllocError>
+        ensures { IfOk result (λ t. t ≡ body_type (seen_program self.now) of) }
+    {
+        let found = told_in(&self.bodies, of)?;
+        Ok(found)
+    }
+
+    /// The slot of the initializer that the objects of a type have, by the type's number in the program.
+    pub fn initializer(&self, of: u32) -> Result<Option<u32>, AllocError>
+        ensures { IfOk result (λ k. k ≡ initializer (seen_program self.now) of) }
+    {
+        let found = told_in(&self.initials, of)?;
+        Ok(found)
+    }
+
+    /// Whether the body of a type is carried out by activities of its objects' own, by the type's number in the program.
+    pub fn is_active(&self, of: u32) -> bool
+        ensures { result ≡ is_active (seen_program self.now) of }
+    {
+        active_in(&self.program.objects, of)
+    }
+
+    /// The number of the body beside a type, by the type's number in the program.
+    pub fn body(&self, of: u32) -> Result<u32, AllocError>
+        ensures { IfOk result (λ n. n ≡ body_number (seen_program self.now) of) }
+    {
+        let behind = next(of)?;
+        let all = after(behind, self.program.modules.len())?;
+        Ok(all)
+    }
+
+    /// The kinds of what a call of the routine of this number takes beside an object, the topmost operand first.
+    pub fn taken(&self, alloc: Global, number: u32) -> Result<Vec<Kind>, AllocError>
+        ensures { IfOk result (λ kinds. kinds.items ≡ reverse (kinds_handed
+            (map (frame.parameter_kind (seen_program self.now).types) (parameters_at (seen_program self.now) number)))) }
+    {
+        taken_by(alloc, &self.program.types, &self.routines, number)
     }
 
     /// The frame of a procedure of the module with this number, whose body keeps so many values. The procedure's own number, which

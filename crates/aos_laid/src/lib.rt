@@ -2,11 +2,15 @@
 //! numbers, and the methods of its types by their slots.
 #![tactic(auto)]
 
+mod handed;
 mod laid;
+mod lengths;
 mod methods;
+mod nearest;
 mod numbers;
 pub mod routines;
 
 pub use laid::{Laid, PREDECLARED_TYPES};
-pub use numbers::next;
+pub use lengths::{dimensions, operands};
+pub use numbers::{after, next};
 pub use routines::{Routine, routines_of};

@@ -24,8 +24,8 @@ fn own_number(base: Option<TypeId>) -> Option<u32>
     }
 }
 
-// The number in the program of the base of a type.
-fn base_of(program: &Program, t: u32) -> Option<u32>
+/// The number in the program of the base of a type.
+pub fn base_of(program: &Program, t: u32) -> Option<u32>
     requires { length program.now.types ≤ 2 ^ 32 }
     ensures { result ≡ base_type (seen_program program.now) t }
 {

@@ -1,5 +1,5 @@
 use Rattle.std.proofs.Common.{◌≡◌, ◌<◌, ◌≤◌, ◌+◌, ◌-◌, ◌++◌, [], ◌∷◌, length, sym, ap, ◌∙◌, arith, rules}
-use Rattle.std.proofs.lemmas.Result.{on_ok_weaker}
+use Rattle.std.proofs.lemmas.Result.{IfOk-weaker}
 use Rattle.aos_typed.specs.Seen.{seen_list, seen_callee, seen_expr}
 use Rattle.aos_typed.proofs.Seen.{function_seen}
 use Rattle.aos_sim.specs.Code.{call_instr}
@@ -9,23 +9,22 @@ use Rattle.aos_emit.proofs.Parts.{call_within}
 use Rattle.aos_emit.proofs.Turned.{argument_more}
 use Rattle.aos_emit.proofs.emit.+emit_back.Goals as goal
 
-pub emit_back-emit_call_back-requires : goal.emit_back-emit_call_back-requires
-emit_back-emit_call_back-requires t c =
+pub emit_value_end-emit_call_end-requires : goal.emit_value_end-emit_call_end-requires
+emit_value_end-emit_call_end-requires t c =
     let x = c.in-Function in
     let less = call_within _ _ _ _ (ap seen_expr x.is ∙ function_seen x.callee x.arguments) c.deref.ensures.value in
     search (rules, less)
 
-pub emit_back-returns-in-Function : goal.emit_back-returns-in-Function
-emit_back-returns-in-Function t c =
+pub emit_value_end-returns-in-Function-clause-code : goal.emit_value_end-returns-in-Function-clause-code
+emit_value_end-returns-in-Function-clause-code t c =
     let x = c.in-Function in
     let p = program_of c.args.scope.now in
     let own = own_of c.args.scope.now in
-    let code = c.loop-rest.code.items in
+    let code = c.args.code.now.items in
     let callee = seen_callee x.callee in
-    on_ok_weaker c.emit_call_back.result (λ e. e
+    IfOk-weaker c.emit_call_end.result _ _ (λ rest e. e
     ∙ ap (λ l. back_receiver p own callee (back_arguments p own (seen_list l) (code ++ call_instr p callee ∷ []))) c.deref.ensures.value
-    ∙ sym (ap (λ v. back_code p own v code) (ap seen_expr x.is ∙ function_seen x.callee x.arguments))
-    ∙ c.loop-rest.invariant.0) c.emit_call_back.ensures
+    ∙ sym (ap (λ v. back_code p own v code) (ap seen_expr x.is ∙ function_seen x.callee x.arguments))) c.emit_call_end.ensures.code
 
 pub emit_arguments_back-loop-left-preserved : goal.emit_arguments_back-loop-left-preserved
 emit_arguments_back-loop-left-preserved t c =

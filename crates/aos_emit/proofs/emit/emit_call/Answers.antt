@@ -1,10 +1,10 @@
-use Rattle.std.proofs.Common.{◌≡◌, ◌+◌, [], ◌∷◌, ◌++◌, length, ap, ◌∙◌, refl}
+use Rattle.std.proofs.Common.{◌≡◌, ◌+◌, [], ◌++◌, length, ap, ◌∙◌, refl}
 use Rattle.std.proofs.lemmas.Result.{on_ok_weaker}
 use Rattle.aos_typed.specs.Program.{Function}
 use Rattle.aos_typed.specs.Seen.{seen_callee, seen_list}
-use Rattle.aos_sim.specs.Code.{call_instr, value_code}
+use Rattle.aos_sim.specs.Code.{value_code}
 use Rattle.aos_emit.specs.Scope.{program_of, own_of}
-use Rattle.aos_emit.specs.Back.{back_receiver, back_arguments, back_code}
+use Rattle.aos_emit.specs.Back.{back_code}
 use Rattle.aos_emit.specs.Forwards.{forwards}
 use Rattle.aos_emit.proofs.Forth.{forth, whole}
 use Rattle.aos_emit.proofs.emit.emit_call.Goals as goal
@@ -14,9 +14,6 @@ returns c =
     let code = c.args.code.now.items in
     let p = program_of c.args.scope.now in
     let own = own_of c.args.scope.now in
-    let callee = seen_callee c.args.callee.now in
-    let arguments = seen_list c.args.arguments.now in
-    let call = Function callee arguments in
-    let all : c.emit_call_back.new.code.items ≡ back_code p own call [] =
-    c.in_ok-emit_call_back.ensures ∙ ap (λ l. back_receiver p own callee (back_arguments p own arguments (l ++ call_instr p callee ∷ []))) c.new-back.ensures.items in
+    let call = Function (seen_callee c.args.callee.now) (seen_list c.args.arguments.now) in
+    let all : c.emit_call_back.new.code.items ≡ back_code p own call [] = c.in_ok-emit_call_back.ensures ∙ ap (back_code p own call) c.new-back.ensures.items in
     on_ok_weaker c.put_forwards.result (λ e. e ∙ ap (λ l. code ++ forwards (length code + length l) l) all ∙ ap (λ l. code ++ l) (whole (value_code p own call) (back_code p own call) (length code) _ (forth p own call) refl)) c.put_forwards.ensures

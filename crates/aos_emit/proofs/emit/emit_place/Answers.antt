@@ -14,5 +14,5 @@ returns c =
     let p = program_of c.args.scope.now in
     let own = own_of c.args.scope.now in
     let place = seen_place c.args.place.now in
-    let all : c.emit_place_back.new.code.items ≡ back_place p own place [] = c.in_ok-emit_place_back.ensures ∙ ap (back_place p own place) c.new-back.ensures.items in
+    let all : c.emit_back.new.code.items ≡ back_place p own place [] = c.in_ok-emit_back.ensures ∙ ap (back_place p own place) c.new-back.ensures.items in
     on_ok_weaker c.put_forwards.result (λ e. e ∙ ap (λ l. code ++ forwards (length code + length l) l) all ∙ ap (λ l. code ++ l) (whole (place_code p own place) (back_place p own place) (length code) _ (place_forth p own place) refl)) c.put_forwards.ensures

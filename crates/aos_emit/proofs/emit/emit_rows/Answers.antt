@@ -14,5 +14,5 @@ returns c =
     let p = program_of c.args.scope.now in
     let own = own_of c.args.scope.now in
     let rows = seen_rows c.args.rows.now in
-    let all : c.emit_rows_back.new.code.items ≡ back_rows p own rows [] = c.in_ok-emit_rows_back.ensures ∙ ap (back_rows p own rows) c.new-back.ensures.items in
+    let all : c.emit_back.new.code.items ≡ back_rows p own rows [] = c.in_ok-emit_back.ensures ∙ ap (back_rows p own rows) c.new-back.ensures.items in
     on_ok_weaker c.put_forwards.result (λ e. e ∙ ap (λ l. code ++ forwards (length code + length l) l) all ∙ ap (λ l. code ++ l) (whole (rows_code p own rows) (back_rows p own rows) (length code) _ (rows_forth p own rows) refl)) c.put_forwards.ensures

@@ -1,29 +1,18 @@
-use Rattle.std.proofs.Common.{◌≡◌, ◌<◌, suc, ◌+◌, length, get_or, refl, ap, ◌∙◌, arith}
-use Rattle.std.proofs.lemmas.List.{length-map}
+use Rattle.std.proofs.Common.{◌≡◌, ◌+◌, ap, ◌∙◌, arith}
 use Rattle.aos_typed.specs.Methods.{slots, own_numbers}
 use Rattle.aos_typed.specs.Numbers.{predeclared_types}
-use Rattle.aos_typed.specs.Seen.{seen_program, seen_module}
+use Rattle.aos_typed.specs.Seen.{seen_program}
+use Rattle.aos_image.specs.Made.{body_at}
 use Rattle.aos_image.proofs.Described.{type_more}
 use Rattle.aos_image.proofs.types.types_of.Goals as goal
 
-pub loop-object-preserved : goal.loop-object-preserved
-loop-object-preserved c =
-    let q = c.args.program.now in
-    let p = seen_program q in
-    let l = c.loop-object in
-    let os = q.objects.items in
-    let k = l.object-index in
-    let o = c.object-item.result in
-    let is = l.invariant.1 in
+pub loop-number-preserved : goal.loop-number-preserved
+loop-number-preserved c =
+    let l = c.loop-number in
+    let k = l.number in
     let one = c.in_ok-one.ensures in
-    let many = length-map q.modules.items seen_module in
-    let lt : k < length os = omega (arith, ap length c.deref-object-items.ensures.value) in
-    let at = c.object-item.is ∙ ap (λ l. get_or l k o) c.deref-object-items.ensures.value in
-    let start = c.len.result + 1 in
-    let first : suc (length p.modules) + k ≡ start + l.number = omega (arith, is, many, c.len.ensures) in
-    let number : predeclared_types + k ≡ l.number + predeclared_types = omega (arith, is) in
-    let methods = one.methods ∙ c.methods-methods.ensures ∙ (λ i. slots (seen_program (c.requires.laid i)) (own_numbers (seen_program (c.requires.laid i))) (is i)) in (
-      type_more p os k (start + l.number) (l.number + predeclared_types) o l.types.items _ c.in_ok-one.one refl lt at first number c.in_ok-put_type.ensures
-          (one.start ∙ c.body_number-body.ensures) one.base one.kinds methods l.invariant.0,
-      ap (λ j. j + 1) is,
-    )
+    let number : predeclared_types + k ≡ k + predeclared_types = omega arith in
+    let body = one.start ∙ c.in_ok-body.ensures ∙ ap (λ q. body_at (seen_program q) k) c.requires.laid in
+    let methods = one.methods ∙ c.methods-methods.ensures ∙ ap (λ q. slots (seen_program q) (own_numbers (seen_program q)) k) c.requires.laid in
+    type_more (seen_program c.args.program.now) k (k + predeclared_types) l.types.items _ c.in_ok-one.one number c.in_ok-put_type.ensures
+    body one.base one.kinds methods l.invariant

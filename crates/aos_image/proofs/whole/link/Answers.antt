@@ -2,7 +2,7 @@ use Rattle.std.proofs.Common.{sym, subst}
 use Rattle.std.proofs.lemmas.List.{length-map}
 use Rattle.aos_typed.specs.Seen.{seen_program, seen_object}
 use Rattle.aos_image.specs.Made.{AreTypesOf}
-use Rattle.aos_image.proofs.Described.{bodies_are, bases_are}
+use Rattle.aos_image.proofs.Described.{bases_are}
 use Rattle.aos_image.proofs.whole.link.Goals as goal
 
 pub returns-clause-code : goal.returns-clause-code
@@ -15,7 +15,7 @@ returns-clause-code c =
       bodies = c.requires.matching;
       shapes = c.in_ok-shapes.ensures;
       starts = modules.starts;
-      types = bodies_are p ts types;
+      types = types.bodies;
       methods = types.methods;
       bases = bases_are p ts types c.requires.typed.beside;
       kinds = types.kinds;
