@@ -7,7 +7,7 @@ use Rattle.aos_types.specs.declared.row.TypeId.{TypeId}
 use Rattle.aos_types.specs.declared.row.TypeRow.{TypeRow}
 use Rattle.aos_types.specs.declared.row.TypeRow.TheVariants as row
 use Rattle.aos_types.specs.declared.TheConstants.{MOST_SCALARS}
-use Rattle.aos_types.specs.Table.{row_of, is_open, is_record, is_object}
+use Rattle.aos_types.specs.Table.{row_of, is_open, is_record, is_object, is_scalar}
 use Rattle.aos_typed.specs.WellTyped.{is_whole}
 use Rattle.aos_symbols.specs.Scope.{Scope}
 use Rattle.aos_symbols.specs.Home.{Home, fields_of}
@@ -61,12 +61,23 @@ IsObjectBase types (Some b) = is_object (row_of types b) ≡ true
 abbrev pub IsTarget : List TypeRow → TypeId → Type 0
 IsTarget types t = (10 ≤ t.0) × ((is_whole (row_of types t) || is_open (row_of types t)) ≡ true)
 
--- the elements of an array, which has one of these lengths, and the fields of a record or an object are told
+-- a parameter's type is there, and isn't that of NIL or of string constants
+abbrev pub IsFormalType : List TypeRow → TypeId → Type 0
+IsFormalType types t = (t.0 < length types) × ((t.0 < 7) ⊎ ((t.0 ≡ 8) ⊎ (10 ≤ t.0)))
+
+-- a result is a scalar
+abbrev pub IsResultType : List TypeRow → Option TypeId → Type 0
+IsResultType types None = Unit {0}
+IsResultType types (Some t) = IsTold types t × (is_scalar (row_of types t) ≡ true)
+
+-- the elements of an array, which has one of these lengths, and the fields of a record or an object are told; the parameters of a
+-- procedure type are of types that are there, and its result is a scalar
 abbrev pub AreToldParts : List TypeRow → TypeRow → Type 0
 AreToldParts types (row.Array n t) = IsLength n × IsTold types t
 AreToldParts types (row.Record base ts) = IsBase types base × Each (IsTold types) ts
 AreToldParts types (row.Pointer t) = IsTarget types t
 AreToldParts types (row.Object base ts) = IsObjectBase types base × Each (IsTold types) ts
+AreToldParts types (row.Procedure formals r) = Each (λ f. IsFormalType types f.1) formals × IsResultType types r
 AreToldParts types r = Unit {0}
 
 abbrev pub PartsAreTold : List TypeRow → Type 0

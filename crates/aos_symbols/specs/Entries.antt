@@ -10,7 +10,7 @@ use Rattle.aos_tree.specs.declared.decl.Export.{Export}
 use Rattle.aos_tree.specs.declared.decl.Formals.{Formals}
 use Rattle.aos_tree.specs.declared.decl.Mark.{Mark}
 use Rattle.aos_tree.specs.declared.decl.Def.{Def}
-use Rattle.aos_tree.specs.declared.decl.Decl.{Decl}
+use Rattle.aos_tree.specs.declared.decl.Decl.{Decl, items-the_row-Decl}
 use Rattle.aos_tree.specs.declared.decl.TypeDef.{TypeDef}
 use Rattle.aos_tree.specs.declared.decl.TypeExpr.{TypeExpr}
 use Rattle.aos_tree.specs.declared.decl.TypeExpr.TheVariants as type
@@ -61,10 +61,18 @@ pub record Objects : Type 0 where
 abbrev pub numbered_objects : (place methods : ℕ) → List (ℕ × ObjectScope) → Objects
 numbered_objects k n os = record { place = k; methods = n; all = os }
 
+-- the place of the first of these procedures that is an initializer, of which the first has the place k
+abbrev pub initial_from : ℕ → List Procedure → Option ℕ
+initial_from k [] = None
+initial_from k (p ∷ ps) = if is_some p.initializer then Some k else initial_from (suc k) ps
+
+abbrev pub initial_of : List Decl → Option ℕ
+initial_of ds = initial_from 0 (procedures ds)
+
 -- in a module with the number m
 abbrev pub with_object : (m place methods : ℕ) → Option TypeId → TypeExpr → List (ℕ × ObjectScope) → List (ℕ × ObjectScope)
 with_object m k n (Some t) (type.Object' p base shape row body end) os =
-    insert_entry nat_eq os t.0 (record { home = m; scope = suc k; methods = n; has_body = is_some body })
+    insert_entry nat_eq os t.0 (record { home = m; scope = suc k; methods = n; initial = initial_of (items-the_row-Decl _ row) })
 with_object m k n t x os = os
 
 abbrev pub next_object : ℕ → List (Option TypeId) → Objects → TypeDef → Objects

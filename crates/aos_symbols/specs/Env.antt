@@ -8,6 +8,7 @@ use Rattle.std.specs.Str.{bytes_eq}
 use Rattle.std.specs.Map.{lookup as lookup_in}
 use Rattle.aos_base.specs.declared.text.Pos.{Pos}
 use Rattle.aos_tree.specs.declared.name.Name.{Name}
+use Rattle.aos_tree.specs.declared.decl.Export.{Export}
 use Rattle.aos_types.specs.declared.row.TypeId.{TypeId}
 use Rattle.aos_types.specs.declared.row.TypeRow.{TypeRow}
 use Rattle.aos_types.specs.declared.row.TypeRow.TheVariants as row
@@ -70,6 +71,10 @@ any = record { 0 = 8 }
 -- the type of the string constants but those of one character, whose lengths stand beside them
 abbrev pub text : TypeId
 text = record { 0 = 9 }
+
+-- the type of a procedure that is named as a value: no variable has it, and no table has a row for it
+abbrev pub procedure : TypeId
+procedure = record { 0 = 4294967295 }
 
 -- what the module with a number has declared
 abbrev pub home : Env → ℕ → Option Home
@@ -279,19 +284,23 @@ abbrev pub slot_of : Option Home → ObjectScope → ℕ → ℕ
 slot_of None o k = 0
 slot_of (Some h) o k = slot_at h o k
 
+-- a method by its place among those that an object type itself declares
+abbrev pub method_at : Env → TypeId → ObjectScope → Option Export → ℕ → Method
+method_at e t o mark k =
+    record {
+      is_own = o.home == e.number;
+      mark = mark;
+      home = o.home;
+      number = o.methods + k;
+      of = t;
+      slot = slot_of (home e o.home) o k;
+    }
+
 abbrev pub method_meant : Env → TypeId → ObjectScope → Symbol → Option Method
 method_meant e t o x = by x.means
   where
     by : Meaning → Option Method
-    by (means.Procedure k) =
-        Some (record {
-          is_own = o.home == e.number;
-          mark = x.mark;
-          home = o.home;
-          number = o.methods + k;
-          of = t;
-          slot = slot_of (home e o.home) o k;
-        })
+    by (means.Procedure k) = Some (method_at e t o x.mark k)
     by m = None
 
 abbrev pub own_method : Env → TypeId → List ℕ → Option Method
@@ -312,6 +321,24 @@ method e t n = method_named e t (word e.here.text n)
 -- the method that one of this type overrides: its base's
 abbrev pub upper : Env → TypeId → Name → Option Method
 upper e t n = option_and_then (λ b. method e b n) (base_of (row_in e.types t))
+
+-- Initializers: the one that an object type itself declares, and of a type that of the nearest in its chain. It is called whatever its
+-- mark is.
+
+abbrev pub initial_at : Env → TypeId → Option ObjectScope → Option Method
+initial_at e t None = None
+initial_at e t (Some o) = option_map (method_at e t o None) o.initial
+
+abbrev pub own_initializer : Env → TypeId → Option Method
+own_initializer e t = initial_at e t (object e t)
+
+-- of the first of these types that declares one
+abbrev pub initializer_along : Env → List TypeId → Option Method
+initializer_along e [] = None
+initializer_along e (t ∷ ts) = option_or (own_initializer e t) (initializer_along e ts)
+
+abbrev pub initializer : Env → TypeId → Option Method
+initializer e t = initializer_along e (chain e.types t)
 
 -- Slots: a type has its base's methods, and behind them those of its own whose names the base hasn't, in the order of the text. The
 -- slot of a method is the place of its name among them.
@@ -437,11 +464,3 @@ object_at e o = option_and_then (declarer e o) e.self_type
 -- the number of a type's own field, counted on from the fields of its bases
 abbrev pub field_number : Env → TypeId → ℕ → ℕ
 field_number e t k = fields_before (length e.types) e.types t + k
-
--- the nearest type in the chain of an object type that has a body
-abbrev pub is_with_body : Option ObjectScope → Bool
-is_with_body None = false
-is_with_body (Some x) = x.has_body
-
-abbrev pub body_of : Env → TypeId → Option TypeId
-body_of e t = first_along (λ u. is_with_body (object e u)) (chain e.types t)

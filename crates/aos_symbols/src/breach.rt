@@ -66,10 +66,12 @@ pub const EXIT_OUTSIDE: u16 = 39;
 pub const WRONG_RETURN: u16 = 40;
 /// A type test or guard of what is no object and no record for VAR, or with a type that is no extension.
 pub const WRONG_TEST: u16 = 41;
-/// A method that overrides another one with other formals or another result.
+/// A method that overrides another one with other formals or another result, or of which one alone is an initializer.
 pub const WRONG_OVERRIDE: u16 = 22;
 /// A selector that the type hasn't.
 pub const WRONG_SELECTOR: u16 = 42;
+/// A modifier of a block, or a flag of a procedure type, that may not stand there.
+pub const WRONG_MODIFIER: u16 = 45;
 /// SELF outside the methods and the body of an object type, or `^` behind a method that overrides none.
 pub const WRONG_SELF: u16 = 46;
 /// NEW of what is no pointer and no object variable, or with lengths that are no integers.

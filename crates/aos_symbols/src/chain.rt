@@ -1,4 +1,4 @@
-// The types of a chain: which of them declares the names of a scope, and which has the body that an object carries out.
+// The types of a chain: which of them declares the names of a scope.
 
 ghost use Rattle.std.specs.Prelude.{◌≡◌, IfOk};
 ghost use Rattle.aos_symbols.specs.Env as env;
@@ -14,15 +14,6 @@ fn stands_in(at: Open, object: Option<ObjectScope>) -> bool
 {
     match object {
         Some(object) => object.home == at.home && object.scope == at.scope,
-        None => false,
-    }
-}
-
-fn is_with_body(object: Option<ObjectScope>) -> bool
-    ensures { result ≡ env.is_with_body object }
-{
-    match object {
-        Some(object) => object.has_body,
         None => false,
     }
 }
@@ -69,30 +60,6 @@ impl<'a> Env<'a> {
         match self.fields_before(of)?.checked_add(number) {
             Some(number) => Ok(number),
             None => Err(AllocError),
-        }
-    }
-
-    /// The nearest type in the chain of an object type that has a body.
-    #[tactic(auto, using(crate::proofs::Chains::first_base, crate::proofs::Chains::first_none, crate::proofs::Chains::first_end, crate::proofs::Chains::first_here))]
-    pub fn body_of(&self, of: TypeId) -> Option<TypeId>
-        ensures { result ≡ env.body_of self.now of }
-    {
-        let mut here = of;
-        let mut left = self.types.len();
-        while left > 0 {
-            if is_with_body(self.object(here)) {
-                return Some(here);
-            }
-            let Some(base) = self.base(here) else {
-                return None;
-            };
-            here = base;
-            left -= 1;
-        }
-        if is_with_body(self.object(here)) {
-            Some(here)
-        } else {
-            None
         }
     }
 }

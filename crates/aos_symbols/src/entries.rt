@@ -546,6 +546,23 @@ fn more_of(count: u32, more: u32) -> Result<u32, NoMemory>
     }
 }
 
+/// The place of the first initializer among the procedures of declarations. One of 2^32 and more is want of memory.
+#[tactic(auto, using(crate::proofs::Rows::whole_procedure))]
+fn initial_of(decls: &[Decl]) -> Result<Option<u32>, NoMemory>
+    ensures { IfOk result (λ k. k ≡ entries.initial_of decls.now) }
+{
+    let mut place: u32 = 0;
+    for decl in decls {
+        if let Decl::Proc(proc) = decl {
+            if proc.initializer.is_some() {
+                return Ok(Some(place));
+            }
+            place = more_of(place, 1)?;
+        }
+    }
+    Ok(None)
+}
+
 /// Puts the object type that a definition writes behind these: in a module with this number, at this place among the definitions, with
 /// so many signatures before those of its methods.
 fn add_object(
@@ -562,14 +579,14 @@ fn add_object(
     let Some(number) = number else {
         return Ok(());
     };
-    let TypeExpr::Object(_, _, _, body, _) = of else {
+    let TypeExpr::Object(_, _, decls, _, _) = of else {
         return Ok(());
     };
     let object = ObjectScope {
         home,
         scope: more_of(place, 1)?,
         methods,
-        has_body: body.is_some(),
+        initial: initial_of(decls.as_slice())?,
     };
     match objects.insert(number.0, object) {
         Ok(_) => Ok(()),

@@ -37,6 +37,8 @@ pub const NIL: TypeId = TypeId(7);
 pub const ANY: TypeId = TypeId(8);
 /// The type of the string constants but those of one character, whose lengths stand beside them.
 pub const TEXT: TypeId = TypeId(9);
+/// The type of a procedure that is named as a value: no variable has it, and no table has a row for it.
+pub const PROCEDURE: TypeId = TypeId(u32::MAX);
 /// How many types stand first in each table; those that modules declare come behind them.
 pub const BASIC_TYPES: u32 = 10;
 
@@ -100,6 +102,8 @@ pub struct Narrowed {
 pub enum Claim {
     /// Rule 25: a pointer leads to what is named here, so it is a record or an array.
     Target(Pos, TypeId),
+    /// Rule 25: a procedure type's result is of the type that is named here, so it is a scalar.
+    Result(Pos, TypeId),
     /// Rule 17: what is named here is the base of a record, whose type stands behind, so it is a record.
     Base(Pos, TypeId, TypeId),
     /// Rule 17: what is named here is the base of an object type, which stands behind, so it is an object type.

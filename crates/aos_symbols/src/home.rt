@@ -27,21 +27,22 @@ pub enum Gives {
     Value(Option<TypeId>),
 }
 
-/// A procedure's parameters, in the order of the text, and what it gives.
+/// A procedure's parameters, in the order of the text, what it gives, and whether it is an initializer.
 #[derive(Drop)]
 pub struct Signature {
     pub parameters: Items<Parameter>,
     pub gives: Gives,
+    pub is_initializer: bool,
 }
 
 /// An object type: the number of the module that declares it, the number of its scope there, in which its constants, fields and
-/// methods stand, the number of its first method among the module's signatures, and whether it has a body.
+/// methods stand, the number of its first method among the module's signatures, and the place among its methods of its initializer.
 #[derive(Clone, Copy, PartialEq, Eq, Debug)]
 pub struct ObjectScope {
     pub home: u32,
     pub scope: u32,
     pub methods: u32,
-    pub has_body: bool,
+    pub initial: Option<u32>,
 }
 
 /// A module's name, its text, the strings there, its scopes, the signatures of its procedures and behind them those of methods, the

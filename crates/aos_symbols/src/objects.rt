@@ -9,7 +9,7 @@ use crate::env::{Env, Method, Open, Symbol};
 use crate::home::{Home, ObjectScope};
 use crate::scope::{Meaning, Scope};
 use crate::spelling::word;
-use aos_tree::{Items, Name};
+use aos_tree::{Export, Items, Name};
 use aos_types::TypeId;
 use std::alloc::{AllocError, Global};
 use std::mem;
@@ -100,7 +100,30 @@ impl<'a> Env<'a> {
         }
     }
 
-    /// The method that a name in the scope of an object type stands for. A number of 2^32 and more is want of memory.
+    /// A method by its place among those that an object type itself declares. A number of 2^32 and more is want of memory.
+    fn method_at(
+        &self,
+        of: TypeId,
+        object: ObjectScope,
+        mark: Option<Export>,
+        place: u32,
+    ) -> Result<Method, AllocError>
+        ensures { IfOk result (λ m. m ≡ env.method_at self.now of object mark place) }
+    {
+        let Some(number) = object.methods.checked_add(place) else {
+            return Err(AllocError);
+        };
+        Ok(Method {
+            is_own: object.home == self.number,
+            mark,
+            home: object.home,
+            number,
+            of,
+            slot: self.slot_of(object, place),
+        })
+    }
+
+    /// The method that a name in the scope of an object type stands for.
     fn method_meant(
         &self,
         of: TypeId,
@@ -112,17 +135,7 @@ impl<'a> Env<'a> {
         let Meaning::Procedure(place) = symbol.means else {
             return Ok(None);
         };
-        let Some(number) = object.methods.checked_add(place) else {
-            return Err(AllocError);
-        };
-        Ok(Some(Method {
-            is_own: object.home == self.number,
-            mark: symbol.mark,
-            home: object.home,
-            number,
-            of,
-            slot: self.slot_of(object, place),
-        }))
+        Ok(Some(self.method_at(of, object, symbol.mark, place)?))
     }
 
     /// The method with this word that an object type itself declares.
@@ -173,6 +186,39 @@ impl<'a> Env<'a> {
             Some(base) => self.method(base, name),
             None => Ok(None),
         }
+    }
+
+    /// The initializer that an object type itself declares.
+    fn own_initializer(&self, of: TypeId) -> Result<Option<Method>, AllocError>
+        ensures { IfOk result (λ m. m ≡ env.own_initializer self.now of) }
+    {
+        let Some(object) = self.object(of) else {
+            return Ok(None);
+        };
+        match object.initial {
+            Some(place) => Ok(Some(self.method_at(of, object, None, place)?)),
+            None => Ok(None),
+        }
+    }
+
+    /// The initializer of an object type or else of the nearest of its bases that has one.
+    #[tactic(auto, using(crate::proofs::Chains::chain_base, crate::proofs::Chains::chain_none, crate::proofs::Chains::chain_end))]
+    pub fn initializer(&self, of: TypeId) -> Result<Option<Method>, AllocError>
+        ensures { IfOk result (λ m. m ≡ env.initializer self.now of) }
+    {
+        let mut at = of;
+        let mut left = self.types.len();
+        while left > 0 {
+            if let Some(method) = self.own_initializer(at)? {
+                return Ok(Some(method));
+            }
+            let Some(base) = self.base(at) else {
+                return Ok(None);
+            };
+            at = base;
+            left -= 1;
+        }
+        self.own_initializer(at)
     }
 
     /// The scope in which the names of an object type stand.
