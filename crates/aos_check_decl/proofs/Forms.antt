@@ -97,9 +97,9 @@ pointer_met may_be_open slot e t p to is =
 
 -- an object type, whose declarations are a list
 pub object_written : (may_be_open : Bool) (slot : Option TypeId) (e : Env) (t : TypeExpr) (p : Pos) (base : Option Qualident) (ds : List Decl) (body : Option Block) (end : Option Name) →
-    t ≡ type.Object p base ds body end → type_in may_be_open slot e t ≡ object_of slot e p base ds body
+    t ≡ type.Object p base ds body end → type_in may_be_open slot e t ≡ object_of slot e p base ds
 object_written may_be_open slot e t p base ds body end is =
     let row = hidden-the_row-Decl-2 ds in
     ap (type_in may_be_open slot e) is
-    ∙ (λ i. object_in slot (object_slot e slot) e p base (items-the_row-Decl _ row) body (λ f. members_row _ (members_met f [] []) row i))
-    ∙ ap (λ xs. object_in slot (object_slot e slot) e p base xs body (λ f. walk member_in (members_met f [] []) xs)) (items_hidden-the_row-Decl-2 ds)
+    ∙ (λ i. object_in slot (object_slot e slot) e p base (items-the_row-Decl _ row) (λ f. members_row _ (members_met f [] []) row i))
+    ∙ ap (λ xs. object_in slot (object_slot e slot) e p base xs (λ f. walk member_in (members_met f [] []) xs)) (items_hidden-the_row-Decl-2 ds)

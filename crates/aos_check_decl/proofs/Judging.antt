@@ -1,6 +1,6 @@
 -- One more type, result or variable that is judged.
 use Rattle.std.proofs.Common.{◌≡◌, ◌<◌, ◌≤◌, ◌⊎◌, inl, inr, ℕ, zero, suc, List, [], ◌∷◌, ◌+◌, length, get_or, take, drop, drop-cons, add-one, ◌++◌, Bor, Bool, nat_le, sum_by, Option, Some, None, slice_get, refl, ap, ◌∙◌, sym}
-use Rattle.std.specs.List.{zip}
+use Rattle.std.specs.List.{zip, flat_map}
 use Rattle.std.proofs.lemmas.List.{take_all}
 use Rattle.std.proofs.lemmas.List.Sums.{sum_by_more}
 use Rattle.std.proofs.lemmas.Option.{none-some, slice_get_within, slice_get_cases, get_or_from_slice_get}
@@ -17,9 +17,9 @@ use Rattle.aos_symbols.specs.declared.home.Signature.{Signature}
 use Rattle.aos_symbols.specs.Breaches.{breach_unless, first_after}
 use Rattle.aos_symbols.specs.Declarations.{Procedure, all_procedures, seen_procedures, single_variables}
 use Rattle.aos_symbols.specs.Scope.{Scope}
-use Rattle.aos_symbols.proofs.Keeping.{after_more, after_three}
+use Rattle.aos_symbols.proofs.Keeping.{after_more, after_two, after_three}
 use Rattle.aos_symbols.proofs.Paths.{past}
-use Rattle.aos_check_decl.specs.Limits.{Written, written, type_breaches, types_from, result_of, result_breaches, results_from, counted, variables_of, scalars_of, variables_past, cut_off}
+use Rattle.aos_check_decl.specs.Limits.{Written, written, type_breaches, types_from, result_of, result_breaches, results_from, counted, variables_of, scalars_of, variables_past, asked_result, cut_off}
 
 module _ (flags : List Bool) (rows : List TypeRow) where
   -- the rules of one type, and of those behind it
@@ -134,16 +134,16 @@ sum_end {X = X} f xs k none = by (slice_get_cases xs k).1
     by (inr h) = ap (λ l. sum_by f l) (take_all k xs h.0)
 
 -- all that is judged of the types of a module
-pub limits_noted : (e : Env) (first : ℕ) (ds : List Decl) (m0 : Option Breach) {flags flags' : List Bool} {rows : List TypeRow} {ws : List Written} {ps : List Procedure} {m1 m2 m3 : Option Breach} →
-    flags ≡ circles e.types → flags' ≡ circles e.types → rows ≡ cut (circles e.types) e.types → ws ≡ written e ds → ps ≡ all_procedures ds →
+pub limits_noted : (e : Env) (first : ℕ) (ds : List Decl) (m0 : Option Breach) {flags flags' flags'' : List Bool} {rows : List TypeRow} {ws : List Written} {ps : List Procedure} {m1 m2 m3 m4 : Option Breach} →
+    flags ≡ circles e.types → flags' ≡ circles e.types → flags'' ≡ circles e.types → rows ≡ cut (circles e.types) e.types → ws ≡ written e ds → ps ≡ all_procedures ds →
     m1 ≡ first_after m0 (types_from flags rows first ws) → m2 ≡ first_after m1 (results_from flags' rows ps e.here.signatures) →
     m3 ≡ first_after m2 (variables_past [] rows (sum_by (scalars_of [] rows) e.before) (zip (single_variables ds) (variables_of [] rows (slice_get e.here.scopes 0)))) →
-    m3 ≡ first_after m0 (cut_off e first ds).breaches
-limits_noted e first ds m0 {flags = flags} {flags' = flags'} {rows = rows} {ws = ws} {ps = ps} {m1 = m1} {m2 = m2} flags_are flags_are' rows_are ws_are ps_are n1 n2 n3 =
+    m4 ≡ first_after m3 (flat_map (asked_result flags'' rows) e.claims) → m4 ≡ first_after m0 (cut_off e first ds).breaches
+limits_noted e first ds m0 {flags = flags} {flags' = flags'} {flags'' = flags''} {rows = rows} {ws = ws} {ps = ps} {m1 = m1} {m2 = m2} {m3 = m3} flags_are flags_are' flags_are'' rows_are ws_are ps_are n1 n2 n3 n4 =
     let marks = circles e.types in
     let rest = cut marks e.types in
     let over = λ (r : List TypeRow). variables_past [] r (sum_by (scalars_of [] r) e.before) (zip (single_variables ds) (variables_of [] r (slice_get e.here.scopes 0))) in
-    after_three m0 (types_from marks rest first (written e ds)) (results_from marks rest (all_procedures ds) e.here.signatures) (over rest)
+    let noted = after_three m0 (types_from marks rest first (written e ds)) (results_from marks rest (all_procedures ds) e.here.signatures) (over rest)
     (n1
     ∙ ap (λ f. first_after m0 (types_from f rows first ws)) flags_are
     ∙ ap (λ r. first_after m0 (types_from marks r first ws)) rows_are
@@ -152,4 +152,7 @@ limits_noted e first ds m0 {flags = flags} {flags' = flags'} {rows = rows} {ws =
     ∙ ap (λ f. first_after m1 (results_from f rows ps e.here.signatures)) flags_are'
     ∙ ap (λ r. first_after m1 (results_from marks r ps e.here.signatures)) rows_are
     ∙ ap (λ qs. first_after m1 (results_from marks rest qs e.here.signatures)) ps_are)
-    (n3 ∙ ap (λ r. first_after m2 (over r)) rows_are)
+    (n3 ∙ ap (λ r. first_after m2 (over r)) rows_are) in
+    after_two m0 (types_from marks rest first (written e ds) ++ results_from marks rest (all_procedures ds) e.here.signatures ++ over rest)
+    (flat_map (asked_result marks rest) e.claims) noted
+    (n4 ∙ ap (λ f. first_after m3 (flat_map (asked_result f rows) e.claims)) flags_are'' ∙ ap (λ r. first_after m3 (flat_map (asked_result marks r) e.claims)) rows_are)

@@ -5,6 +5,7 @@ pub mod TypingScopes
 pub mod TypingNames
 pub mod TypingClaims
 pub mod TypingFields
+pub mod TypingTelling
 pub mod TypingTypes
 pub mod TypingHeadings
 pub mod TypingProcedures
@@ -32,5 +33,4 @@ pub mod Judging
 pub mod Binds
 pub mod Numbers
 pub mod Starts
-pub mod Overrides
 mod Headed

@@ -1,6 +1,6 @@
 -- A module whose declarations break no rule: each type that has a name is told, each variable has a type, each constant has a
 -- value that is good, no type contains itself or is past the limit, and the headings of its procedures are whole.
-use Rattle.std.proofs.Common.{◌≡◌, ℕ, suc, ◌+◌, ◌<◌, ◌≤◌, nat_eq, List, [], ◌∷◌, ◌++◌, length, map, take, drop, true, false, Option, Some, None, slice_get, option_map, refl, sym, ap, ◌∙◌, subst, arith, length-append}
+use Rattle.std.proofs.Common.{◌≡◌, ℕ, suc, ◌+◌, ◌<◌, ◌≤◌, nat_eq, List, [], ◌∷◌, ◌++◌, length, map, take, drop, true, false, Option, Some, None, is_some, slice_get, option_map, refl, sym, ap, ◌∙◌, subst, arith, length-append}
 use Rattle.std.specs.Prelude.{sum_by, zip}
 use Rattle.std.specs.List.{flat_map}
 use Rattle.std.proofs.lemmas.Bool.{cases_lt}
@@ -101,8 +101,10 @@ pub record IsResult (types : List TypeRow) (of : Option TypeId) : Type 0 where
   pub told : IsTold types type
   pub scalar : is_scalar (row_of types type) ≡ true
 
--- a procedure of the module: its signature, and the variables of its scope, which are its parameters and then its locals
+-- a procedure of the module: its signature, which gives nothing where it is an initializer's, and the variables of its scope, which are its parameters and then its locals
 pub record IsHeading (types : List TypeRow) (p : Procedure) (s : Signature) (scope : Scope) : Type 0 where
+  pub mark : s.is_initializer ≡ is_some p.initializer
+  pub proper : s.is_initializer ≡ true → s.gives ≡ gives.Nothing
   pub parameters : Each (λ a. IsThere types a.of) s.parameters
   pub few : length s.parameters ≡ length (formal_names p.formals)
   pub first : take (length (formal_names p.formals)) scope.variables ≡ map (λ a. a.of) s.parameters
@@ -406,7 +408,7 @@ module _ (number : ℕ) (before : List Home) (types : List TypeRow) (text : List
             type = t;
             is = refl;
             told = told;
-            scalar = result_scalar (circles e.types) e.types basics r.name t told
+            scalar = result_scalar (circles e.types) e.types basics r.name.first.pos t told
                 (whole.not_circular number before types text m ts given ready.constants old led once none asked fine t l) (table.sound.sizes t) rule;
           }
 
@@ -441,6 +443,8 @@ module _ (number : ℕ) (before : List Home) (types : List TypeRow) (text : List
             let ps = types_of made.signature.parameters in
             let all = made.all in
             record {
+              mark = made.mark;
+              proper = made.proper;
               parameters = implied (λ (a : Parameter). MayBeOpen number before types text m ts given ready.constants old.ten led e.types a.of) (λ (a : Parameter). IsThere e.types a.of)
                   (λ a there. is_there a.of there) made.signature.parameters made.there;
               few = made.count;

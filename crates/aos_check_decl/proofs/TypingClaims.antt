@@ -11,15 +11,16 @@ use Rattle.aos_tree.specs.declared.name.Qualident.{Qualident}
 use Rattle.aos_types.specs.declared.row.TypeId.{TypeId}
 use Rattle.aos_types.specs.declared.row.TypeRow.{TypeRow}
 use Rattle.aos_types.specs.declared.row.TypeRow.TheVariants as row
-use Rattle.aos_types.specs.Table.{row_of, is_record, is_object, is_open, has_fields, base_of}
+use Rattle.aos_types.specs.Table.{row_of, is_record, is_object, is_open, is_scalar, has_fields, base_of}
 use Rattle.aos_types.specs.Chain.{base_list, IsOneOf}
+use Rattle.aos_symbols.specs.declared.breach.Breach.{Breach}
 use Rattle.aos_symbols.specs.declared.env.Claim.{Claim}
 use Rattle.aos_symbols.specs.declared.env.Claim.TheVariants as claim
 use Rattle.aos_symbols.specs.declared.env.Env.{Env}
 use Rattle.aos_symbols.specs.Env as env
 use Rattle.aos_symbols.proofs.Each.{implied}
 use Rattle.aos_symbols.proofs.Holds.{none_left, none_right, test_is}
-use Rattle.aos_symbols.proofs.Told.{IsTold, basic, of_any, defined, GoOn, get_front, IsBase, IsObjectBase, PartsAreTold, AreToldParts}
+use Rattle.aos_symbols.proofs.Told.{IsTold, basic, of_any, defined, GoOn, get_front, IsBase, IsObjectBase, IsFormalType, IsResultType, PartsAreTold, AreToldParts}
 use Rattle.aos_check_decl.specs.Types.{base_claims, object_claims}
 use Rattle.aos_check_decl.specs.Limits.{may_be_base, may_be_object_base, may_be_target, claim_breaches, without_base}
 use Rattle.aos_check_decl.proofs.TypingLists.{set_other, get_behind}
@@ -43,6 +44,12 @@ pub record IsAskedTarget (cs : List Claim) (t : TypeId) : Type 0 where
   pub at : Pos
   pub is : slice_get cs place ≡ Some (claim.Target at t)
 
+-- of this type it is asked that it is a scalar
+pub record IsAskedResult (cs : List Claim) (t : TypeId) : Type 0 where
+  pub place : ℕ
+  pub at : Pos
+  pub is : slice_get cs place ≡ Some (claim.Result at t)
+
 -- what holds of all bases that are asked for, and the types that have them
 abbrev pub AllBases : (TypeId → TypeId → Type 0) → List Claim → Type 0
 AllBases P cs = (k : ℕ) (at : Pos) (b t : TypeId) → slice_get cs k ≡ Some (claim.Base at b t) → P b t
@@ -58,6 +65,10 @@ more_bases P (c ∷ cs) ds old new (suc k) at b t is = more_bases P cs ds (λ k 
 pub target_bases : (P : TypeId → TypeId → Type 0) (at : Pos) (t : TypeId) → AllBases P (claim.Target at t ∷ [])
 target_bases P at t zero at' b u is = absurd (cc)
 target_bases P at t (suc k) at' b u is = absurd (none-some (claim.Base at' b u) is)
+
+pub result_bases : (P : TypeId → TypeId → Type 0) (at : Pos) (t : TypeId) → AllBases P (claim.Result at t ∷ [])
+result_bases P at t zero at' b u is = absurd (cc)
+result_bases P at t (suc k) at' b u is = absurd (none-some (claim.Base at' b u) is)
 
 field_bases : (P : TypeId → TypeId → Type 0) (b : TypeId) (names : List Name) → AllBases P (map (λ n. claim.Field n b) names)
 field_bases P b [] k at c t is = absurd (none-some (claim.Base at c t) is)
@@ -103,6 +114,10 @@ pub target_object_bases : (P : TypeId → TypeId → Type 0) (at : Pos) (t : Typ
 target_object_bases P at t zero at' b u is = absurd (cc)
 target_object_bases P at t (suc k) at' b u is = absurd (none-some (claim.ObjectBase at' b u) is)
 
+pub result_object_bases : (P : TypeId → TypeId → Type 0) (at : Pos) (t : TypeId) → AllObjectBases P (claim.Result at t ∷ [])
+result_object_bases P at t zero at' b u is = absurd (cc)
+result_object_bases P at t (suc k) at' b u is = absurd (none-some (claim.ObjectBase at' b u) is)
+
 field_object_bases : (P : TypeId → TypeId → Type 0) (b : TypeId) (names : List Name) → AllObjectBases P (map (λ n. claim.Field n b) names)
 field_object_bases P b [] k at c t is = absurd (none-some (claim.ObjectBase at c t) is)
 field_object_bases P b (n ∷ names) zero at c t is = absurd (cc)
@@ -131,6 +146,9 @@ object_behind cs ds b asked = record {
 
 pub target_more : (cs ds : List Claim) (t : TypeId) → IsAskedTarget cs t → IsAskedTarget (cs ++ ds) t
 target_more cs ds t asked = record { place = asked.place; at = asked.at; is = get_front cs ds asked.place (claim.Target asked.at t) asked.is }
+
+pub result_more : (cs ds : List Claim) (t : TypeId) → IsAskedResult cs t → IsAskedResult (cs ++ ds) t
+result_more cs ds t asked = record { place = asked.place; at = asked.at; is = get_front cs ds asked.place (claim.Result asked.at t) asked.is }
 
 -- The claims of a record: its base, where it has one, is asked for, and no other one.
 pub record AreOfBase (cs : List Claim) (base : Option TypeId) (t : TypeId) : Type 0 where
@@ -220,14 +238,14 @@ base_met Known (Some q) (Some b) met p (inr h) = absurd h
 
 -- Where nothing that is asked breaks a rule.
 
-claim_kept : (e : Env) (cs : List Claim) → flat_map (claim_breaches e) cs ≡ [] → (k : ℕ) (c : Claim) → slice_get cs k ≡ Some c → claim_breaches e c ≡ []
-claim_kept e [] none k c is = absurd (none-some c is)
-claim_kept e (d ∷ cs) none zero c is = subst (λ c. claim_breaches e c ≡ []) (same_Some d c is) (none_left (claim_breaches e d) (flat_map (claim_breaches e) cs) none)
-claim_kept e (d ∷ cs) none (suc k) c is = claim_kept e cs (none_right (claim_breaches e d) (flat_map (claim_breaches e) cs) none) k c is
+pub claim_kept : (rule : Claim → List Breach) (cs : List Claim) → flat_map rule cs ≡ [] → (k : ℕ) (c : Claim) → slice_get cs k ≡ Some c → rule c ≡ []
+claim_kept rule [] none k c is = absurd (none-some c is)
+claim_kept rule (d ∷ cs) none zero c is = subst (λ c. rule c ≡ []) (same_Some d c is) (none_left (rule d) (flat_map rule cs) none)
+claim_kept rule (d ∷ cs) none (suc k) c is = claim_kept rule cs (none_right (rule d) (flat_map rule cs) none) k c is
 
 module _ (e : Env) (cs : List Claim) (none : flat_map (claim_breaches e) cs ≡ []) where
   pub target_kept : (t : TypeId) → IsAskedTarget cs t → may_be_target (row_of e.types t) ≡ true
-  target_kept t asked = test_is (may_be_target (row_of e.types t)) 25 asked.at (claim_kept e cs none asked.place (claim.Target asked.at t) asked.is)
+  target_kept t asked = test_is (may_be_target (row_of e.types t)) 25 asked.at (claim_kept (claim_breaches e) cs none asked.place (claim.Target asked.at t) asked.is)
 
   record_or_open : (a b : Bool) → (a || b) ≡ true → b ≡ false → a ≡ true
   record_or_open true b e f = refl
@@ -237,18 +255,19 @@ module _ (e : Env) (cs : List Claim) (none : flat_map (claim_breaches e) cs ≡ 
   pub base_kept : (k : ℕ) (at : Pos) (b t : TypeId) → slice_get cs k ≡ Some (claim.Base at b t) → is_open (row_of e.types b) ≡ false → is_record (row_of e.types b) ≡ true
   base_kept k at b t is closed =
       record_or_open (is_record (row_of e.types b)) (is_open (row_of e.types b))
-      (test_is (may_be_base (row_of e.types b)) 17 at (claim_kept e cs none k (claim.Base at b t) is)) closed
+      (test_is (may_be_base (row_of e.types b)) 17 at (claim_kept (claim_breaches e) cs none k (claim.Base at b t) is)) closed
 
   pub object_kept : (k : ℕ) (at : Pos) (b t : TypeId) → slice_get cs k ≡ Some (claim.ObjectBase at b t) → is_open (row_of e.types b) ≡ false → is_object (row_of e.types b) ≡ true
   object_kept k at b t is closed =
       record_or_open (is_object (row_of e.types b)) (is_open (row_of e.types b))
-      (test_is (may_be_object_base (row_of e.types b)) 17 at (claim_kept e cs none k (claim.ObjectBase at b t) is)) closed
+      (test_is (may_be_object_base (row_of e.types b)) 17 at (claim_kept (claim_breaches e) cs none k (claim.ObjectBase at b t) is)) closed
 
 -- Records whose bases are no records lose their contents, and so do object types.
 
 one_same : (rows : List TypeRow) (c : Claim) → ((at : Pos) (b t : TypeId) → c ≡ claim.Base at b t → is_record (row_of rows b) ≡ true) →
     ((at : Pos) (b t : TypeId) → c ≡ claim.ObjectBase at b t → is_object (row_of rows b) ≡ true) → without_base rows c ≡ rows
 one_same rows (claim.Target at t) records objects = refl
+one_same rows (claim.Result at t) records objects = refl
 one_same rows (claim.Base at b t) records objects = ap (λ z. if z then rows else slice_set rows t.0 (row.Record None [])) (records at b t refl)
 one_same rows (claim.ObjectBase at b t) records objects = ap (λ z. if z then rows else slice_set rows t.0 (row.Object None [])) (objects at b t refl)
 one_same rows (claim.Field n b) records objects = refl
@@ -265,6 +284,7 @@ bases_same rows (c ∷ cs) records objects =
 one_other : (rows : List TypeRow) (c : Claim) (k : ℕ) → ((at : Pos) (b t : TypeId) → c ≡ claim.Base at b t → t.0 ≡ k → ⊥) →
     ((at : Pos) (b t : TypeId) → c ≡ claim.ObjectBase at b t → t.0 ≡ k → ⊥) → slice_get (without_base rows c) k ≡ slice_get rows k
 one_other rows (claim.Target at t) k others objects = refl
+one_other rows (claim.Result at t) k others objects = refl
 one_other rows (claim.Base at b t) k others objects = by (is_record (row_of rows b))
   where
     by : (z : Bool) → slice_get (if z then rows else slice_set rows t.0 (row.Record None [])) k ≡ slice_get rows k
@@ -288,6 +308,7 @@ bases_other (c ∷ cs) k others objects rows =
 
 one_long : (rows : List TypeRow) (c : Claim) → length (without_base rows c) ≡ length rows
 one_long rows (claim.Target at t) = refl
+one_long rows (claim.Result at t) = refl
 one_long rows (claim.Base at b t) = by (is_record (row_of rows b))
   where
     by : (z : Bool) → length (if z then rows else slice_set rows t.0 (row.Record None [])) ≡ length rows
@@ -357,7 +378,7 @@ whole_on us vs kept P none t whole = by (row_of us t) refl
     by None is = absurd (let e : true ≡ false = sym whole ∙ ap P is ∙ none in cc)
     by (Some r) is = ap P (kept t.0 r is ∙ sym is) ∙ whole
 
-module _ (us vs : List TypeRow) (on : GoOn us vs) (kept : (k : ℕ) (r : TypeRow) → slice_get us k ≡ Some r → slice_get vs k ≡ Some r) where
+module _ (us vs : List TypeRow) (on : GoOn us vs) (kept : (k : ℕ) (r : TypeRow) → slice_get us k ≡ Some r → slice_get vs k ≡ Some r) (longer : length us ≤ length vs) where
   base_stays : (base : Option TypeId) → IsBase us base → IsBase vs base
   base_stays None is = tt
   base_stays (Some b) is = whole_on us vs kept is_record refl b is
@@ -365,6 +386,13 @@ module _ (us vs : List TypeRow) (on : GoOn us vs) (kept : (k : ℕ) (r : TypeRow
   object_stays : (base : Option TypeId) → IsObjectBase us base → IsObjectBase vs base
   object_stays None is = tt
   object_stays (Some b) is = whole_on us vs kept is_object refl b is
+
+  formal_stays : (t : TypeId) → IsFormalType us t → IsFormalType vs t
+  formal_stays t is = (let l = is.0 in omega (arith, l, longer), is.1)
+
+  result_stays : (r : Option TypeId) → IsResultType us r → IsResultType vs r
+  result_stays None is = tt
+  result_stays (Some t) is = (on t is.0, whole_on us vs kept is_scalar refl t is.1)
 
   pub told_on : (r : TypeRow) → AreToldParts us r → AreToldParts vs r
   told_on (row.Basic b) told = tt
@@ -374,7 +402,8 @@ module _ (us vs : List TypeRow) (on : GoOn us vs) (kept : (k : ℕ) (r : TypeRow
   told_on (row.Record base fs) told = (base_stays base told.0, implied (IsTold us) (IsTold vs) on fs told.1)
   told_on (row.Pointer t) told = (told.0, whole_on us vs kept may_be_target refl t told.1)
   told_on (row.Object base fs) told = (object_stays base told.0, implied (IsTold us) (IsTold vs) on fs told.1)
-  told_on (row.Procedure fs r) told = tt
+  told_on (row.Procedure fs r) told =
+      (implied (λ (f : Bool × TypeId). IsFormalType us f.1) (λ (f : Bool × TypeId). IsFormalType vs f.1) (λ (f : Bool × TypeId) is. formal_stays f.1 is) fs told.0, result_stays r told.1)
 
 -- Bases of types whose parts are told.
 

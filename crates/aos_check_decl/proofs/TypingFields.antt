@@ -21,12 +21,12 @@ use Rattle.aos_symbols.specs.Scope.{Named, Scope, has, with_name}
 use Rattle.aos_symbols.specs.Home.{Home, add_record, record_fields}
 use Rattle.aos_symbols.proofs.Each.{Each, implied}
 use Rattle.aos_symbols.proofs.Records.{record_here, record_other}
-use Rattle.aos_symbols.proofs.Told.{IsTold, basic, of_any, defined, GoOn, told_behind, get_front, get_end, IsLength}
+use Rattle.aos_symbols.proofs.Told.{IsTold, basic, of_any, defined, GoOn, told_behind, get_front, get_end, IsLength, IsFormalType}
 use Rattle.aos_check_expr.proofs.Opens.{IsVariableNumber, IsOpenAt, OpensStand, some_there}
 use Rattle.aos_check_expr.proofs.Whole.{IsWritten}
 use Rattle.aos_check_decl.specs.Types.{fields_of, with_field}
 use Rattle.aos_check_decl.specs.Limits.{may_be_target}
-use Rattle.aos_check_decl.proofs.TypingClaims.{IsAskedBase, IsAskedObject, IsAskedTarget, AllBases, AllObjectBases, more_bases, more_object_bases, target_bases, target_object_bases, base_more, base_behind, object_more, object_behind, target_more, AreOfBase, AreOfObject}
+use Rattle.aos_check_decl.proofs.TypingClaims.{IsAskedBase, IsAskedObject, IsAskedTarget, IsAskedResult, AllBases, AllObjectBases, more_bases, more_object_bases, target_bases, target_object_bases, result_bases, result_object_bases, result_more, base_more, base_behind, object_more, object_behind, target_more, AreOfBase, AreOfObject}
 use Rattle.aos_check_decl.proofs.TypingScopes.{variables_at}
 use Rattle.aos_check_decl.proofs.TypingLists.{set_here, set_other, set_gives, push_gives, get_below}
 
@@ -109,13 +109,34 @@ Leads S cs t = IsAskedTarget cs t ⊎ S t
 abbrev pub IsNoRecord : TypeRow → Type 0
 IsNoRecord r = (base : Option TypeId) (ts : List TypeId) → (r ≡ row.Record base ts → ⊥) × (r ≡ row.Object base ts → ⊥)
 
--- such a row: an array has one of the lengths that arrays have, a pointer leads to a type like these
-abbrev pub IsRow : (TypeId → Type 0) → TypeRow → Type 0
-IsRow L (row.Basic b) = ⊥
-IsRow L row.Any = ⊥
-IsRow L (row.Array n t) = IsLength n
-IsRow L (row.Pointer t) = L t
-IsRow L r = Unit {0}
+-- what holds of the type of a result
+abbrev pub OfResult : (TypeId → Type 0) → Option TypeId → Type 0
+OfResult R None = Unit {0}
+OfResult R (Some t) = R t
+
+pub result_implied : (R S : TypeId → Type 0) → ((t : TypeId) → R t → S t) → (r : Option TypeId) → OfResult R r → OfResult S r
+result_implied R S each None is = tt
+result_implied R S each (Some t) is = each t is
+
+-- such a row: an array has one of the lengths that arrays have, a pointer leads to a type like the last of these; the types of formals
+-- are like the first, and that of a result like the second
+abbrev pub IsRow : (F R L : TypeId → Type 0) → TypeRow → Type 0
+IsRow F R L (row.Basic b) = ⊥
+IsRow F R L row.Any = ⊥
+IsRow F R L (row.Array n t) = IsLength n
+IsRow F R L (row.Pointer t) = L t
+IsRow F R L (row.Procedure fs r) = Each (λ (f : Bool × TypeId). F f.1) fs × OfResult R r
+IsRow F R L r = Unit {0}
+
+pub row_implied : (F G R L : TypeId → Type 0) → ((t : TypeId) → F t → G t) → (r : TypeRow) → IsRow F R L r → IsRow G R L r
+row_implied F G R L each (row.Basic b) is = is
+row_implied F G R L each row.Any is = is
+row_implied F G R L each (row.Array n t) is = is
+row_implied F G R L each (row.Open t) is = tt
+row_implied F G R L each (row.Record base ts) is = tt
+row_implied F G R L each (row.Pointer t) is = is
+row_implied F G R L each (row.Object base ts) is = tt
+row_implied F G R L each (row.Procedure fs r) is = (implied (λ (f : Bool × TypeId). F f.1) (λ (f : Bool × TypeId). G f.1) (λ (f : Bool × TypeId) is. each f.1 is) fs is.0, is.1)
 
 abbrev pub IsBaseAsked : List Claim → Option TypeId → Type 0
 IsBaseAsked cs None = Unit {0}
@@ -124,6 +145,10 @@ IsBaseAsked cs (Some b) = IsAskedBase cs b
 abbrev pub IsObjectAsked : List Claim → Option TypeId → Type 0
 IsObjectAsked cs None = Unit {0}
 IsObjectAsked cs (Some b) = IsAskedObject cs b
+
+-- a result's type is told, and it is asked that it is a scalar
+abbrev pub IsGivenResult : List TypeRow → List Claim → TypeId → Type 0
+IsGivenResult types cs t = IsTold types t × IsAskedResult cs t
 
 module _ (n : ℕ) where
   -- a row that the module writes
@@ -134,6 +159,7 @@ module _ (n : ℕ) where
   AreAskedParts types cs (row.Record base ts) = IsBaseAsked cs base × Each (IsTold types) ts
   AreAskedParts types cs (row.Pointer t) = Leads (Stands n types) cs t
   AreAskedParts types cs (row.Object base ts) = IsObjectAsked cs base × Each (IsTold types) ts
+  AreAskedParts types cs (row.Procedure fs r) = Each (λ (f : Bool × TypeId). IsFormalType types f.1) fs × OfResult (IsGivenResult types cs) r
   AreAskedParts types cs r = Unit {0}
 
   pub asked_written : (types : List TypeRow) (cs : List Claim) (r : TypeRow) → AreAskedParts types cs r → IsWritten r
@@ -146,7 +172,8 @@ module _ (n : ℕ) where
   asked_written types cs (row.Object base ts) asked = tt
   asked_written types cs (row.Procedure ts r) asked = tt
 
-  asked_parts : (types : List TypeRow) (cs : List Claim) (r : TypeRow) → IsNoRecord r → IsRow (Leads (Stands n types) cs) r → AreToldIn types r → AreAskedParts types cs r
+  asked_parts : (types : List TypeRow) (cs : List Claim) (r : TypeRow) → IsNoRecord r → IsRow (IsFormalType types) (IsGivenResult types cs) (Leads (Stands n types) cs) r →
+      AreToldIn types r → AreAskedParts types cs r
   asked_parts types cs (row.Basic b) other ok each = ok
   asked_parts types cs row.Any other ok each = ok
   asked_parts types cs (row.Array k t) other ok each = (ok, each t (inl refl))
@@ -154,7 +181,7 @@ module _ (n : ℕ) where
   asked_parts types cs (row.Record b ts) other ok each = absurd ((other b ts).0 refl)
   asked_parts types cs (row.Pointer t) other ok each = ok
   asked_parts types cs (row.Object b ts) other ok each = absurd ((other b ts).1 refl)
-  asked_parts types cs (row.Procedure ts r) other ok each = tt
+  asked_parts types cs (row.Procedure ts r) other ok each = ok
 
   leads_on : (us vs : List TypeRow) (cs ds : List Claim) → AreKept n us vs → (t : TypeId) → Leads (Stands n us) cs t → Leads (Stands n vs) (cs ++ ds) t
   leads_on us vs cs ds kept t (inl asked) = inl (target_more cs ds t asked)
@@ -168,15 +195,21 @@ module _ (n : ℕ) where
   object_on cs ds None asked = tt
   object_on cs ds (Some b) asked = object_more cs ds b asked
 
-  parts_on : (us vs : List TypeRow) (cs ds : List Claim) → GoOn us vs → AreKept n us vs → (r : TypeRow) → AreAskedParts us cs r → AreAskedParts vs (cs ++ ds) r
-  parts_on us vs cs ds on kept (row.Basic b) told = told
-  parts_on us vs cs ds on kept row.Any told = told
-  parts_on us vs cs ds on kept (row.Array k t) told = (told.0, on t told.1)
-  parts_on us vs cs ds on kept (row.Open t) told = tt
-  parts_on us vs cs ds on kept (row.Record base ts) told = (base_on cs ds base told.0, implied (IsTold us) (IsTold vs) on ts told.1)
-  parts_on us vs cs ds on kept (row.Pointer t) told = leads_on us vs cs ds kept t told
-  parts_on us vs cs ds on kept (row.Object base ts) told = (object_on cs ds base told.0, implied (IsTold us) (IsTold vs) on ts told.1)
-  parts_on us vs cs ds on kept (row.Procedure ts r) told = tt
+  parts_on : (us vs : List TypeRow) (cs ds : List Claim) → GoOn us vs → AreKept n us vs → length us ≤ length vs → (r : TypeRow) → AreAskedParts us cs r → AreAskedParts vs (cs ++ ds) r
+  parts_on us vs cs ds on kept longer (row.Basic b) told = told
+  parts_on us vs cs ds on kept longer row.Any told = told
+  parts_on us vs cs ds on kept longer (row.Array k t) told = (told.0, on t told.1)
+  parts_on us vs cs ds on kept longer (row.Open t) told = tt
+  parts_on us vs cs ds on kept longer (row.Record base ts) told = (base_on cs ds base told.0, implied (IsTold us) (IsTold vs) on ts told.1)
+  parts_on us vs cs ds on kept longer (row.Pointer t) told = leads_on us vs cs ds kept t told
+  parts_on us vs cs ds on kept longer (row.Object base ts) told = (object_on cs ds base told.0, implied (IsTold us) (IsTold vs) on ts told.1)
+  parts_on us vs cs ds on kept longer (row.Procedure fs r) told = (
+    implied (λ (f : Bool × TypeId). IsFormalType us f.1) (λ (f : Bool × TypeId). IsFormalType vs f.1) (λ (f : Bool × TypeId) is. formal f.1 is) fs told.0,
+    result_implied (IsGivenResult us cs) (IsGivenResult vs (cs ++ ds)) (λ t is. (on t is.0, result_more cs ds t is.1)) r told.1,
+  )
+    where
+      formal : (t : TypeId) → IsFormalType us t → IsFormalType vs t
+      formal t is = (let l = is.0 in omega (arith, l, longer), is.1)
 
   -- of all rows from a number on
   abbrev pub PartsAreAsked : ℕ → List TypeRow → List Claim → Type 0
@@ -187,14 +220,14 @@ module _ (n : ℕ) where
   parts_set m us cs t r ds below closed told all k x high is =
       let vs = slice_set us t.0 r in
       set_gives (AreAskedParts vs (cs ++ ds)) us t.0 k x r is told
-      (λ old. parts_on us vs cs ds (set_on us t r closed) (set_keeps n us t r below) x (all k x high old))
+      (λ old. parts_on us vs cs ds (set_on us t r closed) (set_keeps n us t r below) (omega (arith, length-set us t.0 r)) x (all k x high old))
 
   parts_push : (m : ℕ) (us : List TypeRow) (cs : List Claim) (r : TypeRow) (ds : List Claim) →
       AreAskedParts (us ++ r ∷ []) (cs ++ ds) r → PartsAreAsked m us cs → PartsAreAsked m (us ++ r ∷ []) (cs ++ ds)
   parts_push m us cs r ds told all k x high is =
       let vs = us ++ r ∷ [] in
       push_gives (AreAskedParts vs (cs ++ ds)) us k x r is told
-      (λ old. parts_on us vs cs ds (told_behind us (r ∷ [])) (push_keeps n us (r ∷ [])) x (all k x high old))
+      (λ old. parts_on us vs cs ds (told_behind us (r ∷ [])) (push_keeps n us (r ∷ [])) (omega (arith, length-append us (r ∷ []))) x (all k x high old))
 
 -- Open arrays.
 
@@ -336,11 +369,11 @@ module _ (m n : ℕ) where
       more_bases (λ b t. IsTold vs b) cs ds (bases_on us vs on cs all) (λ k at b u is. on b (base_told us base fs each b (claims.alone k at b u is).1))
 
   pub agree_set : (us : List TypeRow) (rs : List (ℕ × Scope)) (cs : List Claim) (t : TypeId) (r : TypeRow) → t.0 < n → is_open (Some r) ≡ false → IsNoRecord r →
-      IsRow (Leads (Stands n us) cs) r → AreToldIn us r → Agree us rs cs → Agree (slice_set us t.0 r) rs cs
+      IsRow (IsFormalType us) (IsGivenResult us cs) (Leads (Stands n us) cs) r → AreToldIn us r → Agree us rs cs → Agree (slice_set us t.0 r) rs cs
   agree_set us rs cs t r below closed other ok told agree =
       let vs = slice_set us t.0 r in
       let on = set_on us t r closed in
-      let own = parts_on n us vs cs [] on (set_keeps n us t r below) r (asked_parts n us cs r other ok told) in
+      let own = parts_on n us vs cs [] on (set_keeps n us t r below) (omega (arith, length-set us t.0 r)) r (asked_parts n us cs r other ok told) in
       record {
         parts = subst (PartsAreAsked n m vs) (append-nil cs) (parts_set n m us cs t r [] below closed own agree.parts);
         bases = bases_on us vs on cs agree.bases;
@@ -350,11 +383,11 @@ module _ (m n : ℕ) where
       }
 
   pub agree_push : (us : List TypeRow) (rs : List (ℕ × Scope)) (cs : List Claim) (r : TypeRow) → is_open (Some r) ≡ false → IsNoRecord r →
-      IsRow (Leads (Stands n us) cs) r → AreToldIn us r → Agree us rs cs → Agree (us ++ r ∷ []) rs cs
+      IsRow (IsFormalType us) (IsGivenResult us cs) (Leads (Stands n us) cs) r → AreToldIn us r → Agree us rs cs → Agree (us ++ r ∷ []) rs cs
   agree_push us rs cs r closed other ok told agree =
       let vs = us ++ r ∷ [] in
       let on = told_behind us (r ∷ []) in
-      let own = parts_on n us vs cs [] on (push_keeps n us (r ∷ [])) r (asked_parts n us cs r other ok told) in
+      let own = parts_on n us vs cs [] on (push_keeps n us (r ∷ [])) (omega (arith, length-append us (r ∷ []))) r (asked_parts n us cs r other ok told) in
       record {
         parts = subst (PartsAreAsked n m vs) (append-nil cs) (parts_push n m us cs r [] own agree.parts);
         bases = bases_on us vs on cs agree.bases;
@@ -377,9 +410,18 @@ module _ (m n : ℕ) where
 
   pub agree_target : (us : List TypeRow) (rs : List (ℕ × Scope)) (cs : List Claim) (at : Pos) (t : TypeId) → Agree us rs cs → Agree us rs (cs ++ claim.Target at t ∷ [])
   agree_target us rs cs at t agree = record {
-    parts = λ k r high is. parts_on n us us cs (claim.Target at t ∷ []) (λ t told. told) (λ k r high is. is) r (agree.parts k r high is);
+    parts = λ k r high is. parts_on n us us cs (claim.Target at t ∷ []) (λ t told. told) (λ k r high is. is) (omega arith) r (agree.parts k r high is);
     bases = more_bases (λ b t. IsTold us b) cs (claim.Target at t ∷ []) agree.bases (target_bases (λ b t. IsTold us b) at t);
     objects = more_object_bases (λ b t. IsTold us b) cs (claim.Target at t ∷ []) agree.objects (target_object_bases (λ b t. IsTold us b) at t);
+    opens = agree.opens;
+    fields = agree.fields;
+  }
+
+  pub agree_result : (us : List TypeRow) (rs : List (ℕ × Scope)) (cs : List Claim) (at : Pos) (t : TypeId) → Agree us rs cs → Agree us rs (cs ++ claim.Result at t ∷ [])
+  agree_result us rs cs at t agree = record {
+    parts = λ k r high is. parts_on n us us cs (claim.Result at t ∷ []) (λ t told. told) (λ k r high is. is) (omega arith) r (agree.parts k r high is);
+    bases = more_bases (λ b t. IsTold us b) cs (claim.Result at t ∷ []) agree.bases (result_bases (λ b t. IsTold us b) at t);
+    objects = more_object_bases (λ b t. IsTold us b) cs (claim.Result at t ∷ []) agree.objects (result_object_bases (λ b t. IsTold us b) at t);
     opens = agree.opens;
     fields = agree.fields;
   }

@@ -7,7 +7,6 @@ use Rattle.std.proofs.lemmas.List.{length-replicate}
 use mathlib.Core.Logic.{◌⊎◌, inl, inr}
 use Rattle.aos_base.specs.declared.text.Pos.{Pos}
 use Rattle.aos_tree.specs.declared.name.Qualident.{Qualident}
-use Rattle.aos_tree.specs.declared.stat.Block.{Block}
 use Rattle.aos_tree.specs.declared.decl.Def.{Def}
 use Rattle.aos_tree.specs.declared.decl.Decl.{Decl, Row_of-VarDef, end_of-VarDef, more_of-VarDef, Row_of-Decl, end_of-Decl, more_of-Decl, items-the_row-TypeDef, items-the_row-VarDef, items-the_row-Decl}
 use Rattle.aos_tree.specs.declared.decl.Decl.TheVariants as decl
@@ -33,7 +32,7 @@ use Rattle.aos_symbols.specs.Declarations.{types_in, type_defs, singles_in, sing
 use Rattle.aos_symbols.specs.Home.{Home, add_constant, add_variable, object_of}
 use Rattle.aos_symbols.specs.Env as env
 use Rattle.aos_symbols.proofs.Each.{Each, joined, front, back, implied, repeated}
-use Rattle.aos_symbols.proofs.Holds.{Holds, holds_bind, broken, none_right}
+use Rattle.aos_symbols.proofs.Holds.{Holds, holds_bind, broken}
 use Rattle.aos_check_expr.specs.Expressions.{constant}
 use Rattle.aos_check_expr.proofs.Typing.{HasGood}
 use Rattle.aos_check_expr.proofs.Typing.{constant_good as good_value}
@@ -396,33 +395,31 @@ module _ (c : Telling) (path : List Open) (searched : Each (IsSearched c) path) 
             long = ap (λ n. n + length e.places) (length-set f.env.types t.0 r) ∙ m;
           }
 
-    object_placed : (body : Option Block) {n : _} (row : Row_of-Decl n) → c.fields o.scope ≡ variables_in c inside_path inside_searched row →
-        Holds (IsObjectMet e t) (types.object_with e at q ds body t o.scope (types.members_in (types.members_met entered [] []) row))
-    object_placed body row many none =
+    object_placed : {n : _} (row : Row_of-Decl n) → c.fields o.scope ≡ variables_in c inside_path inside_searched row →
+        Holds (IsObjectMet e t) (types.object_with e at q ds t o.scope (types.members_in (types.members_met entered [] []) row))
+    object_placed row many =
         let members = types.members_in (types.members_met entered [] []) row in
         let made = λ (b : Option TypeId) (f : MembersMet). types.object_met t at q ds b f.types (types.with_own_fields o.scope f.variables (env.back_at e.path f.env)) in
-        let rest = bind (types.base_in e q) (λ b. bind members (λ f. kept (made b f))) in
         holds_bind (IsBaseMet (Known e.types) q) (IsObjectMet e t) (types.base_in e q) (λ b. bind members (λ f. kept (made b f))) (base_sound c path searched e fit q)
         (λ b base. holds_bind (AreMembers c inside_path inside_searched entered (c.fields o.scope)) (IsObjectMet e t) members (λ f. kept (made b f))
         (λ h. members_are c inside_path inside_searched entered (0 + variables_in c inside_path inside_searched row) (c.fields o.scope) members.answer (omega (arith, many))
         (members_sound c inside_path inside_searched entered 0 (types.members_met entered [] [])
         (record { grown = grown_same c inside_path inside_searched entered enter_fit; parts = tt; all = c.none_all; count = refl }) row h))
         (λ f are h. record { of_is = refl; grown = object_grown b base f are }))
-        (none_right (types.body_breaches e at body) rest.breaches none)
 
   -- it declares as many fields as its definition
   abbrev IsWholeType : {n : _} → TypeId → Row_of-Decl n → Type 0
   IsWholeType t row = (o : ObjectScope) → lookup (λ k. nat_eq t.0 k) c.objects ≡ Some o → c.fields o.scope ≡ length (single_variables (items-the_row-Decl _ row))
 
-  object_sound : (out : IsOut c path searched) (e : Env) → IsFit c path e → (t : TypeId) → c.IsSlot t → (at : Pos) (q : Option Qualident) (ds : List Decl) (body : Option Block)
+  object_sound : (out : IsOut c path searched) (e : Env) → IsFit c path e → (t : TypeId) → c.IsSlot t → (at : Pos) (q : Option Qualident) (ds : List Decl)
       {n : _} (row : Row_of-Decl n) → IsWholeType t row → (o : Option ObjectScope) → object_of e.here t ≡ o →
-      Holds (IsObjectMet e t) (types.object_in (Some t) o e at q ds body (λ e. types.members_in (types.members_met e [] []) row))
-  object_sound out e fit t ok at q ds body row many None is =
+      Holds (IsObjectMet e t) (types.object_in (Some t) o e at q ds (λ e. types.members_in (types.members_met e [] []) row))
+  object_sound out e fit t ok at q ds row many None is =
       chosen (IsObjectMet e t) (env.innermost e.path == 0) (types.refused_type 99 at e) (types.refused_type 26 at e) (broken (IsObjectMet e t) _ [] _) (broken (IsObjectMet e t) _ [] _)
-  object_sound out e fit t ok at q ds body row many (Some o) is =
+  object_sound out e fit t ok at q ds row many (Some o) is =
       chosen (IsObjectMet e t) (env.innermost e.path == 0)
-      (types.object_with e at q ds body t o.scope (types.members_in (types.members_met (env.within e o.scope) [] []) row)) (types.refused_type 26 at e)
-      (object_placed out e fit t ok o is at q ds body row (many o (ap (lookup (λ k. nat_eq t.0 k)) (sym fit.objects_is) ∙ is))) (broken (IsObjectMet e t) _ [] _)
+      (types.object_with e at q ds t o.scope (types.members_in (types.members_met (env.within e o.scope) [] []) row)) (types.refused_type 26 at e)
+      (object_placed out e fit t ok o is at q ds row (many o (ap (lookup (λ k. nat_eq t.0 k)) (sym fit.objects_is) ∙ is))) (broken (IsObjectMet e t) _ [] _)
 
   -- Types that are defined.
 
@@ -467,7 +464,7 @@ module _ (c : Telling) (path : List Open) (searched : Each (IsSearched c) path) 
       Holds (Behind 0 e) (judge.defined e (Some t) of)
   object_defined out e fit t ok (type.Object' at q shape row body end) is many =
       holds_bind (IsObjectMet e t) (Behind 0 e) (type_in false (Some t) e (type.Object' at q shape row body end)) (λ m. kept (judge.settled (Some t) m))
-      (object_sound out e fit t ok at q (items-the_row-Decl _ row) body row many (object_of e.here t) refl)
+      (object_sound out e fit t ok at q (items-the_row-Decl _ row) row many (object_of e.here t) refl)
       (λ m is h. record { more = []; count = refl; known = tt; grown = not_settled e t m is })
   object_defined out e fit t ok (type.Named q) is many = absurd is
   object_defined out e fit t ok (type.Array' p lengths shape row) is many = absurd is

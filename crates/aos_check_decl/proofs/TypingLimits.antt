@@ -1,14 +1,14 @@
 -- What is judged of all types together, where no rule is broken: no type contains itself, none is the first past the limit, and
 -- results are of scalar types.
 use Rattle.std.proofs.Common.{◌≡◌, ℕ, zero, suc, ◌+◌, ◌-◌, ◌<◌, ◌≤◌, List, [], ◌∷◌, ◌++◌, length, map, fold, Bool, true, false, not, ◌&&◌, nat_le, if◌then◌else◌, Option, Some, None, slice_get, refl, sym, ap, ◌∙◌, subst, arith, length-append}
-use Rattle.std.specs.List.{zip}
+use Rattle.std.specs.List.{zip, flat_map}
 use Rattle.std.specs.Prelude.{sum_by, unwrap_or}
 use Rattle.std.proofs.lemmas.Bool.{cases_lt, le-leb, leb-true}
 use Rattle.std.proofs.lemmas.List.{length-map}
 use Rattle.std.proofs.lemmas.List.FromFn.{get_or-map-range_with_len}
 use Rattle.std.proofs.lemmas.Option.{none-some, same_Some, unwrap_or-slice_get}
 use mathlib.Core.Logic.{◌⊎◌, inl, inr}
-use Rattle.aos_tree.specs.declared.name.Qualident.{Qualident}
+use Rattle.aos_base.specs.declared.text.Pos.{Pos}
 use Rattle.aos_tree.specs.declared.decl.Def.{Def}
 use Rattle.aos_tree.specs.declared.decl.Decl.{Decl}
 use Rattle.aos_types.specs.declared.TheConstants.{MOST_SCALARS}
@@ -24,7 +24,6 @@ use Rattle.aos_types.specs.Limit.{is_past, is_first_past}
 use Rattle.aos_types.proofs.Circles.{circle_test}
 use Rattle.aos_types.proofs.Reached.{begins_added}
 use Rattle.aos_symbols.specs.declared.breach.Breach.{Breach}
-use Rattle.aos_symbols.specs.declared.home.Gives.TheVariants as gives
 use Rattle.aos_symbols.specs.declared.home.Signature.{Signature}
 use Rattle.aos_symbols.specs.declared.env.Env.{Env}
 use Rattle.aos_symbols.specs.Breaches.{breach_unless}
@@ -82,24 +81,36 @@ module _ (flags : List Bool) (rows : List TypeRow) where
     abbrev variables : List Breach
     variables = judge.variables_past flags rows (sum_by (judge.scalars_of flags rows) e.before) (zip (single_variables ds) (judge.variables_of flags rows (slice_get e.here.scopes 0)))
 
+    abbrev asked : List Breach
+    asked = flat_map (judge.asked_result flags rows) e.claims
+
     written_long : length (written e ds) ≡ length (all_type_defs ds) + length e.places
     written_long =
         length-append (map defined_at (all_type_defs ds)) (map unnamed_at e.places)
         ∙ (λ i. length-map (all_type_defs ds) defined_at i + length-map e.places unnamed_at i)
+
+    all_variables : types ++ results ++ variables ≡ []
+    all_variables = none_left (types ++ results ++ variables) asked none
+
+    all_results : types ++ results ≡ []
+    all_results = none_left (types ++ results) variables all_variables
 
     pub type_kept : (t : TypeId) → first ≤ t.0 → t.0 < first + (length (all_type_defs ds) + length e.places) →
         (judge.is_circular flags rows t ≡ false) × (is_first_past rows t ≡ false)
     type_kept t from to =
         let number : first + (t.0 - first) ≡ t.0 = omega (arith, from) in
         subst (λ n. (judge.is_circular flags rows (record { 0 = n }) ≡ false) × (is_first_past rows (record { 0 = n }) ≡ false)) number
-        (types_kept (written e ds) first (none_left types results (none_left (types ++ results) variables none)) (t.0 - first) (omega (arith, from, to, written_long)))
+        (types_kept (written e ds) first (none_left types results all_results) (t.0 - first) (omega (arith, from, to, written_long)))
 
     pub variables_kept : variables ≡ []
-    variables_kept = none_right (types ++ results) variables none
+    variables_kept = none_right (types ++ results) variables all_variables
+
+    pub asked_kept : asked ≡ []
+    asked_kept = none_right (types ++ results ++ variables) asked none
 
     pub result_kept : (j : ℕ) (p : Procedure) (s : Signature) → slice_get (all_procedures ds) j ≡ Some p → slice_get e.here.signatures j ≡ Some s →
         judge.result_breaches flags rows (judge.result_of flags rows p.formals) s.gives ≡ []
-    result_kept = results_kept (all_procedures ds) e.here.signatures (none_right types results (none_left (types ++ results) variables none))
+    result_kept = results_kept (all_procedures ds) e.here.signatures (none_right types results all_results)
 
 -- Variables of a module.
 
@@ -186,13 +197,13 @@ module _ (flags : List Bool) (rows : List TypeRow) (begins : (k : ℕ) → k < 1
   no_parts false b c e f g = refl
 
   -- a result that breaks no rule, of a type that doesn't contain itself and isn't past the limit
-  pub result_scalar : (q : Qualident) (t : TypeId) → IsTold rows t → judge.is_circular flags rows t ≡ false → scalars rows t ≤ MOST_SCALARS →
-      judge.result_breaches flags rows (Some q) (gives.Value (Some t)) ≡ [] → is_scalar (row_of rows t) ≡ true
-  result_scalar q t (basic low) whole small none = ap is_scalar (begins t.0 (omega (arith, low))) ∙ basic_scalar t.0 low
-  result_scalar q t (of_any any) whole small none = ap is_scalar (begins t.0 (omega (arith, any))) ∙ ap (λ k. is_scalar (slice_get env.basic_rows k)) any
-  result_scalar q t (defined r high there closed) whole small none =
+  pub result_scalar : (at : Pos) (t : TypeId) → IsTold rows t → judge.is_circular flags rows t ≡ false → scalars rows t ≤ MOST_SCALARS →
+      breach_unless (not (judge.is_wrong_result flags rows t)) 25 at ≡ [] → is_scalar (row_of rows t) ≡ true
+  result_scalar at t (basic low) whole small none = ap is_scalar (begins t.0 (omega (arith, low))) ∙ basic_scalar t.0 low
+  result_scalar at t (of_any any) whole small none = ap is_scalar (begins t.0 (omega (arith, any))) ∙ ap (λ k. is_scalar (slice_get env.basic_rows k)) any
+  result_scalar at t (defined r high there closed) whole small none =
       let wrong = judge.is_wrong_result flags rows t in
-      let right = not_true wrong (test_is (not wrong) 25 q.first.pos none) in
+      let right = not_true wrong (test_is (not wrong) 25 at none) in
       let past : is_past rows t ≡ false = grind (arith, small) in
       let parts = no_parts (judge.has_parts flags rows (row_of rows t)) (judge.is_circular flags rows t) (is_past rows t) right whole past in
       ap is_scalar there ∙ scalar_row r closed (ap (judge.has_parts flags rows) (sym there) ∙ parts)

@@ -1,5 +1,5 @@
 -- The object types that a module declares, by the types' numbers: each has the scope of a type, and no two have one.
-use Rattle.std.proofs.Common.{◌≡◌, ◌<◌, ◌≤◌, ℕ, zero, suc, ◌+◌, nat_eq, List, [], ◌∷◌, length, map, fold, Option, Some, None, is_some, option_map, slice_get, refl, sym, ap, ◌∙◌, subst, arith}
+use Rattle.std.proofs.Common.{◌≡◌, ◌<◌, ◌≤◌, ℕ, zero, suc, ◌+◌, nat_eq, List, [], ◌∷◌, length, map, fold, Option, Some, None, option_map, slice_get, refl, sym, ap, ◌∙◌, subst, arith}
 use Rattle.std.specs.Map.{lookup}
 use Rattle.std.proofs.lemmas.Bool.{cases_lt, cases_order}
 use Rattle.std.proofs.lemmas.List.{length-map}
@@ -14,7 +14,8 @@ use Rattle.aos_symbols.specs.declared.home.ObjectScope.{ObjectScope}
 use Rattle.aos_symbols.specs.Declarations.{procedures, type_defs, single_variables, inner_decls}
 use Rattle.aos_symbols.specs.Scope.{Named}
 use Rattle.aos_symbols.specs.Home.{Home}
-use Rattle.aos_symbols.specs.Entries.{Objects, numbered_objects, with_object, next_object, objects_of, number_at, inner_scope, scopes}
+use Rattle.aos_tree.specs.declared.decl.Decl.{items-the_row-Decl}
+use Rattle.aos_symbols.specs.Entries.{Objects, initial_of, numbered_objects, with_object, next_object, objects_of, number_at, inner_scope, scopes}
 use Rattle.aos_symbols.proofs.Records.{lookup_here, lookup_other}
 use Rattle.aos_check_decl.proofs.ObjectTypes.{IsObject}
 use Rattle.aos_check_decl.proofs.TypingLists.{get_below}
@@ -152,7 +153,7 @@ module _ (m : ℕ) (numbers : List (Option TypeId)) (ds : List TypeDef) where
       number_at numbers n ≡ number → AreMet (suc n) (with_object m n methods number of os)
   with_one n methods None d of os are is value at = later n os are (λ x t there object number. none-some t (sym at ∙ number))
   with_one n methods (Some t) d (type.Object' p base shape row body end) os are is value at =
-      let o : ObjectScope = record { home = m; scope = suc n; methods = methods; has_body = is_some body } in
+      let o : ObjectScope = record { home = m; scope = suc n; methods = methods; initial = initial_of (items-the_row-Decl _ row) } in
       one_more n os _ are t o refl refl (lookup_here os t.0 o) (λ u differ. lookup_other os t.0 u.0 o differ) d is (subst IsObject (sym value) tt) at
   with_one n methods (Some t) d (type.Named q) os are is value at = later n os are (no_object n d is (λ object. subst IsObject value object))
   with_one n methods (Some t) d (type.Array' p lengths shape row) os are is value at = later n os are (no_object n d is (λ object. subst IsObject value object))

@@ -2,7 +2,6 @@
 use Rattle.std.proofs.Common.{◌≡◌, ◌==◌, ℕ, List, [], ◌∷◌, ◌++◌, Bool, true, false, if◌then◌else◌, Option, Some, None, refl, ap, ◌∙◌}
 use Rattle.aos_base.specs.declared.text.Pos.{Pos}
 use Rattle.aos_tree.specs.declared.name.Qualident.{Qualident}
-use Rattle.aos_tree.specs.declared.stat.Block.{Block}
 use Rattle.aos_tree.specs.declared.decl.Def.{Def}
 use Rattle.aos_tree.specs.declared.decl.Decl.{Decl, Row_of-Decl, end_of-Decl, more_of-Decl, items-the_row-Decl, items-the_row-TypeDef}
 use Rattle.aos_tree.specs.declared.decl.Decl.TheVariants as decl
@@ -49,26 +48,25 @@ either : {A X : Type 0} (b : Bool) (i j : Judged A) → (if b then i else j).bre
 either true i j none left right = left none
 either false i j none left right = right none
 
-module _ (e : Env) (at : Pos) (base : Option Qualident) (ds : List Decl) (body : Option Block) {n : _} (row : Row_of-Decl n) where
+module _ (e : Env) (at : Pos) (base : Option Qualident) (ds : List Decl) {n : _} (row : Row_of-Decl n) where
   abbrev members : Env → Judged MembersMet
   members e = types.members_in (types.members_met e [] []) row
 
-  object_plain : (slot : Option TypeId) (o : Option ObjectScope) → (types.object_in slot o e at base ds body members).breaches ≡ [] →
+  object_plain : (slot : Option TypeId) (o : Option ObjectScope) → (types.object_in slot o e at base ds members).breaches ≡ [] →
       type_defs (items-the_row-Decl n row) ≡ []
   object_plain None o none = either (env.innermost e.path == 0) (types.refused_type 99 at e) (types.refused_type 26 at e) none (no_breach 99 at e) (no_breach 26 at e)
   object_plain (Some t) None none = either (env.innermost e.path == 0) (types.refused_type 99 at e) (types.refused_type 26 at e) none (no_breach 99 at e) (no_breach 26 at e)
   object_plain (Some t) (Some o) none =
-      either (env.innermost e.path == 0) (types.object_with e at base ds body t o.scope (members (env.within e o.scope))) (types.refused_type 26 at e) none here (no_breach 26 at e)
+      either (env.innermost e.path == 0) (types.object_with e at base ds t o.scope (members (env.within e o.scope))) (types.refused_type 26 at e) none here (no_breach 26 at e)
     where
-      here : (types.object_with e at base ds body t o.scope (members (env.within e o.scope))).breaches ≡ [] → type_defs (items-the_row-Decl n row) ≡ []
+      here : (types.object_with e at base ds t o.scope (members (env.within e o.scope))).breaches ≡ [] → type_defs (items-the_row-Decl n row) ≡ []
       here none =
           let met = members (env.within e o.scope) in
           let made = λ (b : Option TypeId) (f : MembersMet). types.object_met t at base ds b f.types (types.with_own_fields o.scope f.variables (env.back_at e.path f.env)) in
           let behind_base = λ (b : Option TypeId). bind met (λ f. kept (made b f)) in
           let found = types.base_in e base in
           members_plain (types.members_met (env.within e o.scope) [] []) row
-          (bind_left met (λ f. kept (made found.answer f)) (bind_right found behind_base
-          (none_right (types.body_breaches e at body) (bind found behind_base).breaches none)))
+          (bind_left met (λ f. kept (made found.answer f)) (bind_right found behind_base none))
 
 type_plain : (e : Env) (def : Def) (of : TypeExpr) → (judge.type_def e (record { def = def; value = of })).breaches ≡ [] → IsPlain (record { def = def; value = of })
 type_plain e def (type.Named q) none = refl
@@ -79,7 +77,7 @@ type_plain e def (type.Proc p flag formals) none = refl
 type_plain e def (type.Object' p base shape row body end) none =
     let slot = judge.slot_in (env.lookup e def.name) in
     let of = type.Object' p base shape row body end in
-    object_plain e p base (items-the_row-Decl _ row) body row slot (types.object_slot e slot)
+    object_plain e p base (items-the_row-Decl _ row) row slot (types.object_slot e slot)
     (bind_left (types.type_in false slot e of) (λ m. kept (judge.settled slot m)) none)
 
 types_plain : (ds : List TypeDef) (e : Env) → (walk judge.type_def e ds).breaches ≡ [] → Each IsPlain ds

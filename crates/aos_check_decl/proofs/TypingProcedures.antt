@@ -1,17 +1,13 @@
 -- Headings of procedures that break no rule, and what the procedures declare.
-use Rattle.std.proofs.Common.{◌≡◌, ℕ, zero, suc, ◌+◌, ◌-◌, ◌<◌, ◌≤◌, nat_eq, List, [], ◌∷◌, ◌++◌, length, map, replicate, Option, Some, None, option_map, slice_get, refl, sym, ap, ◌∙◌, subst, arith, length-append}
+use Rattle.std.proofs.Common.{◌≡◌, ℕ, zero, suc, ◌+◌, ◌-◌, ◌<◌, ◌≤◌, nat_eq, List, [], ◌∷◌, ◌++◌, length, map, Bool, true, false, ◌&&◌, Option, Some, None, is_some, option_map, slice_get, refl, sym, ap, ◌∙◌, subst, arith, length-append}
 use Rattle.std.specs.List.{flat_map}
-use Rattle.std.proofs.lemmas.List.{length-replicate}
 use Rattle.std.proofs.lemmas.Option.{none-some, same_Some}
-use Rattle.std.proofs.lemmas.Bool.{cases_lt}
+use Rattle.std.proofs.lemmas.Bool.{cases_lt, and_parts}
 use mathlib.Core.Logic.{◌⊎◌, inl, inr}
 use Rattle.aos_base.specs.declared.text.Pos.{Pos}
-use Rattle.aos_tree.specs.declared.name.Qualident.{Qualident}
 use Rattle.aos_tree.specs.declared.decl.Decl.{Decl}
 use Rattle.aos_tree.specs.declared.decl.Formals.{Formals}
-use Rattle.aos_tree.specs.declared.decl.Section.{Section}
 use Rattle.aos_types.specs.declared.row.TypeId.{TypeId}
-use Rattle.aos_types.specs.declared.row.TypeRow.{TypeRow}
 use Rattle.aos_symbols.specs.declared.home.Gives.{Gives}
 use Rattle.aos_symbols.specs.declared.home.Gives.TheVariants as gives
 use Rattle.aos_symbols.specs.declared.home.Parameter.{Parameter}
@@ -20,139 +16,26 @@ use Rattle.aos_symbols.specs.declared.env.Open.{Open}
 use Rattle.aos_symbols.specs.declared.env.Env.{Env}
 use Rattle.aos_symbols.specs.Judged.{kept, bind, walk}
 use Rattle.std.specs.Map.{lookup}
-use Rattle.std.specs.Option.{option_or}
+use Rattle.std.specs.Option.{option_or, is_none}
 use Rattle.aos_symbols.specs.declared.home.ObjectScope.{ObjectScope}
 use Rattle.aos_tree.specs.declared.decl.TypeDef.{TypeDef}
 use Rattle.aos_symbols.specs.Home.{Home, object_of}
 use Rattle.aos_symbols.specs.Declarations.{Procedure, procedures, methods_in, all_procedures, type_defs, single_variables, formal_names}
 use Rattle.aos_symbols.specs.Scope.{Scope}
 use Rattle.aos_symbols.specs.Env as env
-use Rattle.aos_symbols.proofs.Each.{Each, joined, implied, repeated}
-use Rattle.aos_symbols.proofs.Holds.{Holds, holds_bind, none_right}
-use Rattle.aos_check_decl.specs.Types.{Met, met, named_type}
+use Rattle.aos_symbols.proofs.Each.{Each, joined, implied}
+use Rattle.aos_symbols.proofs.Holds.{Holds, holds_bind, none_left, none_right, test_is}
 use Rattle.aos_check_decl.specs.Methods.{definition_breaches, with_all_slots}
 use Rattle.aos_check_decl.specs.Headings as judge
-use Rattle.aos_check_decl.specs.Headings.{FormalsMet, formals_met, HeadingMet, heading_met}
+use Rattle.aos_check_decl.specs.Headings.{HeadingMet}
 use Rattle.aos_check_decl.proofs.TypingLists.{get_below, get_behind}
 use Rattle.aos_check_decl.proofs.TypingScopes.{behind, variables_at, IsOutside}
-use Rattle.aos_check_decl.proofs.TypingTypes.{Telling, IsSearched, IsFit, IsBeyond, beyond_same, beyond_on, fit_beyond, named, open_placed}
+use Rattle.aos_check_decl.proofs.TypingTypes.{Telling, IsSearched, IsFit, fit_beyond, IsHead, head_sound}
+pub use Rattle.aos_check_decl.proofs.TypingTypes.{HasResult}
 use Rattle.aos_check_decl.proofs.TypingHeadings.{HasSlot, IsGrown, IsBehind, grown_on, grown_same, one_variable, declarations_sound, IsOut}
 
 abbrev pub types_of : List Parameter → List (Option TypeId)
 types_of ps = map (λ (a : Parameter). a.of) ps
-
--- a heading that tells a result
-pub record HasResult (formals : Option Formals) : Type 0 where
-  pub whole : Formals
-  pub is : formals ≡ Some whole
-  pub name : Qualident
-  pub result : whole.result ≡ Some name
-
-module _ (c : Telling) (path : List Open) (searched : Each (IsSearched c) path) where
-  open c use {Known, There, GoesTo}
-
-  -- Parameters, which may be open arrays.
-
-  record IsOpened (e : Env) (m : Met) : Type 0 where
-    beyond : IsBeyond c e m.env
-    there : There m.env.types m.of
-
-  open_sound : (e : Env) → IsFit c path e → (at : Pos) (f : Env) (of : Option TypeId) → IsOpened e (met f of) → IsOpened e (judge.opened (at ∷ []) (met f of))
-  open_sound e fit at f None is = is
-  open_sound e fit at f (Some t) is =
-      let g = (judge.opened (at ∷ []) (met f (Some t))).env in
-      record {
-        beyond = beyond_on c e f g is.beyond (open_placed c path searched f (fit_beyond c path e f fit is.beyond) at t is.there);
-        there = c.pushed_open f.types t (fit_beyond c path e f fit is.beyond).table;
-      }
-
-  opened_sound : (e : Env) → IsFit c path e → (ats : List Pos) (m : Met) → IsOpened e m → IsOpened e (judge.opened ats m)
-  opened_sound e fit [] m is = is
-  opened_sound e fit (at ∷ ats) m is =
-      let n = judge.opened ats m in open_sound e fit at n.env n.of (opened_sound e fit ats m is)
-
-  pub record IsFormals (e : Env) (n : ℕ) (f : FormalsMet) : Type 0 where
-    pub beyond : IsBeyond c e f.env
-    pub there : Each (λ (a : Parameter). There f.env.types a.of) f.parameters
-    pub count : length f.parameters ≡ n
-
-  section_sound : (e : Env) → IsFit c path e → (n : ℕ) (f : FormalsMet) → IsFormals e n f → (s : Section) →
-      Holds (IsFormals e (n + length s.names)) (judge.with_section f s)
-  section_sound e fit n f is s =
-      let here = fit_beyond c path e f.env fit is.beyond in
-      holds_bind (Known f.env.types) (IsFormals e (n + length s.names)) (named_type f.env s.of)
-      (λ of. let m = judge.opened s.arrays (met f.env of) in
-      kept (formals_met m.env (f.parameters ++ replicate (length s.names) (record { by_reference = s.by_reference; of = m.of }))))
-      (named c path searched f.env here s.of)
-      (λ of known h. more (judge.opened s.arrays (met f.env of))
-      (opened_sound f.env here s.arrays (met f.env of) (record { beyond = beyond_same c f.env; there = c.known_there f.env.types of known })))
-    where
-      more : (m : Met) → IsOpened f.env m →
-          IsFormals e (n + length s.names) (formals_met m.env (f.parameters ++ replicate (length s.names) (record { by_reference = s.by_reference; of = m.of })))
-      more m opened =
-          let a : Parameter = record { by_reference = s.by_reference; of = m.of } in
-          record {
-            beyond = beyond_on c e f.env m.env is.beyond opened.beyond;
-            there =
-                joined (λ (a : Parameter). There m.env.types a.of) f.parameters (replicate (length s.names) a)
-                (implied (λ (a : Parameter). There f.env.types a.of) (λ (a : Parameter). There m.env.types a.of)
-                (λ a there. c.there_on f.env.types m.env.types opened.beyond.goes a.of there) f.parameters is.there)
-                (repeated (λ (a : Parameter). There m.env.types a.of) (length s.names) a opened.there);
-            count = length-append f.parameters (replicate (length s.names) a) ∙ (λ i. is.count i + length-replicate (length s.names) a i);
-          }
-
-  sections_sound : (e : Env) → IsFit c path e → (ss : List Section) (n : ℕ) (f : FormalsMet) → IsFormals e n f →
-      Holds (IsFormals e (n + length (flat_map (λ (s : Section). s.names) ss))) (walk judge.with_section f ss)
-  sections_sound e fit [] n f is = λ h. subst (λ n. IsFormals e n f) (let same : n ≡ n + 0 = omega arith in same) is
-  sections_sound e fit (s ∷ ss) n f is =
-      let rest = length (flat_map (λ (s : Section). s.names) ss) in
-      let same : (n + length s.names) + rest ≡ n + length (s.names ++ flat_map (λ (s : Section). s.names) ss) =
-      omega (arith, length-append s.names (flat_map (λ (s : Section). s.names) ss)) in
-      subst (λ k. Holds (IsFormals e k) (walk judge.with_section f (s ∷ ss))) same
-      (holds_bind (IsFormals e (n + length s.names)) (IsFormals e ((n + length s.names) + rest)) (judge.with_section f s) (λ g. walk judge.with_section g ss)
-      (section_sound e fit n f is s) (λ g are. sections_sound e fit ss (n + length s.names) g are))
-
-  -- Headings.
-
-  abbrev AreGiven : List TypeRow → Option Qualident → Gives → Type 0
-  AreGiven ts r g = (of : Option TypeId) → g ≡ gives.Value of → Known ts of × ((q : Qualident) × (r ≡ Some q))
-
-  no_value : {of : Option TypeId} → gives.Nothing ≡ gives.Value of → ⊥
-  no_value e = cc
-
-  same_value : (a b : Option TypeId) → gives.Value a ≡ gives.Value b → a ≡ b
-  same_value a b e = cc
-
-  given_sound : (e : Env) → IsFit c path e → (r : Option Qualident) → Holds (AreGiven e.types r) (judge.given e r)
-  given_sound e fit None = λ h of is. absurd (no_value is)
-  given_sound e fit (Some q) =
-      holds_bind (Known e.types) (AreGiven e.types (Some q)) (named_type e q) (λ of. kept (gives.Value of)) (named c path searched e fit q)
-      (λ of known h of' is. (subst (Known e.types) (same_value of of' is) known, (q, refl)))
-
-  pub record IsHead (e : Env) (formals : Option Formals) (h : HeadingMet) : Type 0 where
-    pub beyond : IsBeyond c e h.env
-    pub there : Each (λ (a : Parameter). There h.env.types a.of) h.signature.parameters
-    pub count : length h.signature.parameters ≡ length (formal_names formals)
-    pub result : (of : Option TypeId) → h.signature.gives ≡ gives.Value of → Known h.env.types of × HasResult formals
-
-  head_sound : (e : Env) → IsFit c path e → (formals : Option Formals) → Holds (IsHead e formals) (judge.formals_in e formals)
-  head_sound e fit None = λ h. record { beyond = beyond_same c e; there = tt; count = refl; result = λ of is. absurd (no_value is) }
-  head_sound e fit (Some f) =
-      let names = flat_map (λ (s : Section). s.names) f.sections in
-      let same : 0 + length names ≡ length names = omega arith in
-      holds_bind (IsFormals e (length names)) (IsHead e (Some f)) (walk judge.with_section (formals_met e []) f.sections)
-      (λ s. bind (judge.given s.env f.result) (λ g. kept (heading_met s.env (record { parameters = s.parameters; gives = g }))))
-      (subst (λ n. Holds (IsFormals e n) (walk judge.with_section (formals_met e []) f.sections)) same
-      (sections_sound e fit f.sections 0 (formals_met e []) (record { beyond = beyond_same c e; there = tt; count = refl })))
-      (λ s are. holds_bind (AreGiven s.env.types f.result) (IsHead e (Some f)) (judge.given s.env f.result)
-      (λ g. kept (heading_met s.env (record { parameters = s.parameters; gives = g })))
-      (given_sound s.env (fit_beyond c path e s.env fit are.beyond) f.result)
-      (λ g is h. record {
-        beyond = are.beyond;
-        there = are.there;
-        count = are.count;
-        result = λ of value. let r = is of value in (r.0, record { whole = f; is = refl; name = r.1.0; result = r.1.1 });
-      }))
 
 parameters_grown : (c : Telling) (path : List Open) (searched : Each (IsSearched c) path) → IsOut c path searched → (ps : List Parameter) (e : Env) → IsFit c path e →
     IsGrown c path searched (types_of ps) e (judge.with_parameters e ps)
@@ -173,8 +56,10 @@ module _ (c : Telling) (path : List Open) (searched : Each (IsSearched c) path) 
   inside_searched k = (inr (inl refl), searched)
 
   -- the procedure whose scope has this number is declared
-  pub record IsMade (k : ℕ) (formals : Option Formals) (ds : List Decl) (e e' : Env) : Type 0 where
+  pub record IsMade (k : ℕ) (initializer : Option Pos) (formals : Option Formals) (ds : List Decl) (e e' : Env) : Type 0 where
     pub signature : Signature
+    pub mark : signature.is_initializer ≡ is_some initializer
+    pub proper : signature.is_initializer ≡ true → signature.gives ≡ gives.Nothing
     pub locals : List (Option TypeId)
     pub signatures : e'.here.signatures ≡ e.here.signatures ++ signature ∷ []
     pub others : (j : ℕ) → (j ≡ k → ⊥) → IsOutside (suc c.inner) j → variables_at e'.here.scopes j ≡ variables_at e.here.scopes j
@@ -189,15 +74,18 @@ module _ (c : Telling) (path : List Open) (searched : Each (IsSearched c) path) 
     pub long : length e'.types + length e.places ≡ length e.types + length e'.places
 
   -- behind all that it declares
-  ended : (k : ℕ) (own : c.inner < k) (formals : Option Formals) (ds : List Decl) (e : Env) → IsFit c path e → (h : HeadingMet) → IsHead c path searched e formals h →
+  ended : (k : ℕ) (own : c.inner < k) (initializer : Option Pos) (formals : Option Formals) (ds : List Decl) (e : Env) → IsFit c path e → (h : HeadingMet) → IsHead c path searched e formals h →
+      h.signature.is_initializer ≡ is_some initializer → (h.signature.is_initializer ≡ true → h.signature.gives ≡ gives.Nothing) →
       (x : Env) (locals : List (Option TypeId)) → length locals ≡ length (single_variables ds) → Each (Known x.types) locals →
       IsGrown c (inside k) (inside_searched k) (types_of h.signature.parameters ++ locals) (env.within (judge.with_signature h.env h.signature) k) x →
-      IsMade k formals ds e (env.back_at h.env.path x)
-  ended k own formals ds e fit h head x locals all known grown =
+      IsMade k initializer formals ds e (env.back_at h.env.path x)
+  ended k own initializer formals ds e fit h head mark proper x locals all known grown =
       let m = head.beyond.long in
       let n = grown.long in
       record {
         signature = h.signature;
+        mark = mark;
+        proper = proper;
         locals = locals;
         signatures = grown.here.signatures ∙ ap (λ (ss : List Signature). ss ++ h.signature ∷ []) head.beyond.signatures;
         others = λ j other outside. grown.here.others j other (subst (λ n. IsOutside n j) (sym (head.beyond.first ∙ fit.first_is)) outside)
@@ -228,9 +116,10 @@ module _ (c : Telling) (path : List Open) (searched : Each (IsSearched c) path) 
         long = omega (arith, m, n);
       }
 
-  locals_sound : (k : ℕ) (own : c.inner < k) (formals : Option Formals) (ds : List Decl) → Each (HasSlot c (inside k)) (type_defs ds) →
-      (e : Env) → IsFit c path e → (h : HeadingMet) → IsHead c path searched e formals h → Holds (IsMade k formals ds e) (judge.locals_in k h ds)
-  locals_sound k own formals ds slots e fit h head =
+  locals_sound : (k : ℕ) (own : c.inner < k) (initializer : Option Pos) (formals : Option Formals) (ds : List Decl) → Each (HasSlot c (inside k)) (type_defs ds) →
+      (e : Env) → IsFit c path e → (h : HeadingMet) → IsHead c path searched e formals h → h.signature.is_initializer ≡ is_some initializer →
+      (h.signature.is_initializer ≡ true → h.signature.gives ≡ gives.Nothing) → Holds (IsMade k initializer formals ds e) (judge.locals_in k h ds)
+  locals_sound k own initializer formals ds slots e fit h head mark proper =
       let s = h.signature in
       let f = env.within (judge.with_signature h.env s) k in
       let g = judge.with_parameters f s.parameters in
@@ -252,17 +141,41 @@ module _ (c : Telling) (path : List Open) (searched : Each (IsSearched c) path) 
         filled = out.filled;
       } in
       let one = parameters_grown c (inside k) deeper (inr own) s.parameters f f_fit in
-      holds_bind (IsBehind c (inside k) deeper (length (single_variables ds)) g) (IsMade k formals ds e) (walk judge.declared g ds) (λ x. kept (env.back_at h.env.path x))
+      holds_bind (IsBehind c (inside k) deeper (length (single_variables ds)) g) (IsMade k initializer formals ds e) (walk judge.declared g ds) (λ x. kept (env.back_at h.env.path x))
       (declarations_sound c (inside k) deeper (inr own) ds slots g one.fit)
-      (λ x two none. ended k own formals ds e fit h head x two.more two.count two.known (grown_on c (inside k) deeper (types_of s.parameters) two.more f g x one two.grown))
+      (λ x two none. ended k own initializer formals ds e fit h head mark proper x two.more two.count two.known (grown_on c (inside k) deeper (types_of s.parameters) two.more f g x one two.grown))
 
-  procedure_sound : (rule : ℕ) (k : ℕ) (own : c.inner < k) (initializer : Option Pos) (formals : Option Formals) (ds : List Decl) →
+  -- an initializer is no function
+  marked_head : (e : Env) (initializer : Option Pos) (formals : Option Formals) (h : HeadingMet) → IsHead c path searched e formals h →
+      IsHead c path searched e formals (judge.marked initializer h)
+  marked_head e initializer formals h head = record { beyond = head.beyond; there = head.there; count = head.count; result = head.result }
+
+  no_result : (formals : Option Formals) → HasResult formals → is_none (judge.result_in formals) ≡ true → ⊥
+  no_result formals r none = let e : false ≡ true = sym (ap (λ o. is_none o) (ap judge.result_in r.is ∙ r.result)) ∙ none in cc
+
+  gives_nothing : (formals : Option Formals) (g : Gives) → ((of : Option TypeId) → g ≡ gives.Value of → HasResult formals) → is_none (judge.result_in formals) ≡ true →
+      g ≡ gives.Nothing
+  gives_nothing formals gives.Nothing has none = refl
+  gives_nothing formals (gives.Value of) has none = absurd (no_result formals (has of refl) none)
+
+  marked_proper : (e : Env) (may_stand : Bool) (initializer : Option Pos) (formals : Option Formals) → judge.initializer_breaches may_stand initializer formals ≡ [] → (h : HeadingMet) →
+      IsHead c path searched e formals h → is_some initializer ≡ true → h.signature.gives ≡ gives.Nothing
+  marked_proper e may_stand None formals none h head is = let never : false ≡ true = is in absurd (cc)
+  marked_proper e may_stand (Some at) formals none h head is =
+      gives_nothing formals h.signature.gives (λ of value. (head.result of value).1)
+      (and_parts may_stand (is_none (judge.result_in formals)) (test_is (may_stand && is_none (judge.result_in formals)) 24 at none)).1
+
+  procedure_sound : (may_stand : Bool) (k : ℕ) (own : c.inner < k) (initializer : Option Pos) (formals : Option Formals) (ds : List Decl) →
       Each (HasSlot c (inside k)) (type_defs ds) →
-      (e : Env) → IsFit c path e → Holds (IsMade k formals ds e) (judge.procedure rule e k initializer formals ds)
-  procedure_sound rule k own initializer formals ds slots e fit none =
-      holds_bind (IsHead c path searched e formals) (IsMade k formals ds e) (judge.formals_in e formals) (λ h. judge.locals_in k h ds) (head_sound c path searched e fit formals)
-      (λ h head. locals_sound k own formals ds slots e fit h head)
-      (none_right (judge.initializer_breaches rule initializer) (bind (judge.formals_in e formals) (λ h. judge.locals_in k h ds)).breaches none)
+      (e : Env) → IsFit c path e → Holds (IsMade k initializer formals ds e) (judge.procedure may_stand e k initializer formals ds)
+  procedure_sound may_stand k own initializer formals ds slots e fit none =
+      let rest = λ (h : HeadingMet). judge.locals_in k (judge.marked initializer h) ds in
+      let rule = judge.initializer_breaches may_stand initializer formals in
+      let behind = (bind (judge.formals_in e formals) rest).breaches in
+      holds_bind (IsHead c path searched e formals) (IsMade k initializer formals ds e) (judge.formals_in e formals) rest (head_sound c path searched e fit formals)
+      (λ h head. locals_sound k own initializer formals ds slots e fit (judge.marked initializer h) (marked_head e initializer formals h head) refl
+      (marked_proper e may_stand initializer formals (none_left rule behind none) h head))
+      (none_right rule behind none)
 
   -- Procedures one after another.
 
@@ -273,6 +186,8 @@ module _ (c : Telling) (path : List Open) (searched : Each (IsSearched c) path) 
 
   pub record HasMade (k : ℕ) (e e' : Env) (j : ℕ) (p : Procedure) : Type 0 where
     pub signature : Signature
+    pub mark : signature.is_initializer ≡ is_some p.initializer
+    pub proper : signature.is_initializer ≡ true → signature.gives ≡ gives.Nothing
     pub locals : List (Option TypeId)
     pub signature_is : slice_get e'.here.signatures (length e.here.signatures + j) ≡ Some signature
     pub own : variables_at e'.here.scopes (k + j) ≡ option_map (behind (types_of signature.parameters ++ locals)) (variables_at e.here.scopes (k + j))
@@ -304,7 +219,7 @@ module _ (c : Telling) (path : List Open) (searched : Each (IsSearched c) path) 
     long = refl;
   }
 
-  module _ (k : ℕ) (own : c.inner < k) (p : Procedure) (ps : List Procedure) (e f g : Env) (one : IsMade k p.formals p.decls e f) (two : AreMade (suc k) ps f g) where
+  module _ (k : ℕ) (own : c.inner < k) (p : Procedure) (ps : List Procedure) (e f g : Env) (one : IsMade k p.initializer p.formals p.decls e f) (two : AreMade (suc k) ps f g) where
     longer : length f.here.signatures ≡ length e.here.signatures + 1
     longer = ap length one.signatures ∙ length-append e.here.signatures (one.signature ∷ [])
 
@@ -321,6 +236,8 @@ module _ (c : Telling) (path : List Open) (searched : Each (IsSearched c) path) 
     first_made : HasMade k e g 0 p
     first_made = record {
       signature = one.signature;
+      mark = one.mark;
+      proper = one.proper;
       locals = one.locals;
       signature_is = first_signature (length e.here.signatures + 0) refl;
       own = first_own (k + 0) (omega arith);
@@ -337,6 +254,8 @@ module _ (c : Telling) (path : List Open) (searched : Each (IsSearched c) path) 
         let scope : suc k + j ≡ k + suc j = omega arith in
         record {
           signature = is.signature;
+          mark = is.mark;
+          proper = is.proper;
           locals = is.locals;
           signature_is = ap (slice_get g.here.signatures) (sym number) ∙ is.signature_is;
           own = subst (λ n. variables_at g.here.scopes n ≡ option_map (behind (types_of is.signature.parameters ++ is.locals)) (variables_at e.here.scopes n)) scope
@@ -377,12 +296,13 @@ module _ (c : Telling) (path : List Open) (searched : Each (IsSearched c) path) 
         made zero q is = subst (HasMade k e g 0) (same_Some p q is) first_made
         made (suc j) q is = next_made j q (two.made j q is)
 
-  procedures_sound : (rule : ℕ) (ps : List Procedure) (k : ℕ) → c.inner < k → AreSlotted k ps → (e : Env) → IsFit c path e → Holds (AreMade k ps e) (judge.procedures_from rule e k ps)
-  procedures_sound rule [] k own slots e fit = λ h. no_procedures k e fit
-  procedures_sound rule (p ∷ ps) k own slots e fit =
-      holds_bind (IsMade k p.formals p.decls e) (AreMade k (p ∷ ps) e) (judge.procedure rule e k p.initializer p.formals p.decls) (λ f. judge.procedures_from rule f (suc k) ps)
-      (procedure_sound rule k own p.initializer p.formals p.decls slots.0 e fit)
-      (λ f one h. more_made k own p ps e f (judge.procedures_from rule f (suc k) ps).answer one (procedures_sound rule ps (suc k) (omega (arith, own)) slots.1 f one.fit h))
+  procedures_sound : (may_stand : Bool) (ps : List Procedure) (k : ℕ) → c.inner < k → AreSlotted k ps → (e : Env) → IsFit c path e → Holds (AreMade k ps e) (judge.procedures_from may_stand e k ps)
+  procedures_sound may_stand [] k own slots e fit = λ h. no_procedures k e fit
+  procedures_sound may_stand (p ∷ ps) k own slots e fit =
+      let further = may_stand && is_none p.initializer in
+      holds_bind (IsMade k p.initializer p.formals p.decls e) (AreMade k (p ∷ ps) e) (judge.procedure may_stand e k p.initializer p.formals p.decls) (λ f. judge.procedures_from further f (suc k) ps)
+      (procedure_sound may_stand k own p.initializer p.formals p.decls slots.0 e fit)
+      (λ f one h. more_made k own p ps e f (judge.procedures_from further f (suc k) ps).answer one (procedures_sound further ps (suc k) (omega (arith, own)) slots.1 f one.fit h))
 
   -- Procedures, and others behind them.
 
@@ -393,6 +313,8 @@ module _ (c : Telling) (path : List Open) (searched : Each (IsSearched c) path) 
     front_made : (j : ℕ) (p : Procedure) → j < length ps → HasMade k e f j p → HasMade k e g j p
     front_made j p below is = record {
       signature = is.signature;
+      mark = is.mark;
+      proper = is.proper;
       locals = is.locals;
       signature_is = two.before (length e.here.signatures + j) (omega (arith, below, both_longer)) ∙ is.signature_is;
       own = two.others (k + j) (omega (arith, below)) (inr (omega (arith, own))) ∙ is.own;
@@ -409,6 +331,8 @@ module _ (c : Telling) (path : List Open) (searched : Each (IsSearched c) path) 
         let scope : (k + length ps) + j ≡ k + (length ps + j) = omega arith in
         record {
           signature = is.signature;
+          mark = is.mark;
+          proper = is.proper;
           locals = is.locals;
           signature_is = ap (slice_get g.here.signatures) (sym number) ∙ is.signature_is;
           own = subst (λ n. variables_at g.here.scopes n ≡ option_map (behind (types_of is.signature.parameters ++ is.locals)) (variables_at e.here.scopes n)) scope
@@ -499,6 +423,8 @@ module _ (c : Telling) (path : List Open) (searched : Each (IsSearched c) path) 
       back path' searched' e' f here types places are = record {
         made = λ j p is. (let x = are.made j p is in record {
           signature = x.signature;
+          mark = x.mark;
+          proper = x.proper;
           locals = x.locals;
           signature_is = ap (λ (h : Home). slice_get f.here.signatures (length h.signatures + j)) (sym here) ∙ x.signature_is;
           own = x.own ∙ ap (λ (h : Home). option_map (behind (types_of x.signature.parameters ++ x.locals)) (variables_at h.scopes (k + j))) here;
@@ -532,10 +458,10 @@ module _ (c : Telling) (path : List Open) (searched : Each (IsSearched c) path) 
       }
 
       at : (path' : List Open) (searched' : Each (IsSearched c) path') (e' : Env) → IsFit c path' e' → e'.here ≡ e.here → e'.types ≡ e.types → e'.places ≡ e.places →
-          Holds (AreMade c path searched k (methods_in d) e) (bind (judge.procedures_from 99 e' k (methods_in d)) (λ f. kept (env.outside e.path f)))
+          Holds (AreMade c path searched k (methods_in d) e) (bind (judge.procedures_from true e' k (methods_in d)) (λ f. kept (env.outside e.path f)))
       at path' searched' e' fit' here types places =
-          holds_bind (AreMade c path' searched' k (methods_in d) e') (AreMade c path searched k (methods_in d) e) (judge.procedures_from 99 e' k (methods_in d)) (λ f. kept (env.outside e.path f))
-          (procedures_sound c path' searched' 99 (methods_in d) k own (slots path' searched') e' fit')
+          holds_bind (AreMade c path' searched' k (methods_in d) e') (AreMade c path searched k (methods_in d) e) (judge.procedures_from true e' k (methods_in d)) (λ f. kept (env.outside e.path f))
+          (procedures_sound c path' searched' true (methods_in d) k own (slots path' searched') e' fit')
           (λ f are h. back path' searched' e' f here types places are)
 
       within : (t : TypeId) → IsFit c (env.object_path e (env.chain e.types t) ++ path) (env.within_object e t)
@@ -555,7 +481,7 @@ module _ (c : Telling) (path : List Open) (searched : Each (IsSearched c) path) 
         filled = fit.filled;
       }
 
-      by : (o : Option TypeId) → Holds (AreMade c path searched k (methods_in d) e) (bind (judge.procedures_from 99 (judge.within_type e o) k (methods_in d)) (λ f. kept (env.outside e.path f)))
+      by : (o : Option TypeId) → Holds (AreMade c path searched k (methods_in d) e) (bind (judge.procedures_from true (judge.within_type e o) k (methods_in d)) (λ f. kept (env.outside e.path f)))
       by None = at path searched e fit refl refl refl
       by (Some t) =
           at (env.object_path e (env.chain e.types t) ++ path)
@@ -623,6 +549,8 @@ module _ (c : Telling) (path : List Open) (searched : Each (IsSearched c) path) 
     made_from : IsFit c path e → (j : ℕ) (p : Procedure) → HasMade c path searched first f g j p → HasMade c path searched first e last j p
     made_from fit j p is = record {
       signature = is.signature;
+      mark = is.mark;
+      proper = is.proper;
       locals = is.locals;
       signature_is = ap (λ (ss : List Signature). slice_get g.here.signatures (length ss + j)) (sym one.grown.here.signatures) ∙ is.signature_is;
       own = is.own ∙ ap (option_map (behind (types_of is.signature.parameters ++ is.locals)))
@@ -678,10 +606,10 @@ module _ (c : Telling) (path : List Open) (searched : Each (IsSearched c) path) 
       let qs = flat_map methods_in (type_defs ds) in
       let behind_procedures = λ (f : Env). bind (judge.methods_from f (first + length ps) (type_defs ds)) (λ g. judge.overriding g (type_defs ds)) in
       let own : c.inner < first = omega (arith, inner) in
-      holds_bind (IsBehind c path searched (length (single_variables ds)) e) (IsHeaded ds e) (walk judge.declared e ds) (λ f. bind (judge.procedures_from 24 f first ps) behind_procedures)
+      holds_bind (IsBehind c path searched (length (single_variables ds)) e) (IsHeaded ds e) (walk judge.declared e ds) (λ f. bind (judge.procedures_from false f first ps) behind_procedures)
       (declarations_sound c path searched (inl own_scope) ds slots e fit)
-      (λ f one h. holds_bind (AreMade c path searched first ps f) (IsHeaded ds e) (judge.procedures_from 24 f first ps) behind_procedures
-      (procedures_sound c path searched 24 ps first own (slots_front c path searched first ps qs inner_slots path searched) f one.grown.fit)
+      (λ f one h. holds_bind (AreMade c path searched first ps f) (IsHeaded ds e) (judge.procedures_from false f first ps) behind_procedures
+      (procedures_sound c path searched false ps first own (slots_front c path searched first ps qs inner_slots path searched) f one.grown.fit)
       (λ x two h. holds_bind (AreMade c path searched (first + length ps) qs x) (IsHeaded ds e) (judge.methods_from x (first + length ps) (type_defs ds)) (λ g. judge.overriding g (type_defs ds))
       (methods_sound c path searched (type_defs ds) (first + length ps) (omega (arith, own)) (slots_back c path searched first ps qs inner_slots) x two.fit)
       (λ g three none. headed own_scope ds inner e f g one (both_made c path searched first own ps qs f x g two three) none fit)

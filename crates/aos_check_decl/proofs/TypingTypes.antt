@@ -1,6 +1,5 @@
--- A walk over declarations in a module's environment, and what is told of types on it: the types that are written break no rule,
--- and so their numbers are known.
-use Rattle.std.proofs.Common.{◌≡◌, append-nil, ℕ, suc, ◌+◌, ◌<◌, ◌≤◌, ◌==◌, nat_eq, List, [], ◌∷◌, ◌++◌, length, replicate, ℤ, pos, negsuc, int_le, Bool, true, false, ◌&&◌, Option, Some, None, option_and_then, slice_get, slice_set, if◌then◌else◌, refl, sym, ap, ◌∙◌, subst, arith, length-append, length-set}
+-- What is told of the types that are written on a walk over declarations: they break no rule, and so their numbers are known.
+use Rattle.std.proofs.Common.{◌≡◌, append-nil, ℕ, suc, ◌+◌, ◌==◌, List, [], ◌∷◌, ◌++◌, length, replicate, ℤ, pos, negsuc, int_le, Bool, true, false, ◌&&◌, Option, Some, None, option_and_then, slice_get, if◌then◌else◌, refl, sym, ap, ◌∙◌, subst, arith, length-append, length-set}
 use Rattle.std.specs.Prelude.{unsigned_abs}
 use Rattle.std.proofs.lemmas.Bool.{and_parts}
 use Rattle.std.proofs.lemmas.Int.{ints}
@@ -10,10 +9,8 @@ use Rattle.aos_base.specs.declared.text.Pos.{Pos}
 use Rattle.aos_tree.specs.declared.name.Name.{Name}
 use Rattle.aos_tree.specs.declared.name.Qualident.{Qualident}
 use Rattle.aos_tree.specs.declared.expr.Expr.{Expr, out-Expr}
-use Rattle.aos_tree.specs.declared.stat.Block.{Block}
 use Rattle.aos_tree.specs.declared.decl.Def.{Def}
 use Rattle.aos_tree.specs.declared.decl.Decl.{Decl, items-the_row-Decl}
-use Rattle.aos_tree.specs.declared.decl.TypeDef.{TypeDef}
 use Rattle.aos_tree.specs.declared.decl.Fields.{Fields}
 use Rattle.aos_tree.specs.declared.decl.Fields.TheVariants as fields
 use Rattle.aos_tree.specs.declared.decl.TypeExpr.{TypeExpr, Row_of-TypeExpr, end_of-TypeExpr, more_of-TypeExpr, Row_of-Fields, end_of-Fields, more_of-Fields, items-the_row-Fields}
@@ -28,118 +25,51 @@ use Rattle.aos_types.specs.Count.{named_in}
 use Rattle.aos_types.proofs.Reached.{one_of_both}
 use Rattle.aos_typed.specs.declared.tree.Literal.{Literal}
 use Rattle.aos_typed.specs.declared.tree.Literal.TheVariants as literal
-use Rattle.std.specs.Map.{lookup}
 use Rattle.aos_symbols.specs.declared.home.ObjectScope.{ObjectScope}
 use Rattle.aos_symbols.specs.declared.env.Open.{Open}
 use Rattle.aos_symbols.specs.declared.env.Claim.{Claim}
 use Rattle.aos_symbols.specs.declared.env.Claim.TheVariants as claim
 use Rattle.aos_symbols.specs.declared.env.Env.{Env}
 use Rattle.aos_symbols.specs.Judged.{Judged, judged, kept, bind, walk}
-use Rattle.aos_symbols.specs.Declarations.{single_variables, inner_decls}
 use Rattle.aos_symbols.specs.Scope.{Named, Scope, empty}
-use Rattle.aos_symbols.specs.Home.{Home, add_record, object_of}
+use Rattle.aos_symbols.specs.Home.{Home}
 use Rattle.aos_symbols.specs.Env as env
 use Rattle.aos_symbols.proofs.Each.{Each, joined, implied, repeated}
+use Rattle.aos_symbols.specs.Declarations.{formal_names}
+use Rattle.aos_symbols.specs.Spelling.{is_word}
+use Rattle.aos_symbols.specs.declared.home.Parameter.{Parameter}
+use Rattle.aos_symbols.specs.declared.home.Gives.{Gives}
+use Rattle.aos_symbols.specs.declared.home.Gives.TheVariants as gives
+use Rattle.aos_tree.specs.declared.decl.Formals.{Formals}
+use Rattle.aos_tree.specs.declared.decl.Section.{Section}
+use Rattle.std.specs.List.{flat_map}
+use Rattle.std.specs.Prelude.{codes, fold}
+use Rattle.std.proofs.lemmas.List.{length-replicate}
 use Rattle.aos_symbols.proofs.Told.{get_end, IsLength}
 use Rattle.aos_symbols.proofs.Holds.{Holds, holds_bind, holds_walk, broken, none_left, none_right}
 use Rattle.aos_check_expr.specs.Expressions.{constant}
 use Rattle.aos_check_expr.proofs.Typing.{HasGood, GoodConstants}
 use Rattle.aos_check_expr.proofs.Typing.{constant_good as good_value}
 use Rattle.aos_check_decl.specs.Types as judge
-use Rattle.aos_check_decl.specs.Types.{Met, met, FieldsMet, fields_met, MembersMet, members_met}
-use Rattle.aos_check_decl.specs.Aliases.{nil}
+use Rattle.aos_check_decl.specs.Formals as heading
+use Rattle.aos_check_decl.specs.Formals.{FormalsMet, formals_met, HeadingMet, heading_met}
+use Rattle.aos_check_decl.specs.Types.{Met, met, named_type, FieldsMet, fields_met, MembersMet, members_met}
 use Rattle.aos_check_decl.specs.Limits.{may_be_target}
-use Rattle.aos_check_decl.proofs.ObjectTypes.{IsObject}
-use Rattle.aos_check_decl.proofs.TypingNames.{IsBasicNumber, IsSearchedIn, AreOwnNamed, AreOthersNamed, all_named_in, named_sound}
-use Rattle.aos_check_decl.proofs.TypingScopes.{AreGood, AllGood, names_at, variables_at}
-use Rattle.aos_check_decl.proofs.TypingClaims.{AreOfBase, AreOfObject, IsBaseMet, claims_of_base, base_met}
-use Rattle.aos_check_decl.proofs.TypingFields.{IsNoRecord, IsRow, Leads, field_variables}
-
--- no object type has this number
-abbrev pub IsBareAmong : List (ℕ × ObjectScope) → TypeId → Type 0
-IsBareAmong os t = (o : ObjectScope) → lookup (λ k. nat_eq t.0 k) os ≡ Some o → ⊥
-
--- A walk: the module's number, the modules before it, its name and text, its scopes as its names make them, how many of them are those of
--- types, and the first table of types; and what is told of types. `Known` is told of the types of variables, elements, fields and bases,
--- `There` of those of parameters and of what pointers lead to, `Stands` of records and arrays behind pointers that have no names, `IsSlot`
--- of the numbers of definitions, `IsNumber` of the number of one of them, `GoesTo` of two tables, one before the other, `Agrees` of a table, the fields of record types that the
--- module knows and what it asks, `AreAll` of a type's variables and the types in its row, and `Filled` of a table and the scopes in which
--- the fields of object types stand, which are among those of types; the object type of a scope declares so many `fields`.
-pub record Telling : Type 1 where
-  pub number : ℕ
-  pub before : List Home
-  pub name : List ℕ
-  pub text : List ℕ
-  pub scopes : List Scope
-  pub inner : ℕ
-  pub first : List TypeRow
-  pub Known : List TypeRow → Option TypeId → Type 0
-  pub There : List TypeRow → Option TypeId → Type 0
-  pub Stands : List TypeRow → TypeId → Type 0
-  pub GoesTo : List TypeRow → List TypeRow → Type 0
-  pub IsSlot : TypeId → Type 0
-  pub stays : (ts : List TypeRow) → GoesTo ts ts
-  pub on : (ts us vs : List TypeRow) → GoesTo ts us → GoesTo us vs → GoesTo ts vs
-  pub known_on : (ts us : List TypeRow) → GoesTo ts us → (of : Option TypeId) → Known ts of → Known us of
-  pub there_on : (ts us : List TypeRow) → GoesTo ts us → (of : Option TypeId) → There ts of → There us of
-  pub known_there : (ts : List TypeRow) (of : Option TypeId) → Known ts of → There ts of
-  pub none_there : (ts : List TypeRow) → There ts None → Known ts None
-  pub basic : (ts : List TypeRow) → GoesTo first ts → (t : TypeId) → IsBasicNumber t.0 → Known ts (Some t)
-  pub set : (ts : List TypeRow) (t : TypeId) (r : TypeRow) → GoesTo first ts → IsSlot t → is_open (Some r) ≡ false →
-      ((p : TypeId) → IsOneOf p (named_in r) → There ts (Some p)) → GoesTo ts (slice_set ts t.0 r)
-  pub unsettled : (ts : List TypeRow) (t : TypeId) → GoesTo first ts → IsSlot t → Known ts None → GoesTo ts (slice_set ts t.0 (row.Open nil))
-  pub push : (ts : List TypeRow) (r : TypeRow) → ((p : TypeId) → IsOneOf p (named_in r) → There ts (Some p)) → GoesTo ts (ts ++ r ∷ [])
-  pub pushed : (ts : List TypeRow) (r : TypeRow) → GoesTo first ts → is_open (Some r) ≡ false → Known (ts ++ r ∷ []) (Some (record { 0 = length ts }))
-  pub pushed_open : (ts : List TypeRow) (t : TypeId) → GoesTo first ts → There (ts ++ row.Open t ∷ []) (Some (record { 0 = length ts }))
-  pub pushed_stands : (ts : List TypeRow) (r : TypeRow) → GoesTo first ts → may_be_target (Some r) ≡ true → Stands (ts ++ r ∷ []) (record { 0 = length ts })
-  pub Agrees : List TypeRow → List (ℕ × Scope) → List Claim → Type 0
-  pub AreAll : List (Option TypeId) → List TypeId → Type 0
-  pub none_all : AreAll [] []
-  pub more_all : (ts : List TypeRow) (vs : List (Option TypeId)) (us : List TypeId) (n : ℕ) (of : Option TypeId) → Known ts of → AreAll vs us →
-      AreAll (vs ++ replicate n of) (us ++ judge.fields_of n of)
-  pub agree_set : (ts : List TypeRow) (rs : List (ℕ × Scope)) (cs : List Claim) (t : TypeId) (r : TypeRow) → IsSlot t → is_open (Some r) ≡ false → IsNoRecord r →
-      IsRow (Leads (Stands ts) cs) r → ((p : TypeId) → IsOneOf p (named_in r) → Known ts (Some p)) → Agrees ts rs cs → Agrees (slice_set ts t.0 r) rs cs
-  pub agree_push : (ts : List TypeRow) (rs : List (ℕ × Scope)) (cs : List Claim) (r : TypeRow) → is_open (Some r) ≡ false → IsNoRecord r →
-      IsRow (Leads (Stands ts) cs) r → ((p : TypeId) → IsOneOf p (named_in r) → Known ts (Some p)) → Agrees ts rs cs → Agrees (ts ++ r ∷ []) rs cs
-  pub agree_open : (ts : List TypeRow) (rs : List (ℕ × Scope)) (cs : List Claim) (t : TypeId) → GoesTo first ts → There ts (Some t) → Agrees ts rs cs →
-      Agrees (ts ++ row.Open t ∷ []) rs cs
-  pub agree_target : (ts : List TypeRow) (rs : List (ℕ × Scope)) (cs : List Claim) (at : Pos) (t : TypeId) → Agrees ts rs cs → Agrees ts rs (cs ++ claim.Target at t ∷ [])
-  pub agree_unsettled : (ts : List TypeRow) (rs : List (ℕ × Scope)) (cs : List Claim) (t : TypeId) → Known ts None → Agrees ts rs cs →
-      Agrees (slice_set ts t.0 (row.Open nil)) rs cs
-  pub agree_record_set : (ts : List TypeRow) (h : Home) (cs : List Claim) (t : TypeId) (base : Option TypeId) (us : List TypeId) (s : Scope) (ds : List Claim) →
-      GoesTo first ts → IsSlot t → AreOfBase ds base t → ((p : TypeId) → IsOneOf p (base_list base ++ us) → Known ts (Some p)) → AreAll s.variables us →
-      Agrees ts h.records cs → Agrees (slice_set ts t.0 (row.Record base us)) (add_record h t s).records (cs ++ ds)
-  pub agree_record_push : (ts : List TypeRow) (h : Home) (cs : List Claim) (base : Option TypeId) (us : List TypeId) (s : Scope) (ds : List Claim) →
-      GoesTo first ts → AreOfBase ds base (record { 0 = length ts }) → ((p : TypeId) → IsOneOf p (base_list base ++ us) → Known ts (Some p)) → AreAll s.variables us →
-      Agrees ts h.records cs → Agrees (ts ++ row.Record base us ∷ []) (add_record h (record { 0 = length ts }) s).records (cs ++ ds)
-  pub agree_object_set : (ts : List TypeRow) (rs : List (ℕ × Scope)) (cs : List Claim) (t : TypeId) (base : Option TypeId) (us : List TypeId) (ds : List Claim) →
-      GoesTo first ts → IsSlot t → AreOfObject ds base t → ((p : TypeId) → IsOneOf p (base_list base ++ us) → Known ts (Some p)) →
-      Agrees ts rs cs → Agrees (slice_set ts t.0 (row.Object base us)) rs (cs ++ ds)
-  pub objects : List (ℕ × ObjectScope)
-  pub fields : ℕ → ℕ
-  pub IsNumber : TypeDef → TypeId → Type 0
-  pub slot_of : (d : TypeDef) (t : TypeId) → IsNumber d t → IsSlot t
-  pub bare : (d : TypeDef) (t : TypeId) → IsNumber d t → (IsObject d.value → ⊥) → IsBareAmong objects t
-  pub many : (d : TypeDef) (t : TypeId) (o : ObjectScope) → IsNumber d t → lookup (λ k. nat_eq t.0 k) objects ≡ Some o →
-      fields o.scope ≡ length (single_variables (inner_decls d.value))
-  pub homes : (t : TypeId) (o : ObjectScope) → lookup (λ k. nat_eq t.0 k) objects ≡ Some o → o.home ≡ number
-  pub others_objects : (m : ℕ) (h : Home) (t : TypeId) (o : ObjectScope) → slice_get before m ≡ Some h → object_of h t ≡ Some o → (o.home ≡ m) × (o.scope < h.first)
-  pub places : (t : TypeId) (o : ObjectScope) → lookup (λ k. nat_eq t.0 k) objects ≡ Some o → (0 < o.scope) × (o.scope ≤ inner)
-  pub inner_there : (k : ℕ) → k ≤ inner → (ns : List Named) × (names_at scopes k ≡ Some ns)
-  pub Filled : List TypeRow → List Scope → Type 0
-  pub filled_set : (ts : List TypeRow) (ss : List Scope) (t : TypeId) (r : TypeRow) → IsBareAmong objects t → Filled ts ss → Filled (slice_set ts t.0 r) ss
-  pub filled_push : (ts : List TypeRow) (ss : List Scope) (r : TypeRow) → Filled ts ss → Filled (ts ++ r ∷ []) ss
-  pub filled_scopes : (ts : List TypeRow) (ss ss' : List Scope) → ((j : ℕ) → 0 < j → j ≤ inner → variables_at ss' j ≡ variables_at ss j) → Filled ts ss → Filled ts ss'
-  pub filled_placed : (ts : List TypeRow) (ss ss' : List Scope) (t : TypeId) (o : ObjectScope) (base : Option TypeId) (us : List TypeId) (vs : List (Option TypeId)) →
-      GoesTo first ts → IsSlot t → lookup (λ k. nat_eq t.0 k) objects ≡ Some o → variables_at ss' o.scope ≡ Some vs →
-      ((j : ℕ) → (j ≡ o.scope → ⊥) → variables_at ss' j ≡ variables_at ss j) → AreAll vs us → length vs ≡ fields o.scope → Filled ts ss →
-      Filled (slice_set ts t.0 (row.Object base us)) ss'
-  pub own : AreOwnNamed scopes (Known first)
-  pub others : AreOthersNamed before (Known first)
-  pub constants : (m : ℕ) (h : Home) (k : ℕ) (s : Scope) → slice_get before m ≡ Some h → slice_get h.scopes k ≡ Some s → AreGood s.constants
+use Rattle.aos_check_decl.proofs.TypingNames.{IsSearchedIn, all_named_in, named_sound}
+use Rattle.aos_check_decl.proofs.TypingScopes.{AreGood, AllGood, names_at}
+use Rattle.aos_check_decl.proofs.TypingClaims.{IsAskedResult, IsBaseMet, claims_of_base, base_met}
+use Rattle.aos_check_decl.proofs.TypingFields.{IsNoRecord, IsRow, OfResult, Leads, field_variables}
+pub use Rattle.aos_check_decl.proofs.TypingTelling.{IsBareAmong, Telling}
 
 no_numbers : {x : ℕ} → (let n : Option ℕ = None in n) ≡ Some x → ⊥
 no_numbers e = cc
+
+-- a heading that tells a result
+pub record HasResult (formals : Option Formals) : Type 0 where
+  pub whole : Formals
+  pub is : formals ≡ Some whole
+  pub name : Qualident
+  pub result : whole.result ≡ Some name
 
 pub chosen : {A : Type 0} (P : A → Type 0) (b : Bool) (i j : Judged A) → Holds P i → Holds P j → Holds P (if b then i else j)
 chosen P true i j h k = h
@@ -300,6 +230,7 @@ module _ (c : Telling) where
     length_given_sound (literal.Set s) at = broken HasNumber _ [] _
     length_given_sound (literal.Text t) at = broken HasNumber _ [] _
     length_given_sound literal.Nil at = broken HasNumber _ [] _
+    length_given_sound literal.NoProcedure at = broken HasNumber _ [] _
 
     length_sound : (e : Env) → IsFit path e → (x : Expr) → Holds HasNumber (judge.length_of e x)
     length_sound e fit x =
@@ -377,7 +308,7 @@ module _ (c : Telling) where
     AreKnown ts r = (p : TypeId) → IsOneOf p (named_in r) → c.Known ts (Some p)
 
     placed_sound : (may_be_open : Bool) (e : Env) → IsFit path e → (slot : Option TypeId) → IsSlotted slot → (at : Pos) (r : TypeRow) → is_open (Some r) ≡ false →
-        IsNoRecord r → IsRow (Leads (c.Stands e.types) e.claims) r → AreKnown e.types r → IsMet may_be_open (may_be_target (Some r)) e slot (judge.placed slot at r e)
+        IsNoRecord r → IsRow (λ p. There e.types (Some p)) (λ p. Known e.types (Some p) × IsAskedResult e.claims p) (Leads (c.Stands e.types) e.claims) r → AreKnown e.types r → IsMet may_be_open (may_be_target (Some r)) e slot (judge.placed slot at r e)
     placed_sound may_be_open e fit (Some t) ok at r closed other whole known = record {
       beyond = record {
         number = refl;
@@ -391,7 +322,7 @@ module _ (c : Telling) where
         filled = c.filled_set e.types e.here.scopes t r ok.1;
         path = refl;
         narrowed = refl;
-        agree = c.agree_set e.types e.here.records e.claims t r ok.0 closed other whole known;
+        agree = c.agree_set e.types e.here.records e.claims t r fit.table ok.0 closed other whole known;
         goes = c.set e.types t r fit.table ok.0 closed (λ p one. c.known_there e.types (Some p) (known p one));
         long = ap (λ n. n + length e.places) (length-set e.types t.0 r);
       };
@@ -410,7 +341,7 @@ module _ (c : Telling) where
         filled = c.filled_push e.types e.here.scopes r;
         path = refl;
         narrowed = refl;
-        agree = c.agree_push e.types e.here.records e.claims r closed other whole known;
+        agree = c.agree_push e.types e.here.records e.claims r fit.table closed other whole known;
         goes = c.push e.types r (λ p one. c.known_there e.types (Some p) (known p one));
         long = omega (arith, length-append e.types (r ∷ []), length-append e.places (at ∷ []));
       };
@@ -599,9 +530,9 @@ module _ (c : Telling) where
         (each_of (λ t. c.Known f.env.types (Some t)) f.types is.parts) is.all)))
 
     -- an object type without a name of its own isn't built
-    object_sound : (may_be_open : Bool) (e : Env) (at : Pos) (base : Option Qualident) (decls : List Decl) (body : Option Block) (object : Option ObjectScope)
-        (members : Env → Judged MembersMet) → Holds (IsMet may_be_open false e None) (judge.object_in None object e at base decls body members)
-    object_sound may_be_open e at base decls body object members =
+    object_sound : (may_be_open : Bool) (e : Env) (at : Pos) (base : Option Qualident) (decls : List Decl) (object : Option ObjectScope)
+        (members : Env → Judged MembersMet) → Holds (IsMet may_be_open false e None) (judge.object_in None object e at base decls members)
+    object_sound may_be_open e at base decls object members =
         chosen (IsMet may_be_open false e None) (env.innermost e.path == 0) (judge.refused_type 99 at e) (judge.refused_type 26 at e)
         (broken (IsMet may_be_open false e None) _ [] _) (broken (IsMet may_be_open false e None) _ [] _)
 
@@ -690,6 +621,190 @@ module _ (c : Telling) where
         (λ h. (none_left (judge.target_breaches x) (judge.type_in true None e x).breaches h, is (none_right (judge.target_breaches x) (judge.type_in true None e x).breaches h)))
         (λ m behind h. pointer_sound may_be_open e fit slot ok at x behind.0 m.env m.of behind.1)
 
+    -- Parameters, which may be open arrays.
+
+    record IsOpened (e : Env) (m : Met) : Type 0 where
+      beyond : IsBeyond e m.env
+      there : There m.env.types m.of
+
+    one_opened : (e : Env) → IsFit path e → (at : Pos) (f : Env) (of : Option TypeId) → IsOpened e (met f of) → IsOpened e (heading.opened (at ∷ []) (met f of))
+    one_opened e fit at f None is = is
+    one_opened e fit at f (Some t) is =
+        let g = (heading.opened (at ∷ []) (met f (Some t))).env in
+        record {
+          beyond = beyond_on e f g is.beyond (open_placed f (fit_beyond path e f fit is.beyond) at t is.there);
+          there = c.pushed_open f.types t (fit_beyond path e f fit is.beyond).table;
+        }
+
+    opened_sound : (e : Env) → IsFit path e → (ats : List Pos) (m : Met) → IsOpened e m → IsOpened e (heading.opened ats m)
+    opened_sound e fit [] m is = is
+    opened_sound e fit (at ∷ ats) m is =
+        let n = heading.opened ats m in one_opened e fit at n.env n.of (opened_sound e fit ats m is)
+
+    pub record IsFormals (e : Env) (n : ℕ) (f : FormalsMet) : Type 0 where
+      pub beyond : IsBeyond e f.env
+      pub there : Each (λ (a : Parameter). There f.env.types a.of) f.parameters
+      pub count : length f.parameters ≡ n
+
+    section_sound : (e : Env) → IsFit path e → (n : ℕ) (f : FormalsMet) → IsFormals e n f → (s : Section) →
+        Holds (IsFormals e (n + length s.names)) (heading.with_section f s)
+    section_sound e fit n f is s =
+        let here = fit_beyond path e f.env fit is.beyond in
+        holds_bind (Known f.env.types) (IsFormals e (n + length s.names)) (named_type f.env s.of)
+        (λ of. let m = heading.opened s.arrays (met f.env of) in
+        kept (formals_met m.env (f.parameters ++ replicate (length s.names) (record { by_reference = s.by_reference; of = m.of }))))
+        (named f.env here s.of)
+        (λ of known h. more (heading.opened s.arrays (met f.env of))
+        (opened_sound f.env here s.arrays (met f.env of) (record { beyond = beyond_same f.env; there = c.known_there f.env.types of known })))
+      where
+        more : (m : Met) → IsOpened f.env m →
+            IsFormals e (n + length s.names) (formals_met m.env (f.parameters ++ replicate (length s.names) (record { by_reference = s.by_reference; of = m.of })))
+        more m opened =
+            let a : Parameter = record { by_reference = s.by_reference; of = m.of } in
+            record {
+              beyond = beyond_on e f.env m.env is.beyond opened.beyond;
+              there =
+                  joined (λ (a : Parameter). There m.env.types a.of) f.parameters (replicate (length s.names) a)
+                  (implied (λ (a : Parameter). There f.env.types a.of) (λ (a : Parameter). There m.env.types a.of)
+                  (λ a there. c.there_on f.env.types m.env.types opened.beyond.goes a.of there) f.parameters is.there)
+                  (repeated (λ (a : Parameter). There m.env.types a.of) (length s.names) a opened.there);
+              count = length-append f.parameters (replicate (length s.names) a) ∙ (λ i. is.count i + length-replicate (length s.names) a i);
+            }
+
+    sections_sound : (e : Env) → IsFit path e → (ss : List Section) (n : ℕ) (f : FormalsMet) → IsFormals e n f →
+        Holds (IsFormals e (n + length (flat_map (λ (s : Section). s.names) ss))) (walk heading.with_section f ss)
+    sections_sound e fit [] n f is = λ h. subst (λ n. IsFormals e n f) (let same : n ≡ n + 0 = omega arith in same) is
+    sections_sound e fit (s ∷ ss) n f is =
+        let rest = length (flat_map (λ (s : Section). s.names) ss) in
+        let same : (n + length s.names) + rest ≡ n + length (s.names ++ flat_map (λ (s : Section). s.names) ss) =
+        omega (arith, length-append s.names (flat_map (λ (s : Section). s.names) ss)) in
+        subst (λ k. Holds (IsFormals e k) (walk heading.with_section f (s ∷ ss))) same
+        (holds_bind (IsFormals e (n + length s.names)) (IsFormals e ((n + length s.names) + rest)) (heading.with_section f s) (λ g. walk heading.with_section g ss)
+        (section_sound e fit n f is s) (λ g are. sections_sound e fit ss (n + length s.names) g are))
+
+    -- Headings.
+
+    abbrev AreGiven : List TypeRow → Option Qualident → Gives → Type 0
+    AreGiven ts r g = (of : Option TypeId) → g ≡ gives.Value of → Known ts of × ((q : Qualident) × (r ≡ Some q))
+
+    no_value : {of : Option TypeId} → gives.Nothing ≡ gives.Value of → ⊥
+    no_value e = cc
+
+    same_value : (a b : Option TypeId) → gives.Value a ≡ gives.Value b → a ≡ b
+    same_value a b e = cc
+
+    given_sound : (e : Env) → IsFit path e → (r : Option Qualident) → Holds (AreGiven e.types r) (heading.given e r)
+    given_sound e fit None = λ h of is. absurd (no_value is)
+    given_sound e fit (Some q) =
+        holds_bind (Known e.types) (AreGiven e.types (Some q)) (named_type e q) (λ of. kept (gives.Value of)) (named e fit q)
+        (λ of known h of' is. (subst (Known e.types) (same_value of of' is) known, (q, refl)))
+
+    pub record IsHead (e : Env) (formals : Option Formals) (h : HeadingMet) : Type 0 where
+      pub beyond : IsBeyond e h.env
+      pub there : Each (λ (a : Parameter). There h.env.types a.of) h.signature.parameters
+      pub count : length h.signature.parameters ≡ length (formal_names formals)
+      pub result : (of : Option TypeId) → h.signature.gives ≡ gives.Value of → Known h.env.types of × HasResult formals
+
+    pub head_sound : (e : Env) → IsFit path e → (formals : Option Formals) → Holds (IsHead e formals) (heading.formals_in e formals)
+    head_sound e fit None = λ h. record { beyond = beyond_same e; there = tt; count = refl; result = λ of is. absurd (no_value is) }
+    head_sound e fit (Some f) =
+        let names = flat_map (λ (s : Section). s.names) f.sections in
+        let same : 0 + length names ≡ length names = omega arith in
+        holds_bind (IsFormals e (length names)) (IsHead e (Some f)) (walk heading.with_section (formals_met e []) f.sections)
+        (λ s. bind (heading.given s.env f.result) (λ g. kept (heading_met s.env (record { parameters = s.parameters; gives = g; is_initializer = false }))))
+        (subst (λ n. Holds (IsFormals e n) (walk heading.with_section (formals_met e []) f.sections)) same
+        (sections_sound e fit f.sections 0 (formals_met e []) (record { beyond = beyond_same e; there = tt; count = refl })))
+        (λ s are. holds_bind (AreGiven s.env.types f.result) (IsHead e (Some f)) (heading.given s.env f.result)
+        (λ g. kept (heading_met s.env (record { parameters = s.parameters; gives = g; is_initializer = false })))
+        (given_sound s.env (fit_beyond path e s.env fit are.beyond) f.result)
+        (λ g is h. record {
+          beyond = are.beyond;
+          there = are.there;
+          count = are.count;
+          result = λ of value. let r = is of value in (r.0, record { whole = f; is = refl; name = r.1.0; result = r.1.1 });
+        }))
+
+    -- Procedure types: the types of their formals are there, and their results are known, of which it is asked that they are scalars.
+
+    abbrev AreKnownFormals : List TypeRow → Option (List (Bool × TypeId)) → Type 0
+    AreKnownFormals ts None = Known ts None
+    AreKnownFormals ts (Some fs) = Each (λ (f : Bool × TypeId). There ts (Some f.1)) fs
+
+    formal_sound : (ts : List TypeRow) (fs : Option (List (Bool × TypeId))) (by_reference : Bool) (of : Option TypeId) → AreKnownFormals ts fs → There ts of →
+        AreKnownFormals ts (heading.with_formal fs (record { by_reference = by_reference; of = of }))
+    formal_sound ts None by_reference of are there = are
+    formal_sound ts (Some fs) by_reference None are there = c.none_there ts there
+    formal_sound ts (Some fs) by_reference (Some t) are there = joined (λ (f : Bool × TypeId). There ts (Some f.1)) fs ((by_reference, t) ∷ []) are (there, tt)
+
+    formals_sound : (ts : List TypeRow) (ps : List Parameter) (fs : Option (List (Bool × TypeId))) → AreKnownFormals ts fs → Each (λ (a : Parameter). There ts a.of) ps →
+        AreKnownFormals ts (fold heading.with_formal fs ps)
+    formals_sound ts [] fs are there = are
+    formals_sound ts (p ∷ ps) fs are there =
+        formals_sound ts ps (heading.with_formal fs p) (formal_sound ts fs p.by_reference p.of are there.0) there.1
+
+    abbrev IsGivenOf : List TypeRow → List Claim → TypeId → Type 0
+    IsGivenOf ts cs t = Known ts (Some t) × IsAskedResult cs t
+
+    abbrev IsKnownResult : List TypeRow → List Claim → Option (Option TypeId) → Type 0
+    IsKnownResult ts cs None = Known ts None
+    IsKnownResult ts cs (Some r) = OfResult (IsGivenOf ts cs) r
+
+    -- what is told of a heading's result
+    abbrev IsToldGiven : List TypeRow → Option Formals → Gives → Type 0
+    IsToldGiven ts formals g = (of : Option TypeId) → g ≡ gives.Value of → Known ts of × HasResult formals
+
+    result_named : (formals : Option Formals) (r : HasResult formals) → heading.result_in formals ≡ Some r.name
+    result_named formals r = ap heading.result_in r.is ∙ r.result
+
+    asked_behind : (cs : List Claim) (q : Option Qualident) (t : TypeId) (name : Qualident) → q ≡ Some name →
+        IsAskedResult (cs ++ heading.result_claims q (gives.Value (Some t))) t
+    asked_behind cs None t name is = absurd (none-some name is)
+    asked_behind cs (Some q) t name is = record { place = length cs; at = q.first.pos; is = get_end cs (claim.Result q.first.pos t) }
+
+    result_sound : (ts : List TypeRow) (cs : List Claim) (formals : Option Formals) (g : Gives) → IsToldGiven ts formals g →
+        IsKnownResult ts (cs ++ heading.result_claims (heading.result_in formals) g) (heading.known_result g)
+    result_sound ts cs formals gives.Nothing told = tt
+    result_sound ts cs formals (gives.Value None) told = (told None refl).0
+    result_sound ts cs formals (gives.Value (Some t)) told =
+        let r = told (Some t) refl in
+        (r.0, asked_behind cs (heading.result_in formals) t r.1.name (result_named formals r.1))
+
+    nothing_claimed : (e : Env) → IsBeyond e (judge.claiming [] e)
+    nothing_claimed e = claimed e [] (λ a. subst (c.Agrees e.types e.here.records) (sym (append-nil e.claims)) a)
+
+    result_claimed : (e : Env) (q : Option Qualident) (g : Gives) → IsBeyond e (judge.claiming (heading.result_claims q g) e)
+    result_claimed e None g = nothing_claimed e
+    result_claimed e (Some q) gives.Nothing = nothing_claimed e
+    result_claimed e (Some q) (gives.Value None) = nothing_claimed e
+    result_claimed e (Some q) (gives.Value (Some t)) =
+        claimed e (claim.Result q.first.pos t ∷ []) (λ a. c.agree_result e.types e.here.records e.claims q.first.pos t a)
+
+    row_sound : (may_be_open : Bool) (e : Env) → IsFit path e → (slot : Option TypeId) → IsSlotted slot → (at : Pos) (fs : Option (List (Bool × TypeId))) (r : Option (Option TypeId)) →
+        AreKnownFormals e.types fs → IsKnownResult e.types e.claims r → IsMet may_be_open false e slot (heading.placed_row slot at (heading.procedure_row fs r) e)
+    row_sound may_be_open e fit slot ok at None r are given = record { beyond = beyond_same e; of = of_slot may_be_open false slot e.types None are (λ h. never h) }
+    row_sound may_be_open e fit slot ok at (Some fs) None are given = record { beyond = beyond_same e; of = of_slot may_be_open false slot e.types None given (λ h. never h) }
+    row_sound may_be_open e fit slot ok at (Some fs) (Some r) are given =
+        placed_sound may_be_open e fit slot ok at (row.Procedure fs r) refl (λ base ts. (λ e. cc, λ e. cc)) (are, given) (λ p none. absurd none)
+
+    with_formals_sound : (may_be_open : Bool) (e : Env) → IsFit path e → (slot : Option TypeId) → IsSlotted slot → (at : Pos) (formals : Option Formals) →
+        Holds (IsMet may_be_open false e slot) (heading.with_formals slot e at formals)
+    with_formals_sound may_be_open e fit slot ok at formals =
+        holds_bind (IsHead e formals) (IsMet may_be_open false e slot) (heading.formals_in e formals) (λ h. kept (heading.procedure_met slot at formals h)) (head_sound e fit formals)
+        (λ h head none.
+        let s = h.signature in
+        let g = judge.claiming (heading.result_claims (heading.result_in formals) s.gives) h.env in
+        let beyond = beyond_on e h.env g head.beyond (result_claimed h.env (heading.result_in formals) s.gives) in
+        met_on may_be_open false e g slot (heading.procedure_met slot at formals h) beyond
+        (row_sound may_be_open g (fit_beyond path e g fit beyond) slot ok at (heading.known_formals s.parameters) (heading.known_result s.gives)
+        (formals_sound h.env.types s.parameters (Some []) tt head.there) (result_sound h.env.types h.env.claims formals s.gives head.result)))
+
+    procedure_sound : (may_be_open : Bool) (e : Env) → IsFit path e → (slot : Option TypeId) → IsSlotted slot → (at : Pos) (flag : Option Name) (formals : Option Formals) →
+        Holds (IsMet may_be_open false e slot) (heading.procedure_in slot e at flag formals)
+    procedure_sound may_be_open e fit slot ok at None formals = with_formals_sound may_be_open e fit slot ok at formals
+    procedure_sound may_be_open e fit slot ok at (Some n) formals =
+        chosen (IsMet may_be_open false e slot) (is_word e.here.text (codes "DELEGATE") n) (heading.with_formals slot e at formals) (judge.refused_type 45 n.pos e)
+        (with_formals_sound may_be_open e fit slot ok at formals) (broken (IsMet may_be_open false e slot) _ [] _)
+
     -- Types.
 
     -- an open array's elements may be of one
@@ -710,9 +825,9 @@ module _ (c : Telling) where
           record_sound may_be_open e fit slot ok p base (judge.field_names (items-the_row-Fields _ row)) (judge.fields_in (fields_met e [] empty) row)
           (fields_sound e fit (fields_met e [] empty) (record { beyond = beyond_same e; parts = tt; all = c.none_all }) row)
       type_sound may_be_open e fit slot ok asked (type.Pointer' p shape row) other = pointed_sound may_be_open e fit slot ok p row
-      type_sound may_be_open e fit slot ok asked (type.Proc p flag formals) other = broken (IsMet may_be_open false e slot) _ [] _
+      type_sound may_be_open e fit slot ok asked (type.Proc p flag formals) other = procedure_sound may_be_open e fit slot ok p flag formals
       type_sound may_be_open e fit None ok asked (type.Object' p base shape row body end) other =
-          object_sound may_be_open e p base (items-the_row-Decl _ row) body None (λ e. judge.members_in (members_met e [] []) row)
+          object_sound may_be_open e p base (items-the_row-Decl _ row) None (λ e. judge.members_in (members_met e [] []) row)
       type_sound may_be_open e fit (Some s) ok asked (type.Object' p base shape row body end) other = absurd other
 
       held_sound : {m : _} (may_be_open : Bool) (e : Env) → IsFit path e → (r : Row_of-TypeExpr m) → Holds (IsMet may_be_open (held_written r) e None) (judge.held_in may_be_open e r)

@@ -23,7 +23,7 @@ use Rattle.aos_symbols.specs.Scope.{Scope}
 use Rattle.aos_symbols.specs.Home.{Home}
 use Rattle.aos_symbols.specs.declared.home.ObjectScope.{ObjectScope}
 use Rattle.aos_symbols.specs.Entries.{number_at, scopes, objects_of}
-use Rattle.aos_symbols.proofs.Told.{IsTold, basic, of_any, defined, IsKnown, GoOn, known_on, told_behind, get_front, get_end}
+use Rattle.aos_symbols.proofs.Told.{IsTold, basic, of_any, defined, IsFormalType, IsKnown, GoOn, known_on, told_behind, get_front, get_end}
 use Rattle.aos_check_decl.specs.declared.aliases.Target.{Target}
 use Rattle.aos_check_decl.specs.declared.aliases.Target.TheVariants.{Own, Of, Nothing}
 use Rattle.aos_check_decl.specs.Aliases.{nil, follow, stands_for, first_rows, numbers}
@@ -33,11 +33,11 @@ use Rattle.aos_check_decl.specs.Limits.{may_be_target}
 use Rattle.aos_check_decl.proofs.TypingLists.{set_other, set_gives, push_gives, get_below}
 use Rattle.aos_check_decl.proofs.TypingScopes.{AreGood}
 use Rattle.aos_check_decl.proofs.TypingNames.{IsBasicNumber}
-use Rattle.aos_check_decl.proofs.TypingClaims.{AllBases, AllObjectBases, more_bases, more_object_bases, target_bases, target_object_bases, AreOfBase, AreOfObject}
+use Rattle.aos_check_decl.proofs.TypingClaims.{AllBases, AllObjectBases, more_bases, more_object_bases, target_bases, target_object_bases, result_bases, result_object_bases, AreOfBase, AreOfObject}
 use Rattle.aos_check_decl.proofs.TypingTables.{AllBelow}
 use Rattle.aos_check_decl.proofs.TypingEntries.{scopes_typed}
 use Rattle.aos_check_decl.proofs.TypingTypes.{Telling}
-use Rattle.aos_check_decl.proofs.TypingFields.{Stands, AreKept, set_keeps, push_keeps, Agree, set_on, more_some, agree_set, agree_push, agree_open, agree_target, agree_record_set, agree_record_push, agree_object_set, AreApart, AreFilled, objects_set, objects_push, objects_scopes, objects_placed}
+use Rattle.aos_check_decl.proofs.TypingFields.{Stands, Leads, IsRow, row_implied, IsGivenResult, agree_result, AreKept, set_keeps, push_keeps, Agree, set_on, more_some, agree_set, agree_push, agree_open, agree_target, agree_record_set, agree_record_push, agree_object_set, AreApart, AreFilled, objects_set, objects_push, objects_scopes, objects_placed}
 use Rattle.aos_check_decl.proofs.ObjectTypes.{IsObject}
 use Rattle.aos_check_decl.proofs.TypingObjects.{own_homes, own_apart, own_defined, fields_at, fields_are, inner_there}
 use Rattle.aos_check_decl.proofs.TypingHeadings.{is_name}
@@ -355,10 +355,11 @@ module _ (number : ℕ) (before : List Home) (types : List TypeRow) (text : List
     AreAll = λ vs us. Unit {0};
     none_all = tt;
     more_all = λ ts vs us n of known all. tt;
-    agree_set = λ us rs cs t r slot closed other ok known a. a;
-    agree_push = λ us rs cs r closed other ok known a. a;
+    agree_set = λ us rs cs t r goes slot closed other ok known a. a;
+    agree_push = λ us rs cs r goes closed other ok known a. a;
     agree_open = λ us rs cs t goes there a. a;
     agree_target = λ us rs cs at t a. more_slots cs (claim.Target at t ∷ []) a (target_bases HasSlot at t, target_object_bases HasSlot at t);
+    agree_result = λ us rs cs at t a. more_slots cs (claim.Result at t ∷ []) a (result_bases HasSlot at t, result_object_bases HasSlot at t);
     agree_unsettled = λ us rs cs t known a. a;
     agree_record_set = λ us h cs t base fs s ds goes slot claims known all a. more_slots cs ds a (own_bases ds base t claims slot);
     agree_record_push = λ us h cs base fs s ds goes claims known all a.
@@ -430,11 +431,9 @@ module _ (number : ℕ) (before : List Home) (types : List TypeRow) (text : List
   pub last_open : (us : List TypeRow) (r : TypeRow) → GoesOn first us → MayBeOpen (us ++ r ∷ []) (Some (record { 0 = length us }))
   last_open us r goes = let l = goes.long in inr (omega (arith, l, first_ten), omega (arith, length-append us (r ∷ [])))
 
-  pub open_agrees : (us : List TypeRow) (rs : List (ℕ × Scope)) (cs : List Claim) (t : TypeId) → GoesOn first us → MayBeOpen us (Some t) →
-      Agree (length types) (length first) us rs cs → Agree (length types) (length first) (us ++ row.Open t ∷ []) rs cs
-  open_agrees us rs cs t goes there a =
-      let l = goes.long in
-      agree_open (length types) (length first) us rs cs t (omega (arith, l, first_ten)) (below there) (variable there) a
+  -- the type of a formal is there
+  formal_of : (us : List TypeRow) → GoesOn first us → (t : TypeId) → MayBeOpen us (Some t) → IsFormalType us t
+  formal_of us goes t may = (below may, variable may)
     where
       below : MayBeOpen us (Some t) → t.0 < length us
       below (inl low) = let l = goes.long in let b = basic_low t.0 low in omega (arith, l, b, first_ten)
@@ -444,6 +443,18 @@ module _ (number : ℕ) (before : List Home) (types : List TypeRow) (text : List
       variable (inl (inl low)) = inl low
       variable (inl (inr any)) = inr (inl any)
       variable (inr r) = inr (inr r.0)
+
+  pub formals_of : (us : List TypeRow) (cs : List Claim) (r : TypeRow) → GoesOn first us →
+      IsRow (λ p. MayBeOpen us (Some p)) (IsGivenResult us cs) (Leads (Stands (length first) us) cs) r → IsRow (IsFormalType us) (IsGivenResult us cs) (Leads (Stands (length first) us) cs) r
+  formals_of us cs r goes =
+      row_implied (λ p. MayBeOpen us (Some p)) (IsFormalType us) (IsGivenResult us cs) (Leads (Stands (length first) us) cs) (λ t may. formal_of us goes t may) r
+
+  pub open_agrees : (us : List TypeRow) (rs : List (ℕ × Scope)) (cs : List Claim) (t : TypeId) → GoesOn first us → MayBeOpen us (Some t) →
+      Agree (length types) (length first) us rs cs → Agree (length types) (length first) (us ++ row.Open t ∷ []) rs cs
+  open_agrees us rs cs t goes there a =
+      let l = goes.long in
+      let formal = formal_of us goes t there in
+      agree_open (length types) (length first) us rs cs t (omega (arith, l, first_ten)) formal.0 formal.1 a
 
   -- the variables of a record are the types in its row
   abbrev pub AreSome : List (Option TypeId) → List TypeId → Type 0
@@ -496,10 +507,11 @@ module _ (number : ℕ) (before : List Home) (types : List TypeRow) (text : List
       AreAll = AreSome;
       none_all = refl;
       more_all = λ us vs fs n of. more_fields us vs fs n of;
-      agree_set = λ us rs cs t r slot closed other ok known a. agree_set (length types) (length first) us rs cs t r slot closed other ok known a;
-      agree_push = λ us rs cs r closed other ok known a. agree_push (length types) (length first) us rs cs r closed other ok known a;
+      agree_set = λ us rs cs t r goes slot closed other ok known a. agree_set (length types) (length first) us rs cs t r slot closed other (formals_of us cs r goes ok) known a;
+      agree_push = λ us rs cs r goes closed other ok known a. agree_push (length types) (length first) us rs cs r closed other (formals_of us cs r goes ok) known a;
       agree_open = λ us rs cs t goes there a. open_agrees us rs cs t goes there a;
       agree_target = λ us rs cs at t a. agree_target (length types) (length first) us rs cs at t a;
+      agree_result = λ us rs cs at t a. agree_result (length types) (length first) us rs cs at t a;
       agree_unsettled = λ us rs cs t known a. absurd known;
       agree_record_set = λ us h cs t base fs s ds goes slot claims known all a.
           (let l = goes.long in agree_record_set (length types) (length first) us h cs t base fs s ds slot (omega (arith, slot, l)) claims known all a);

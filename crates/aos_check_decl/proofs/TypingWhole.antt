@@ -18,6 +18,7 @@ use Rattle.aos_types.specs.Limit.{is_first_past}
 use Rattle.aos_types.proofs.Circles.{circle_test}
 use Rattle.aos_types.proofs.Ranks.{ranked}
 use Rattle.aos_types.proofs.Cut.{nothing_cut}
+use Rattle.aos_symbols.specs.declared.env.Claim.TheVariants as claim
 use Rattle.aos_symbols.specs.declared.env.Open.{Open}
 use Rattle.aos_symbols.specs.declared.env.Env.{Env}
 use Rattle.aos_symbols.specs.Declarations.{type_defs, all_type_defs}
@@ -29,7 +30,7 @@ use Rattle.aos_symbols.specs.declared.home.ObjectScope.{ObjectScope}
 use Rattle.aos_symbols.specs.Entries.{objects_of}
 use Rattle.aos_symbols.specs.Env as env
 use Rattle.aos_symbols.proofs.Each.{Each}
-use Rattle.aos_symbols.proofs.Told.{IsTold, GoOn, told_behind, IsLength, IsBase, IsObjectBase, AreToldParts, PartsAreTold}
+use Rattle.aos_symbols.proofs.Told.{IsTold, GoOn, told_behind, IsLength, IsBase, IsObjectBase, IsResultType, AreToldParts, PartsAreTold}
 use Rattle.aos_check_expr.proofs.Opens.{IsOpenAt, OpensStand}
 use Rattle.aos_check_expr.proofs.Whole.{IsWritten}
 use Rattle.aos_check_decl.specs.declared.aliases.Target.{Target}
@@ -42,18 +43,18 @@ use Rattle.aos_check_decl.specs.Pass.{entered}
 use Rattle.aos_check_decl.proofs.TypingLists.{get_below, get_behind, mapped_at}
 use Rattle.aos_check_decl.proofs.TypingScopes.{AreGood, AllGood}
 use Rattle.aos_check_decl.proofs.TypingTypes.{Telling, IsSearched, IsFit}
-use Rattle.aos_check_decl.proofs.TypingClaims.{AllBases, AllObjectBases, no_bases, no_object_bases, base_kept, object_kept, target_kept, bases_same, bases_other, bases_long, target_high, told_closed, told_on}
-use Rattle.aos_check_decl.proofs.TypingFields.{Stands, Leads, IsBaseAsked, IsObjectAsked, AreAskedParts, PartsAreAsked, asked_written, IsObjectRow, IsFilled}
+use Rattle.aos_check_decl.proofs.TypingClaims.{claim_kept, AllBases, AllObjectBases, no_bases, no_object_bases, base_kept, object_kept, target_kept, bases_same, bases_other, bases_long, target_high, told_closed, told_on}
+use Rattle.aos_check_decl.proofs.TypingFields.{Stands, Leads, OfResult, IsGivenResult, IsBaseAsked, IsObjectAsked, AreAskedParts, PartsAreAsked, asked_written, IsObjectRow, IsFilled}
 use Rattle.aos_check_decl.proofs.TypingObjects.{fields_at}
 use Rattle.aos_check_decl.proofs.TypingProcedures.{IsHeaded, headings_sound}
 use Rattle.aos_check_decl.proofs.TypingEntries.{scope_fresh}
 use Rattle.aos_check_decl.proofs.TypingTargets.{AreLed, IsGiven}
 use Rattle.aos_check_decl.proofs.TypingAliases.{IsProper, IsSound, rows_at, first_row_at, told_first, ends}
 use Rattle.aos_check_decl.proofs.TypingTables.{AllBelow, all_within}
-use Rattle.aos_check_decl.proofs.TypingLimits.{type_kept, flag_is, none_circular}
+use Rattle.aos_check_decl.proofs.TypingLimits.{type_kept, asked_kept, flag_is, none_circular, result_scalar}
 use Rattle.aos_check_decl.proofs.TypingOnce.{module_alike, procedures_alike}
 use Rattle.aos_check_decl.proofs.TypingSlots.{own_slots, procedures_slots}
-use Rattle.aos_check_decl.proofs.TypingWalks.{GoesTo, IsKept, HasSlot, first, standing, count, table_long, sound, meant_below, place_meant, outline, told, all_numbers, told_numbers, object_number}
+use Rattle.aos_check_decl.proofs.TypingWalks.{told_below, GoesTo, IsKept, HasSlot, first, standing, count, table_long, sound, meant_below, place_meant, outline, told, all_numbers, told_numbers, object_number}
 
 -- what is known of the types before
 pub record AreOld (types : List TypeRow) : Type 0 where
@@ -319,28 +320,11 @@ module _ (number : ℕ) (before : List Home) (types : List TypeRow) (text : List
       target_of_row t (inl claimed) = target_kept ended ended.claims asked t claimed
       target_of_row t (inr stands) = stands.1
 
-      told_row : (r : TypeRow) → AreAskedParts (length table) ended.types ended.claims r → AreToldParts ended.types r
-      told_row (row.Basic b) parts = tt
-      told_row row.Any parts = tt
-      told_row (row.Array n t) parts = parts
-      told_row (row.Open t) parts = tt
-      told_row (row.Record base fs) parts = (base_of_row base parts.0, parts.1)
-      told_row (row.Pointer t) parts = let may = target_of_row t parts in (target_high ended.types basics t may, may)
-      told_row (row.Object base fs) parts = (object_of_row base parts.0, parts.1)
-      told_row (row.Procedure fs r) parts = tt
-
       goes_on : GoOn types ended.types
       goes_on t told = headed.goes.on t (on_table t told)
 
       old_kept : (k : ℕ) (r : TypeRow) → slice_get types k ≡ Some r → slice_get ended.types k ≡ Some r
       old_kept k r is = stays k (slice_get_within types k r is) ∙ is
-
-      pub parts : PartsAreTold ended.types
-      parts k r is = by (cases_lt k (length types))
-        where
-          by : (k < length types) ⊎ (length types ≤ k) → AreToldParts ended.types r
-          by (inl below) = told_on types ended.types goes_on old_kept r (old.parts k r (sym (stays k below) ∙ is))
-          by (inr behind) = told_row r (headed.fit.agrees.parts k r behind is)
 
       pub written : (k : ℕ) (r : TypeRow) → length types ≤ k → slice_get ended.types k ≡ Some r → IsWritten r
       written k r behind is = asked_written (length table) ended.types ended.claims r (headed.fit.agrees.parts k r behind is)
@@ -391,3 +375,32 @@ module _ (number : ℕ) (before : List Home) (types : List TypeRow) (text : List
 
       pub sizes : (t : TypeId) → scalars ended.types t ≤ MOST_SCALARS
       sizes = all_within types ended.types old.closed stays old.free free old.sizes new_within
+
+      -- What is told of all rows.
+
+      result_of_row : (r : Option TypeId) → OfResult (IsGivenResult ended.types ended.claims) r → IsResultType ended.types r
+      result_of_row None given = tt
+      result_of_row (Some t) given =
+          let flags = circles ended.types in
+          let ten : 10 ≤ length ended.types = let l = old.ten in omega (arith, l, long) in
+          let asked = given.1 in
+          let rule = claim_kept (limits.asked_result flags ended.types) ended.claims (asked_kept flags ended.types ended (length types) m.decls kept_whole)
+          asked.place (claim.Result asked.at t) asked.is in
+          (given.0, result_scalar flags ended.types basics asked.at t given.0 (not_circular t (told_below ended.types ten t given.0)) (sizes t) rule)
+
+      told_row : (r : TypeRow) → AreAskedParts (length table) ended.types ended.claims r → AreToldParts ended.types r
+      told_row (row.Basic b) parts = tt
+      told_row row.Any parts = tt
+      told_row (row.Array n t) parts = parts
+      told_row (row.Open t) parts = tt
+      told_row (row.Record base fs) parts = (base_of_row base parts.0, parts.1)
+      told_row (row.Pointer t) parts = let may = target_of_row t parts in (target_high ended.types basics t may, may)
+      told_row (row.Object base fs) parts = (object_of_row base parts.0, parts.1)
+      told_row (row.Procedure fs r) parts = (parts.0, result_of_row r parts.1)
+
+      pub parts : PartsAreTold ended.types
+      parts k r is = by (cases_lt k (length types))
+        where
+          by : (k < length types) ⊎ (length types ≤ k) → AreToldParts ended.types r
+          by (inl below) = told_on types ended.types goes_on old_kept (omega (arith, long)) r (old.parts k r (sym (stays k below) ∙ is))
+          by (inr behind) = told_row r (headed.fit.agrees.parts k r behind is)

@@ -1,8 +1,8 @@
 -- The second pass: constants, types and headings, and the environment behind them. First come the module's own declarations, then
 -- those of its procedures, and then those of its types' methods.
-use Rattle.std.specs.Prelude.{ℕ, suc, List, [], ◌∷◌, ◌++◌, ◌+◌, length, replicate, false, Option, Some, None, slice_set}
+use Rattle.std.specs.Prelude.{ℕ, suc, List, [], ◌∷◌, ◌+◌, length, Bool, true, false, ◌&&◌, Option, Some, None, is_some, slice_set}
+use Rattle.std.specs.Option.{is_none}
 use Rattle.aos_base.specs.declared.text.Pos.{Pos}
-use Rattle.aos_tree.specs.declared.name.Qualident.{Qualident}
 use Rattle.aos_tree.specs.declared.decl.Decl.{Decl, items-the_row-TypeDef, items-the_row-VarDef}
 use Rattle.aos_tree.specs.declared.decl.Decl.TheVariants as decl
 use Rattle.aos_tree.specs.declared.decl.TypeDef.{TypeDef}
@@ -10,23 +10,21 @@ use Rattle.aos_tree.specs.declared.decl.VarDef.{VarDef}
 use Rattle.aos_tree.specs.declared.decl.TypeExpr.{TypeExpr}
 use Rattle.aos_tree.specs.declared.decl.TypeExpr.TheVariants as type
 use Rattle.aos_tree.specs.declared.decl.Formals.{Formals}
-use Rattle.aos_tree.specs.declared.decl.Section.{Section}
 use Rattle.aos_types.specs.declared.row.TypeId.{TypeId}
 use Rattle.aos_types.specs.declared.row.TypeRow.TheVariants as row
 use Rattle.aos_symbols.specs.declared.breach.Breach.{Breach}
 use Rattle.aos_symbols.specs.declared.home.Parameter.{Parameter}
-use Rattle.aos_symbols.specs.declared.home.Gives.{Gives}
-use Rattle.aos_symbols.specs.declared.home.Gives.TheVariants as gives
 use Rattle.aos_symbols.specs.declared.home.Signature.{Signature}
 use Rattle.aos_symbols.specs.declared.env.Env.{Env}
-use Rattle.aos_symbols.specs.Breaches.{breach}
+use Rattle.aos_symbols.specs.Breaches.{breach_unless}
 use Rattle.aos_symbols.specs.Judged.{Judged, judged, kept, bind, walk}
 use Rattle.aos_symbols.specs.Declarations.{Procedure, procedures, methods_in, type_defs}
 use Rattle.aos_symbols.specs.Home.{add_signature}
 use Rattle.aos_symbols.specs.Env as env
 pub use Rattle.aos_check_decl.specs.Variables.{with_constant, constant_def, with_variable, with_variables}
-use Rattle.aos_check_decl.specs.Types.{Met, met, placed, named_type, type_in}
+use Rattle.aos_check_decl.specs.Types.{Met, named_type, type_in}
 use Rattle.aos_check_decl.specs.Aliases.{nil}
+pub use Rattle.aos_check_decl.specs.Formals.{opened, FormalsMet, formals_met, with_section, given, HeadingMet, heading_met, formals_in, result_in}
 pub use Rattle.aos_check_decl.specs.Methods.{slot_meant, slot_in, defined_type, overriding}
 
 -- Types.
@@ -62,60 +60,19 @@ declared e (decl.Types' p shape row) = walk type_def e (items-the_row-TypeDef _ 
 declared e (decl.Vars' p shape row) = walk variable_def e (items-the_row-VarDef _ row)
 declared e (decl.Proc' p i def formals shape row body end) = kept e
 
--- Headings. The types of parameters and results are those of the scope round the procedure.
-
--- open arrays within one another, as many as there are places of ARRAY
-abbrev pub opened : List Pos → Met → Met
-opened [] m = m
-opened (at ∷ ats) m = open_of at (opened ats m)
-  where
-    on_element : Pos → Met → Option TypeId → Met
-    on_element at m None = m
-    on_element at m (Some t) = placed None at (row.Open t) m.env
-
-    open_of : Pos → Met → Met
-    open_of at m = on_element at m m.of
-
-pub record FormalsMet : Type 0 where
-  pub env : Env
-  pub parameters : List Parameter
-
-abbrev pub formals_met : Env → List Parameter → FormalsMet
-formals_met e ps = record { env = e; parameters = ps }
-
-abbrev pub with_section : FormalsMet → Section → Judged FormalsMet
-with_section f s =
-    bind (named_type f.env s.of) (λ of.
-    let m = opened s.arrays (met f.env of) in
-    kept (formals_met m.env (f.parameters ++ replicate (length s.names) (record { by_reference = s.by_reference; of = m.of }))))
-
-abbrev pub given : Env → Option Qualident → Judged Gives
-given e None = kept gives.Nothing
-given e (Some q) = bind (named_type e q) (λ of. kept (gives.Value of))
-
--- the environment behind a heading, and the procedure's signature
-pub record HeadingMet : Type 0 where
-  pub env : Env
-  pub signature : Signature
-
-abbrev pub heading_met : Env → Signature → HeadingMet
-heading_met e s = record { env = e; signature = s }
-
-abbrev pub formals_in : Env → Option Formals → Judged HeadingMet
-formals_in e None = kept (heading_met e (record { parameters = []; gives = gives.Nothing }))
-formals_in e (Some f) =
-    bind (walk with_section (formals_met e []) f.sections) (λ s.
-    bind (given s.env f.result) (λ g.
-    kept (heading_met s.env (record { parameters = s.parameters; gives = g }))))
+-- Headings.
 
 abbrev pub with_parameters : Env → List Parameter → Env
 with_parameters e [] = e
 with_parameters e (p ∷ ps) = with_parameters (with_variable e p.of) ps
 
--- an initializer stands in an object type alone, where it isn't built
-abbrev pub initializer_breaches : (rule : ℕ) → Option Pos → List Breach
-initializer_breaches rule None = []
-initializer_breaches rule (Some at) = breach rule at
+-- an initializer stands where it may, and is no function
+abbrev pub initializer_breaches : (may_stand : Bool) → Option Pos → Option Formals → List Breach
+initializer_breaches may_stand None formals = []
+initializer_breaches may_stand (Some at) formals = breach_unless (may_stand && is_none (result_in formals)) 24 at
+
+abbrev pub marked : Option Pos → HeadingMet → HeadingMet
+marked initializer h = heading_met h.env (record h.signature { is_initializer = is_some initializer })
 
 abbrev pub with_signature : Env → Signature → Env
 with_signature e s = record e { here = add_signature e.here s }
@@ -126,15 +83,17 @@ locals_in k h ds =
     bind (walk declared (with_parameters (env.within (with_signature h.env h.signature) k) h.signature.parameters) ds) (λ e.
     kept (env.back_at h.env.path e))
 
-abbrev pub procedure : (rule : ℕ) → Env → ℕ → Option Pos → Option Formals → List Decl → Judged Env
-procedure rule e k initializer formals ds =
-    bind (judged (initializer_breaches rule initializer) e) (λ e. bind (formals_in e formals) (λ h. locals_in k h ds))
+abbrev pub procedure : (may_stand : Bool) → Env → ℕ → Option Pos → Option Formals → List Decl → Judged Env
+procedure may_stand e k initializer formals ds =
+    bind (judged (initializer_breaches may_stand initializer formals) e) (λ e.
+    bind (formals_in e formals) (λ h. locals_in k (marked initializer h) ds))
 
--- procedures, whose scopes have the numbers from k on
-abbrev pub procedures_from : (rule : ℕ) → Env → ℕ → List Procedure → Judged Env
-procedures_from rule e k [] = kept e
-procedures_from rule e k (p ∷ ps) =
-    bind (procedure rule e k p.initializer p.formals p.decls) (λ e. procedures_from rule e (suc k) ps)
+-- procedures, whose scopes have the numbers from k on; one of them may be an initializer, or none
+abbrev pub procedures_from : (may_stand : Bool) → Env → ℕ → List Procedure → Judged Env
+procedures_from may_stand e k [] = kept e
+procedures_from may_stand e k (p ∷ ps) =
+    bind (procedure may_stand e k p.initializer p.formals p.decls) (λ e.
+    procedures_from (may_stand && is_none p.initializer) e (suc k) ps)
 
 -- Methods: their headings and declarations stand within their object type.
 
@@ -144,7 +103,7 @@ within_type e (Some t) = env.within_object e t
 
 abbrev pub type_methods : Env → ℕ → TypeDef → Judged Env
 type_methods e k d =
-    bind (procedures_from 99 (within_type e (defined_type e d)) k (methods_in d)) (λ f. kept (env.outside e.path f))
+    bind (procedures_from true (within_type e (defined_type e d)) k (methods_in d)) (λ f. kept (env.outside e.path f))
 
 -- of types in turn
 abbrev pub methods_from : Env → ℕ → List TypeDef → Judged Env
@@ -156,5 +115,5 @@ abbrev pub headings : Env → List Decl → Judged Env
 headings e ds =
     let first = suc (length (type_defs ds)) in
     bind (walk declared e ds) (λ e.
-    bind (procedures_from 24 e first (procedures ds)) (λ e.
+    bind (procedures_from false e first (procedures ds)) (λ e.
     bind (methods_from e (first + length (procedures ds)) (type_defs ds)) (λ e. overriding e (type_defs ds))))

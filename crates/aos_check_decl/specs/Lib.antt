@@ -1,4 +1,6 @@
 pub mod Variables
+pub mod Met
+pub mod Formals
 pub mod Types
 pub mod Aliases
 pub mod Ahead

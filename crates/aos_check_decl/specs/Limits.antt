@@ -71,6 +71,7 @@ may_be_target r = is_whole r || is_open r
 
 abbrev pub claim_breaches : Env → Claim → List Breach
 claim_breaches e (claim.Target at t) = breach_unless (may_be_target (row_of e.types t)) 25 at
+claim_breaches e (claim.Result at t) = []
 claim_breaches e (claim.Base at b t) = breach_unless (may_be_base (row_of e.types b)) 17 at
 claim_breaches e (claim.ObjectBase at b t) = breach_unless (may_be_object_base (row_of e.types b)) 17 at
 claim_breaches e (claim.Field n b) = breach_unless (is_none (env.field e b n) && is_none (env.method e b n)) 23 n.pos
@@ -123,6 +124,15 @@ module _ (flags : List Bool) (rows : List TypeRow) where
   results_from (p ∷ ps) [] = []
   results_from (p ∷ ps) (s ∷ ss) = result_breaches (result_of p.formals) s.gives ++ results_from ps ss
 
+  -- and of procedure types
+  abbrev pub asked_result : Claim → List Breach
+  asked_result (claim.Result at t) = breach_unless (not (is_wrong_result t)) 25 at
+  asked_result (claim.Target at t) = []
+  asked_result (claim.Base at b t) = []
+  asked_result (claim.ObjectBase at b t) = []
+  asked_result (claim.Field n b) = []
+  asked_result (claim.Method n b) = []
+
   -- Variables of modules.
 
   abbrev pub counted : Option TypeId → ℕ
@@ -148,6 +158,7 @@ module _ (flags : List Bool) (rows : List TypeRow) where
   all_breaches e first ds =
       types_from first (written e ds) ++ results_from (all_procedures ds) e.here.signatures
       ++ variables_past (sum_by scalars_of e.before) (zip (single_variables ds) (variables_of (slice_get e.here.scopes 0)))
+      ++ flat_map asked_result e.claims
 
 -- the environment without types that contain themselves
 abbrev pub cut_off : Env → ℕ → List Decl → Judged Env

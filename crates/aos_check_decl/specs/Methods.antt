@@ -1,17 +1,13 @@
 -- What is judged of methods once all headings are met: rule 22, and their slots.
-use Rattle.std.specs.Prelude.{ℕ, List, [], ◌∷◌, map, Bool, true, false, ◌&&◌, Option, Some, None}
+use Rattle.std.specs.Prelude.{ℕ, List, [], map, Bool, true, ◌&&◌, Option, Some, None}
 use Rattle.std.specs.List.{flat_map}
 use Rattle.aos_tree.specs.declared.name.Name.{Name}
 use Rattle.aos_tree.specs.declared.decl.TypeDef.{TypeDef}
 use Rattle.aos_types.specs.declared.row.TypeId.{TypeId}
 use Rattle.aos_types.specs.declared.row.TypeRow.{TypeRow}
-use Rattle.aos_types.specs.Sameness.{same}
 use Rattle.aos_symbols.specs.declared.breach.Breach.{Breach}
 use Rattle.aos_symbols.specs.declared.scope.Meaning.{Meaning}
 use Rattle.aos_symbols.specs.declared.scope.Meaning.TheVariants as means
-use Rattle.aos_symbols.specs.declared.home.Parameter.{Parameter}
-use Rattle.aos_symbols.specs.declared.home.Gives.{Gives}
-use Rattle.aos_symbols.specs.declared.home.Gives.TheVariants as gives
 use Rattle.aos_symbols.specs.declared.home.Signature.{Signature}
 use Rattle.aos_symbols.specs.declared.env.Lookup.{Lookup}
 use Rattle.aos_symbols.specs.declared.env.Lookup.TheVariants.{Unknown, NotExported, Found}
@@ -22,6 +18,7 @@ use Rattle.aos_symbols.specs.Judged.{Judged, judged}
 use Rattle.aos_symbols.specs.Declarations.{Procedure, methods_in}
 use Rattle.aos_symbols.specs.Home.{with_slots}
 use Rattle.aos_symbols.specs.Env as env
+pub use Rattle.aos_check_expr.specs.Signatures.{same_type, same_kind, same_parameter, same_parameters, same_result, same_signature}
 
 -- the number that a type's name stands for
 abbrev pub slot_meant : Meaning → Option TypeId
@@ -36,38 +33,12 @@ slot_in (Found x) = slot_meant x.means
 abbrev pub defined_type : Env → TypeDef → Option TypeId
 defined_type e d = slot_in (env.lookup e d.def.name)
 
--- Rule 22: a method has the formals and the result of the one that it overrides. What breaks a rule counts as kept.
-
-abbrev pub same_type : List TypeRow → Option TypeId → Option TypeId → Bool
-same_type rows (Some t) (Some u) = same rows t u
-same_type rows _ _ = true
-
-abbrev pub same_kind : Bool → Bool → Bool
-same_kind true b = b
-same_kind false true = false
-same_kind false false = true
-
-abbrev pub same_parameter : List TypeRow → Parameter → Parameter → Bool
-same_parameter rows a b = same_kind a.by_reference b.by_reference && same_type rows a.of b.of
-
-abbrev pub same_parameters : List TypeRow → List Parameter → List Parameter → Bool
-same_parameters rows [] [] = true
-same_parameters rows [] (b ∷ bs) = false
-same_parameters rows (a ∷ as') [] = false
-same_parameters rows (a ∷ as') (b ∷ bs) = same_parameter rows a b && same_parameters rows as' bs
-
-abbrev pub same_result : List TypeRow → Gives → Gives → Bool
-same_result rows gives.Nothing gives.Nothing = true
-same_result rows gives.Nothing (gives.Value u) = false
-same_result rows (gives.Value t) gives.Nothing = false
-same_result rows (gives.Value t) (gives.Value u) = same_type rows t u
-
-abbrev pub same_signature : List TypeRow → Signature → Signature → Bool
-same_signature rows s t = same_parameters rows s.parameters t.parameters && same_result rows s.gives t.gives
+-- Rule 22: a method has the formals and the result of the one that it overrides, and is an initializer where that is one. What breaks a
+-- rule counts as kept.
 
 -- the headings of both are met
 abbrev pub may_override : List TypeRow → Option Signature → Option Signature → Bool
-may_override rows (Some s) (Some t) = same_signature rows s t
+may_override rows (Some s) (Some t) = same_signature rows s t && same_kind s.is_initializer t.is_initializer
 may_override rows _ _ = true
 
 abbrev pub signature_of : Env → Method → Option Signature

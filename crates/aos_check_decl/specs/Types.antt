@@ -1,13 +1,11 @@
 -- Types that are written: the rules that they break, their rows in the table of types, and their numbers. What isn't
 -- built is refused by rule 99 at its first token; nothing behind that in it is looked at.
-use Rattle.std.specs.Prelude.{ℕ, pos, int_le, unsigned_abs, List, [], ◌∷◌, ◌++◌, length, replicate, fold, map, Bool, true, false, ◌==◌, ◌&&◌, ◌||◌, Option, Some, None, option_and_then, slice_set, if◌then◌else◌}
-use Rattle.std.specs.List.{flat_map, list_any}
-use Rattle.std.specs.Option.{is_none}
+use Rattle.std.specs.Prelude.{ℕ, pos, int_le, unsigned_abs, List, [], ◌∷◌, ◌++◌, length, replicate, fold, map, Bool, true, false, ◌==◌, ◌&&◌, Option, Some, None, option_and_then, if◌then◌else◌}
+use Rattle.std.specs.List.{flat_map}
 use Rattle.aos_base.specs.declared.text.Pos.{Pos}
 use Rattle.aos_tree.specs.declared.name.Name.{Name}
 use Rattle.aos_tree.specs.declared.name.Qualident.{Qualident}
 use Rattle.aos_tree.specs.declared.expr.Expr.{Expr, out-Expr}
-use Rattle.aos_tree.specs.declared.stat.Block.{Block}
 use Rattle.aos_tree.specs.declared.decl.Def.{Def}
 use Rattle.aos_tree.specs.declared.decl.ConstDef.{ConstDef}
 use Rattle.aos_tree.specs.declared.decl.VarDef.{VarDef}
@@ -19,7 +17,6 @@ use Rattle.aos_tree.specs.declared.decl.TypeExpr.{TypeExpr, Row_of-TypeExpr, end
 use Rattle.aos_tree.specs.declared.decl.TypeExpr.TheVariants as type
 use Rattle.aos_types.specs.declared.TheConstants.{MOST_SCALARS}
 use Rattle.aos_types.specs.declared.row.TypeId.{TypeId}
-use Rattle.aos_types.specs.declared.row.TypeRow.{TypeRow}
 use Rattle.aos_types.specs.declared.row.TypeRow.TheVariants as row
 use Rattle.aos_typed.specs.declared.tree.Literal.{Literal}
 use Rattle.aos_typed.specs.declared.tree.Literal.TheVariants as literal
@@ -29,35 +26,18 @@ use Rattle.aos_symbols.specs.declared.env.Claim.{Claim}
 use Rattle.aos_symbols.specs.declared.env.Claim.TheVariants as claim
 use Rattle.aos_symbols.specs.declared.env.Env.{Env}
 use Rattle.aos_symbols.specs.declared.home.ObjectScope.{ObjectScope}
-use Rattle.aos_symbols.specs.Breaches.{breach, breach_unless, not_built}
+use Rattle.aos_symbols.specs.Breaches.{breach, not_built}
 use Rattle.aos_symbols.specs.Judged.{Judged, judged, kept, bind, walk}
 use Rattle.aos_symbols.specs.Scope.{Scope, empty, with_name, with_variable}
 use Rattle.aos_symbols.specs.Declarations.{single_variables, procedure_defs}
 use Rattle.aos_symbols.specs.Home.{add_record, set_variables, object_of as object_here}
 use Rattle.aos_symbols.specs.Entries.{entry}
-use Rattle.aos_symbols.specs.Spelling.{is_active}
 use Rattle.aos_symbols.specs.Env as env
 use Rattle.aos_check_expr.specs.Expressions.{constant, no_place}
 use Rattle.aos_check_decl.specs.Variables.{constant_def}
+use Rattle.aos_check_decl.specs.Formals.{procedure_in}
 pub use Rattle.aos_check_expr.specs.TypeNames.{no_type, type_meant, type_found, type_of_out, type_in_module, qualified_type, named_type}
-
--- What is met of a type: the environment behind it, and its number, none where it breaks a rule.
-pub record Met : Type 0 where
-  pub env : Env
-  pub of : Option TypeId
-
-abbrev pub met : Env → Option TypeId → Met
-met e of = record { env = e; of = of }
-
--- a rule that a type breaks; nothing of it is known
-abbrev pub refused_type : ℕ → Pos → Env → Judged Met
-refused_type rule at e = judged (breach rule at) (met e None)
-
--- A type's row: that of a definition has its number already, another one the next number. Where it stands is told with it.
-abbrev pub placed : Option TypeId → Pos → TypeRow → Env → Met
-placed (Some t) at r e = met (record e { types = slice_set e.types t.0 r }) (Some t)
-placed None at r e =
-    met (record e { types = e.types ++ r ∷ []; places = e.places ++ at ∷ [] }) (Some (record { 0 = length e.types }))
+pub use Rattle.aos_check_decl.specs.Met.{Met, met, refused_type, placed, claiming}
 
 abbrev pub is_empty : List Expr → Bool
 is_empty [] = true
@@ -74,6 +54,7 @@ length_given (Some (literal.Char c)) at = judged (breach 20 at) None
 length_given (Some (literal.Set s)) at = judged (breach 20 at) None
 length_given (Some (literal.Text t)) at = judged (breach 20 at) None
 length_given (Some literal.Nil) at = judged (breach 20 at) None
+length_given (Some literal.NoProcedure) at = judged (breach 20 at) None
 
 abbrev pub length_of : Env → Expr → Judged (Option ℕ)
 length_of e x = bind (constant e x) (λ v. length_given v (out-Expr x).pos)
@@ -155,10 +136,7 @@ with_record s m = by m.of
     by None = m
     by (Some t) = met (record m.env { here = add_record m.env.here t s }) (Some t)
 
--- What is asked of the types that are named, once all are met.
-
-abbrev pub claiming : List Claim → Env → Env
-claiming cs e = record e { claims = e.claims ++ cs }
+-- What is asked of a record's base, once all types are met.
 
 abbrev pub fields_in_def : Fields → List Name
 fields_in_def fields.Empty = []
@@ -205,17 +183,8 @@ pointer_to slot at x m = to m.of
     to None = m
     to (Some t) = placed slot at (row.Pointer t) (claiming (target_claims x t) m.env)
 
--- Object types: at module level alone; built are those that a declaration names, whose bodies are active, without types and
--- initializers in them. Their constants and fields stand in a scope of their own; their methods come later. A field whose type breaks a
+-- Object types: at module level alone; built are those that a declaration names, without types in them. Their constants and fields stand in a scope of their own; their methods come later. A field whose type breaks a
 -- rule has no type, and the row leaves it out.
-
-abbrev pub has_active : List ℕ → Option Block → Bool
-has_active text None = false
-has_active text (Some b) = list_any (is_active text) b.modifiers
-
--- an object type may have no body
-abbrev pub body_breaches : Env → Pos → Option Block → List Breach
-body_breaches e at body = breach_unless (is_none body || has_active e.here.text body) 99 at
 
 -- what is met of an object type: the environment, the types in its row, and those of its fields
 pub record MembersMet : Type 0 where
@@ -258,21 +227,20 @@ abbrev pub with_own_fields : ℕ → List (Option TypeId) → Env → Env
 with_own_fields k vs e = record e { here = set_variables e.here k vs }
 
 -- its members are met in its scope, which has the number k
-abbrev pub object_with : Env → Pos → Option Qualident → List Decl → Option Block → TypeId → ℕ → Judged MembersMet → Judged Met
-object_with e at base ds body t k members =
-    bind (judged (body_breaches e at body) e) (λ e.
+abbrev pub object_with : Env → Pos → Option Qualident → List Decl → TypeId → ℕ → Judged MembersMet → Judged Met
+object_with e at base ds t k members =
     bind (base_in e base) (λ b.
-    bind members (λ f. kept (object_met t at base ds b f.types (with_own_fields k f.variables (env.back_at e.path f.env))))))
+    bind members (λ f. kept (object_met t at base ds b f.types (with_own_fields k f.variables (env.back_at e.path f.env)))))
 
 -- the number of a definition, and the scope of its object type
 abbrev pub object_slot : Env → Option TypeId → Option ObjectScope
 object_slot e slot = option_and_then (object_here e.here) slot
 
-abbrev pub object_in : Option TypeId → Option ObjectScope → Env → Pos → Option Qualident → List Decl → Option Block → (Env → Judged MembersMet) → Judged Met
-object_in slot object e at base ds body members = if env.innermost e.path == 0 then at_module_level slot object else refused_type 26 at e
+abbrev pub object_in : Option TypeId → Option ObjectScope → Env → Pos → Option Qualident → List Decl → (Env → Judged MembersMet) → Judged Met
+object_in slot object e at base ds members = if env.innermost e.path == 0 then at_module_level slot object else refused_type 26 at e
   where
     at_module_level : Option TypeId → Option ObjectScope → Judged Met
-    at_module_level (Some t) (Some o) = object_with e at base ds body t o.scope (members (env.within e o.scope))
+    at_module_level (Some t) (Some o) = object_with e at base ds t o.scope (members (env.within e o.scope))
     at_module_level _ _ = refused_type 99 at e
 
 -- a type, which is that of a definition where it has a number
@@ -284,9 +252,9 @@ abbrev mutual
   type_in may_be_open slot e (type.Record' p base shape row) =
       record_in slot e p base (field_names (items-the_row-Fields _ row)) (fields_in (fields_met e [] empty) row)
   type_in may_be_open slot e (type.Pointer' p shape row) = pointer_in slot e p row
-  type_in may_be_open slot e (type.Proc p flag formals) = refused_type 99 p e
+  type_in may_be_open slot e (type.Proc p flag formals) = procedure_in slot e p flag formals
   type_in may_be_open slot e (type.Object' p base shape row body end) =
-      object_in slot (object_slot e slot) e p base (items-the_row-Decl _ row) body (λ e. members_in (members_met e [] []) row)
+      object_in slot (object_slot e slot) e p base (items-the_row-Decl _ row) (λ e. members_in (members_met e [] []) row)
 
   -- what is declared in an object type
   pub members_in : {m : _} → MembersMet → Row_of-Decl m → Judged MembersMet
@@ -327,8 +295,8 @@ abbrev mutual
 abbrev pub variable_in : MembersMet → VarDef → Judged MembersMet
 variable_in f v = bind (type_in false None f.env v.of) (λ m. kept (with_members f (length v.defs) m))
 
-abbrev pub object_of : Option TypeId → Env → Pos → Option Qualident → List Decl → Option Block → Judged Met
-object_of slot e at base ds body = object_in slot (object_slot e slot) e at base ds body (λ e. walk member_in (members_met e [] []) ds)
+abbrev pub object_of : Option TypeId → Env → Pos → Option Qualident → List Decl → Judged Met
+object_of slot e at base ds = object_in slot (object_slot e slot) e at base ds (λ e. walk member_in (members_met e [] []) ds)
 
 -- a record, with its fields as a list
 abbrev pub record_of : Option TypeId → Env → Pos → Option Qualident → List Fields → Judged Met

@@ -1,6 +1,6 @@
 // What is asked of the types that a module names, once all are met: rules 17, 23 and 25.
 
-ghost use Rattle.std.specs.Prelude.{◌≡◌, fold, slice_set, OnOk, IfOk, OnErr};
+ghost use Rattle.std.specs.Prelude.{◌≡◌, fold, slice_set, OnOk};
 ghost use Rattle.std.specs.List.{flat_map};
 ghost use Rattle.aos_types.specs.Table as table;
 ghost use Rattle.aos_symbols.specs.Breaches.{first_after};
@@ -105,6 +105,7 @@ fn note_claim(found: &mut Option<Breach>, env: &Env<'_>, claim: Claim) -> Result
 {
     match claim {
         Claim::Target(at, of) => note_target(found, env, at, of),
+        Claim::Result(_, _) => {},
         Claim::Base(at, base, of) => note_base(found, env, at, base, of),
         Claim::ObjectBase(at, base, of) => note_object_base(found, env, at, base, of),
         Claim::Field(name, base) => note_field(found, env, name, base)?,

@@ -4,6 +4,7 @@
 mod aliases;
 mod claims;
 mod declarations;
+mod formals;
 mod limits;
 mod methods;
 mod objects;

@@ -14,8 +14,8 @@ use crate::claims::{drop_bases, note_claims};
 use crate::procedures::next;
 use aos_base::{NoMemory, Pos};
 use aos_symbols::{
-    Breach, CONTAINS_ITSELF, Env, Gives, Home, Scope, TOO_MANY_SCALARS, WRONG_TYPE, all_procedures,
-    note,
+    Breach, CONTAINS_ITSELF, Claim, Env, Gives, Home, Scope, TOO_MANY_SCALARS, WRONG_TYPE,
+    all_procedures, note,
 };
 use aos_tree::{Decl, Def, Formals, Proc, TypeDef, TypeExpr, VarDef};
 use aos_types::{MOST_SCALARS, TypeId, TypeRow, Types};
@@ -249,6 +249,31 @@ fn note_results(
     Ok(())
 }
 
+/// Rule 25 at the result of a procedure type.
+fn note_asked(found: &mut Option<Breach>, types: &Types, flags: &[bool], claim: Claim)
+    requires { NoneContainsItself types.now }
+    ensures { found.new ≡ first_after found.old
+        (judge.asked_result flags.now types.now claim) }
+{
+    if let Claim::Result(at, of) = claim {
+        if is_wrong_result(types, flags, of) {
+            note(found, WRONG_TYPE, at);
+        }
+    }
+}
+
+/// The same of all procedure types.
+#[tactic(auto, using(aos_symbols::proofs::Keeping::first_after_more))]
+fn note_all_asked(found: &mut Option<Breach>, env: &Env<'_>, flags: &[bool])
+    requires { NoneContainsItself env.now.types }
+    ensures { found.new ≡ first_after found.old
+        (flat_map (judge.asked_result flags.now env.now.types) env.now.claims) }
+{
+    for claim in env.claims.as_slice() {
+        note_asked(found, &env.types, flags, *claim);
+    }
+}
+
 /// How many scalars a variable has.
 fn counted(types: &Types, of: Option<TypeId>) -> u32
     requires { NoneContainsItself types.now }
@@ -404,7 +429,9 @@ fn cut_off(
     let written = written_in(alloc, env, decls, &procs)?;
     note_types(found, &env.types, &flags, first, &written)?;
     note_results(found, env, &flags, &procs)?;
-    note_variables(alloc, found, env, decls)
+    note_variables(alloc, found, env, decls)?;
+    note_all_asked(found, env, &flags);
+    Ok(())
 }
 
 /// What is judged of a module's types together, of which the first has this number.

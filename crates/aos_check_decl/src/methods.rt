@@ -1,18 +1,16 @@
 // What is judged of methods once all headings are met.
 
-ghost use Rattle.std.specs.Prelude.{◌≡◌, length, map, OnOk, IfOk};
+ghost use Rattle.std.specs.Prelude.{◌≡◌, map, OnOk, IfOk};
 ghost use Rattle.std.specs.List.{flat_map};
 ghost use Rattle.aos_types.specs.declared.row.TypeId.{TypeId};
 ghost use Rattle.std.specs.Option.{option_copied};
-ghost use Rattle.aos_symbols.specs.Breaches.{breach_unless, first_after};
-ghost use Rattle.aos_symbols.specs.Declarations.{procedures, methods_in, seen_types, type_defs};
+ghost use Rattle.aos_symbols.specs.Breaches.{first_after};
+ghost use Rattle.aos_symbols.specs.Declarations.{procedures, seen_types};
 ghost use Rattle.aos_check_decl.specs.Methods as judge;
 
 use aos_base::NoMemory;
-use aos_symbols::{
-    Breach, Env, Gives, Lookup, Meaning, Method, Parameter, Signature, WRONG_OVERRIDE, inner_decls,
-    note, type_definitions,
-};
+use aos_check_expr::same_signature;
+use aos_symbols::{Breach, Env, Lookup, Meaning, Signature, WRONG_OVERRIDE, inner_decls, note};
 use aos_tree::{Decl, Items, Name, TypeDef};
 use aos_types::{TypeId, Types};
 use std::alloc::{AllocError, Global};
@@ -37,53 +35,6 @@ pub fn defined_type(env: &Env<'_>, def: &TypeDef) -> Option<TypeId>
     slot_in(env.lookup(def.def.name))
 }
 
-/// Two types are the same, or one of them breaks a rule.
-fn same_type(types: &Types, a: Option<TypeId>, b: Option<TypeId>) -> bool
-    ensures { result ≡ judge.same_type types.now a b }
-{
-    match (a, b) {
-        (Some(a), Some(b)) => types.same(a, b),
-        _ => true,
-    }
-}
-
-fn same_parameter(types: &Types, a: Parameter, b: Parameter) -> bool
-    ensures { result ≡ judge.same_parameter types.now a b }
-{
-    a.by_reference == b.by_reference && same_type(types, a.of, b.of)
-}
-
-/// Parameters in order, of which there are as many.
-#[tactic(auto, using(crate::proofs::Overrides::both_step, crate::proofs::Overrides::both_end))]
-fn same_in_order(types: &Types, a: &[Parameter], b: &[Parameter]) -> bool
-    requires { length a.now ≡ length b.now }
-    ensures { result ≡ judge.same_parameters types.now a.now b.now }
-{
-    for number in 0..a.len() {
-        if !same_parameter(types, a[number], b[number]) {
-            return false;
-        }
-    }
-    true
-}
-
-#[tactic(auto, using(crate::proofs::Overrides::other_length))]
-fn same_parameters(types: &Types, a: &[Parameter], b: &[Parameter]) -> bool
-    ensures { result ≡ judge.same_parameters types.now a.now b.now }
-{
-    a.len() == b.len() && same_in_order(types, a, b)
-}
-
-fn same_result(types: &Types, a: Gives, b: Gives) -> bool
-    ensures { result ≡ judge.same_result types.now a b }
-{
-    match (a, b) {
-        (Gives::Nothing, Gives::Nothing) => true,
-        (Gives::Value(a), Gives::Value(b)) => same_type(types, a, b),
-        _ => false,
-    }
-}
-
 /// Whether one heading may stand in the place of the other; what isn't met may.
 fn may_override(types: &Types, a: Option<&Signature>, b: Option<&Signature>) -> bool
     ensures { result ≡
@@ -92,8 +43,7 @@ fn may_override(types: &Types, a: Option<&Signature>, b: Option<&Signature>) -> 
     let (Some(a), Some(b)) = (a, b) else {
         return true;
     };
-    same_parameters(types, a.parameters.as_slice(), b.parameters.as_slice())
-        && same_result(types, a.gives, b.gives)
+    same_signature(types, a, b) && a.is_initializer == b.is_initializer
 }
 
 /// Rule 22 at a method's name.

@@ -1,40 +1,16 @@
 // Object types, and what is asked of their bases.
 
-ghost use Rattle.std.specs.Prelude.{◌≡◌, ◌++◌, ◌∷◌, [], map, replicate, Some, OnOk, IfOk};
+ghost use Rattle.std.specs.Prelude.{◌≡◌, ◌++◌, map, replicate, Some, OnOk, IfOk};
 ghost use Rattle.std.specs.List.{flat_map};
-ghost use Rattle.aos_symbols.specs.Breaches.{first_after};
 ghost use Rattle.aos_symbols.specs.declared.env.Claim.TheVariants as claims;
 ghost use Rattle.aos_check_decl.specs.Types as judge;
 
 use crate::types::{claim, claim_names, place_row};
 use aos_base::{NoMemory, Pos};
-use aos_symbols::{Breach, Claim, Env, NOT_BUILT, is_active, note};
-use aos_tree::{Block, Decl, Qualident, VarDef};
+use aos_symbols::{Claim, Env};
+use aos_tree::{Decl, Qualident, VarDef};
 use aos_types::{Items, TypeId, TypeRow};
 use std::alloc::AllocError;
-
-fn has_active(text: &[u8], body: &Option<Block>) -> bool
-    ensures { result ≡ judge.has_active text.now body.now }
-{
-    let Some(body) = body else {
-        return false;
-    };
-    for modifier in body.modifiers.as_slice() {
-        if is_active(text, modifier) {
-            return true;
-        }
-    }
-    false
-}
-
-/// The body of an object type, if it has one, is active.
-pub(crate) fn refuse_body(found: &mut Option<Breach>, env: &Env<'_>, at: Pos, body: &Option<Block>)
-    ensures { found.new ≡ first_after found.old (judge.body_breaches env.now at body.now) }
-{
-    if body.is_some() && !has_active(env.here.text(), body) {
-        note(found, NOT_BUILT, at);
-    }
-}
 
 /// Asks of an object type's base that it has neither a field nor a method with the name of one of these fields.
 fn claim_variables(env: &mut Env<'_>, base: TypeId, defs: &[VarDef]) -> Result<(), AllocError>

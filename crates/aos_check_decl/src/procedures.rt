@@ -1,161 +1,21 @@
 // Headings of procedures, and what they declare.
 
-ghost use Rattle.std.specs.Prelude.{◌≡◌, ◌+◌, ◌∷◌, ◌++◌, [], OnOk, IfOk, length, replicate};
+ghost use Rattle.std.specs.Prelude.{◌≡◌, ◌+◌, ◌&&◌, true, false, OnOk, IfOk, length};
+ghost use Rattle.std.specs.Option.{is_none};
 ghost use Rattle.aos_symbols.specs.Breaches.{first_after};
 ghost use Rattle.aos_symbols.specs.Declarations.{procedures, seen_types, type_defs};
-ghost use Rattle.aos_symbols.specs.Judged.{walk};
-ghost use Rattle.aos_check_decl.specs.Types as types;
 ghost use Rattle.aos_check_decl.specs.Headings as judge;
 
 use crate::declarations::{add_variable, declare_all};
+use crate::formals::{formals_in, result_in};
 use crate::methods::{defined_type, overriding};
-use crate::types::place_row;
 use aos_base::{NoMemory, Pos};
-use aos_check_expr::named_type;
 use aos_symbols::{
-    Breach, Env, Gives, NOT_BUILT, Open, Parameter, Signature, WRONG_INITIALIZER, inner_decls,
-    note, type_definitions,
+    Breach, Env, Open, Parameter, Signature, WRONG_INITIALIZER, inner_decls, note, type_definitions,
 };
-use aos_tree::{Decl, Formals, Items, Qualident, Section, TypeDef};
-use aos_types::{TypeId, TypeRow};
+use aos_tree::{Decl, Formals, Items, TypeDef};
+use aos_types::TypeId;
 use std::alloc::{AllocError, Global};
-
-/// An open array of elements of this type, where it is known.
-fn place_one_open(
-    env: &mut Env<'_>,
-    at: Pos,
-    of: Option<TypeId>,
-) -> Result<Option<TypeId>, NoMemory>
-    ensures env { OnOk result
-        (env.new ≡ (judge.opened (at ∷ []) (types.met env.old of)).env) }
-    ensures of { IfOk result
-        (λ of'. of' ≡ (judge.opened (at ∷ []) (types.met env.old of)).of) }
-{
-    let Some(element) = of else {
-        return Ok(None);
-    };
-    place_row(env, None, at, TypeRow::Open(element))
-}
-
-/// Open arrays within one another, one for each of these places, the first outermost, of elements of this type.
-fn place_open(
-    env: &mut Env<'_>,
-    places: &[Pos],
-    of: Option<TypeId>,
-) -> Result<Option<TypeId>, NoMemory>
-    ensures env { OnOk result (env.new ≡ (judge.opened places.now (types.met env.old of)).env) }
-    ensures of { IfOk result
-        (λ of'. of' ≡ (judge.opened places.now (types.met env.old of)).of) }
-{
-    let mut met = of;
-    let mut left = places.len();
-    while left > 0 {
-        left -= 1;
-        met = place_one_open(env, places[left], met)?;
-    }
-    Ok(met)
-}
-
-/// So many parameters of one kind behind these.
-fn add_parameters(
-    parameters: &mut Items<Parameter>,
-    count: usize,
-    parameter: Parameter,
-) -> Result<(), AllocError>
-    ensures { OnOk result (parameters.new ≡ parameters.old ++ replicate count parameter) }
-{
-    for _ in 0..count {
-        parameters.push(parameter)?;
-    }
-    Ok(())
-}
-
-/// The parameters of a section behind those before it.
-#[tactic(auto, using(aos_symbols::proofs::Keeping::after_more))]
-fn section_in(
-    found: &mut Option<Breach>,
-    env: &mut Env<'_>,
-    parameters: &mut Items<Parameter>,
-    section: &Section,
-) -> Result<(), NoMemory>
-    ensures noted { OnOk result (found.new ≡ first_after found.old
-        (judge.with_section (judge.formals_met env.old parameters.old) section.now).breaches) }
-    ensures env { OnOk result (env.new ≡
-        (judge.with_section (judge.formals_met env.old parameters.old) section.now).answer.env) }
-    ensures parameters { OnOk result (parameters.new ≡
-        (judge.with_section (judge.formals_met env.old parameters.old)
-        section.now).answer.parameters) }
-{
-    let of = named_type(found, env, section.of);
-    let of = place_open(env, section.arrays.as_slice(), of)?;
-    let by_reference = section.by_reference;
-    add_parameters(
-        parameters,
-        section.names.len(),
-        Parameter { by_reference, of },
-    )?;
-    Ok(())
-}
-
-/// The parameters of sections behind those before them.
-#[tactic(auto, using(aos_symbols::proofs::Keeping::after_more, aos_symbols::proofs::Steps::walk_step, aos_symbols::proofs::Steps::walk_end))]
-fn sections_in(
-    found: &mut Option<Breach>,
-    env: &mut Env<'_>,
-    parameters: &mut Items<Parameter>,
-    sections: &[Section],
-) -> Result<(), NoMemory>
-    ensures noted { OnOk result (found.new ≡ first_after found.old
-        (walk judge.with_section (judge.formals_met env.old parameters.old) sections.now).breaches) }
-    ensures env { OnOk result (env.new ≡
-        (walk judge.with_section (judge.formals_met env.old parameters.old)
-        sections.now).answer.env) }
-    ensures parameters { OnOk result (parameters.new ≡
-        (walk judge.with_section (judge.formals_met env.old parameters.old)
-        sections.now).answer.parameters) }
-{
-    for section in sections {
-        section_in(found, env, parameters, section)?;
-    }
-    Ok(())
-}
-
-/// What a procedure gives.
-fn given(found: &mut Option<Breach>, env: &Env<'_>, of: Option<Qualident>) -> Gives
-    ensures noted { found.new ≡ first_after found.old (judge.given env.now of).breaches }
-    ensures answer { result ≡ (judge.given env.now of).answer }
-{
-    match of {
-        None => Gives::Nothing,
-        Some(name) => Gives::Value(named_type(found, env, name)),
-    }
-}
-
-/// A heading's parameters and result.
-#[tactic(auto, using(aos_symbols::proofs::Keeping::after_more))]
-fn formals_in(
-    alloc: Global,
-    found: &mut Option<Breach>,
-    env: &mut Env<'_>,
-    formals: &Option<Formals>,
-) -> Result<Signature, NoMemory>
-    ensures noted { OnOk result (found.new ≡ first_after found.old
-        (judge.formals_in env.old formals.now).breaches) }
-    ensures env { OnOk result (env.new ≡ (judge.formals_in env.old formals.now).answer.env) }
-    ensures signature { IfOk result (λ s. s ≡
-        (judge.formals_in env.old formals.now).answer.signature) }
-{
-    let mut parameters = Items::new(alloc);
-    let Some(formals) = formals else {
-        return Ok(Signature {
-            parameters,
-            gives: Gives::Nothing,
-        });
-    };
-    sections_in(found, env, &mut parameters, formals.sections.as_slice())?;
-    let gives = given(found, env, formals.result);
-    Ok(Signature { parameters, gives })
-}
 
 /// The variables that parameters are.
 #[tactic(auto, using(crate::proofs::Parameters::parameters_step, crate::proofs::Parameters::parameters_end))]
@@ -191,27 +51,44 @@ fn locals_in(
     Ok(())
 }
 
-/// A procedure: its heading, and its declarations in the scope with this number. An initializer breaks this rule.
+/// Rule 24 at `&`: an initializer stands where it may, and is no function.
+fn note_initializer(
+    found: &mut Option<Breach>,
+    may_stand: bool,
+    initializer: Option<Pos>,
+    formals: &Option<Formals>,
+)
+    ensures { found.new ≡ first_after found.old
+        (judge.initializer_breaches may_stand initializer formals.now) }
+{
+    let Some(at) = initializer else {
+        return;
+    };
+    if !(may_stand && result_in(formals).is_none()) {
+        note(found, WRONG_INITIALIZER, at);
+    }
+}
+
+/// A procedure: its heading, and its declarations in the scope with this number. An initializer may stand there or not.
 #[tactic(auto, using(aos_symbols::proofs::Keeping::after_more))]
 fn procedure_in(
     alloc: Global,
     found: &mut Option<Breach>,
     env: &mut Env<'_>,
-    rule: u16,
+    may_stand: bool,
     scope: u32,
     initializer: Option<Pos>,
     formals: &Option<Formals>,
     decls: &[Decl],
 ) -> Result<(), NoMemory>
     ensures noted { OnOk result (found.new ≡ first_after found.old
-        (judge.procedure rule env.old scope initializer formals.now decls.now).breaches) }
+        (judge.procedure may_stand env.old scope initializer formals.now decls.now).breaches) }
     ensures env { OnOk result (env.new ≡
-        (judge.procedure rule env.old scope initializer formals.now decls.now).answer) }
+        (judge.procedure may_stand env.old scope initializer formals.now decls.now).answer) }
 {
-    if let Some(at) = initializer {
-        note(found, rule, at);
-    }
-    let signature = formals_in(alloc, found, env, formals)?;
+    note_initializer(found, may_stand, initializer, formals);
+    let mut signature = formals_in(alloc, found, env, formals)?;
+    signature.is_initializer = initializer.is_some();
     locals_in(alloc, found, env, scope, signature, decls)
 }
 
@@ -225,22 +102,30 @@ pub(crate) fn next(number: u32) -> Result<u32, NoMemory>
     }
 }
 
-/// Procedures, whose scopes have the numbers from this one on; an initializer breaks this rule.
+/// Whether an initializer may stand behind a procedure.
+fn may_follow(may_stand: bool, initializer: Option<Pos>) -> bool
+    ensures { result ≡ (may_stand && is_none initializer) }
+{
+    may_stand && initializer.is_none()
+}
+
+/// Procedures, whose scopes have the numbers from this one on; one of them may be an initializer, or none.
 #[tactic(auto, using(aos_symbols::proofs::Keeping::after_more))]
 fn procedures_in(
     alloc: Global,
     found: &mut Option<Breach>,
     env: &mut Env<'_>,
-    rule: u16,
+    may_stand: bool,
     first: u32,
     decls: &[Decl],
 ) -> Result<(), NoMemory>
     ensures noted { OnOk result (found.new ≡ first_after found.old
-        (judge.procedures_from rule env.old first (procedures decls.now)).breaches) }
+        (judge.procedures_from may_stand env.old first (procedures decls.now)).breaches) }
     ensures env { OnOk result (env.new ≡
-        (judge.procedures_from rule env.old first (procedures decls.now)).answer) }
+        (judge.procedures_from may_stand env.old first (procedures decls.now)).answer) }
 {
     let mut scope = first;
+    let mut may_stand = may_stand;
     for decl in decls {
         if let Decl::Proc(proc) = decl {
             let decls = proc.decls.as_slice();
@@ -248,13 +133,14 @@ fn procedures_in(
                 alloc,
                 found,
                 env,
-                rule,
+                may_stand,
                 scope,
                 proc.initializer,
                 &proc.formals,
                 decls,
             )?;
             scope = next(scope)?;
+            may_stand = may_follow(may_stand, proc.initializer);
         }
     }
     Ok(())
@@ -332,7 +218,7 @@ fn type_methods(
     ensures env { OnOk result (env.new ≡ (judge.type_methods env.old scope def.now).answer) }
 {
     let outer = enter_type(alloc, env, defined_type(env, def))?;
-    procedures_in(alloc, found, env, NOT_BUILT, scope, inner_decls(&def.value))?;
+    procedures_in(alloc, found, env, true, scope, inner_decls(&def.value))?;
     env.leave_object(outer);
     Ok(())
 }
@@ -373,7 +259,7 @@ pub(crate) fn headings(
 {
     declare_all(alloc, found, env, decls)?;
     let first = next(count_types(decls)?)?;
-    procedures_in(alloc, found, env, WRONG_INITIALIZER, first, decls)?;
+    procedures_in(alloc, found, env, false, first, decls)?;
     let first = behind_procedures(first, decls)?;
     let defs = type_definitions(alloc, decls)?;
     methods_of(alloc, found, env, first, &defs)?;

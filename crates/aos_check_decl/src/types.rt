@@ -1,7 +1,6 @@
 // Types that are written, and the rules that they break.
 
-ghost use Rattle.std.specs.Prelude.{◌≡◌, ◌++◌, ◌∷◌, [], OnOk, IfOk, fold, map, replicate};
-ghost use Rattle.std.specs.List.{flat_map};
+ghost use Rattle.std.specs.Prelude.{◌≡◌, ◌++◌, ◌∷◌, [], OnOk, IfOk, fold, map};
 ghost use Rattle.aos_symbols.specs.Breaches.{first_after};
 ghost use Rattle.aos_symbols.specs.Judged.{walk};
 ghost use Rattle.aos_types.specs.declared.row.TypeRow.TheVariants as kind;
@@ -9,20 +8,21 @@ ghost use Rattle.aos_symbols.specs.declared.env.Claim.TheVariants as claims;
 ghost use Rattle.aos_check_decl.specs.Types as judge;
 
 use crate::declarations::constant_defs;
-use crate::objects::{add_types, place_object, refuse_body};
+use crate::formals::procedure_type;
+use crate::objects::{add_types, place_object};
 use aos_base::{NoMemory, Pos};
 use aos_check_expr::{constant, named_type, no_type};
 use aos_symbols::{
     Breach, Claim, Env, Meaning, NOT_BUILT, NOT_CONSTANT, OBJECT_INSIDE, OPEN_ARRAY, Scope,
     WRONG_TYPE, declare, note,
 };
-use aos_tree::{Block, Decl, Def, Expr, Fields, Items as Parts, Qualident, TypeExpr, VarDef};
+use aos_tree::{Decl, Def, Expr, Fields, Items as Parts, Qualident, TypeExpr, VarDef};
 use aos_typed::Literal;
 use aos_types::{Items, MOST_SCALARS, TypeId, TypeRow};
 use std::alloc::{AllocError, Global};
 
-/// How many types can be told apart by their numbers.
-const MOST_TYPES: usize = 4_294_967_296;
+/// How many types can be told apart by their numbers, of which one is kept for procedures that are named.
+const MOST_TYPES: usize = 4_294_967_295;
 
 /// A rule that a type breaks; nothing of it is known.
 fn refuse_type(found: &mut Option<Breach>, rule: u16, at: Pos) -> Option<TypeId>
@@ -519,14 +519,13 @@ fn object_in<'a>(
     at: Pos,
     base: Option<Qualident>,
     decls: &Parts<Decl>,
-    body: &Option<Block>,
 ) -> Result<Option<TypeId>, NoMemory>
     ensures noted { OnOk result (found.new ≡ first_after found.old
-        (judge.object_of slot env.old at base decls.now body.now).breaches) }
+        (judge.object_of slot env.old at base decls.now).breaches) }
     ensures env { OnOk result (env.new ≡
-        (judge.object_of slot env.old at base decls.now body.now).answer.env) }
+        (judge.object_of slot env.old at base decls.now).answer.env) }
     ensures of { IfOk result (λ t. t ≡
-        (judge.object_of slot env.old at base decls.now body.now).answer.of) }
+        (judge.object_of slot env.old at base decls.now).answer.of) }
 {
     if env.innermost() != 0 {
         return Ok(refuse_type(found, OBJECT_INSIDE, at));
@@ -537,7 +536,6 @@ fn object_in<'a>(
     let Some(object) = env.here.object(of) else {
         return Ok(refuse_type(found, NOT_BUILT, at));
     };
-    refuse_body(found, env, at, body);
     let named = base_in(found, env, base);
     let mut types = Items::new(alloc);
     let mut variables = Vec::new(alloc);
@@ -588,9 +586,11 @@ pub(crate) fn type_in<'a>(
             let target = type_in(alloc, found, env, true, None, to.get())?;
             place_pointer(env, slot, *at, to.get(), target)
         },
-        TypeExpr::Proc(at, _, _) => Ok(refuse_type(found, NOT_BUILT, *at)),
-        TypeExpr::Object(at, base, decls, body, _) => {
-            object_in(alloc, found, env, slot, *at, *base, decls, body)
+        TypeExpr::Proc(at, flag, formals) => {
+            procedure_type(alloc, found, env, slot, *at, *flag, formals)
+        },
+        TypeExpr::Object(at, base, decls, _, _) => {
+            object_in(alloc, found, env, slot, *at, *base, decls)
         },
     }
 }

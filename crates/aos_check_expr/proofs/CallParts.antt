@@ -20,7 +20,9 @@ use Rattle.aos_symbols.specs.Judged.{Judged, bind}
 use Rattle.aos_symbols.proofs.Each.{Each}
 use Rattle.aos_symbols.proofs.Holds.{Holds, holds_bind}
 use Rattle.aos_check_expr.proofs.Inside.{Inside}
+use Rattle.aos_check_expr.specs.declared.calls.Taking.TheVariants as taking
 use Rattle.aos_check_expr.specs.declared.designators.Head.{Head}
+use Rattle.aos_check_expr.specs.declared.signatures.Heading.TheVariants as heading
 use Rattle.aos_check_expr.specs.declared.operations.Step.{Step}
 use Rattle.aos_check_expr.specs.Known.{Answer, is_integer}
 use Rattle.aos_check_expr.specs.Operations as op
@@ -39,7 +41,7 @@ module _ (p : Inside) (e : Env) where
   -- a conversion is into an integer type, and a procedure is that of its signature
   abbrev IsRightCallee : Callee → Type 0
   IsRightCallee (Calls f) = Unit {0}
-  IsRightCallee (Invokes m k) = IsWhole p e → IsCalling p e (Plain m k) m k
+  IsRightCallee (Invokes m k) = IsWhole p e → IsCalling p e (Plain m k) (heading.Declared m k)
   IsRightCallee (Converts t) = is_integer t ≡ true
   IsRightCallee Neither = Unit {0}
 
@@ -79,7 +81,7 @@ module _ (p : Inside) (e : Env) where
 
   limit_meant : (value : TypeId → Option Literal) → GivesGood value → (m : Meaning) (at first : Pos) → IsFine (judge.limit_of value m at first)
   limit_meant value good (means.Type None) at first = refused_part p e 99 at
-  limit_meant value good (means.Type (Some t)) at first = limit_part p (IsWhole p e) (value t) (good t) first
+  limit_meant value good (means.Type (Some t)) at first = limit_part p e (value t) (good t) first
   limit_meant value good m at first = refused_part p e 16 at
 
   limit_found : (value : TypeId → Option Literal) → GivesGood value → (l : Lookup) (at first : Pos) → IsFine (judge.limit_found value l at first)
@@ -103,7 +105,7 @@ module _ (p : Inside) (e : Env) where
   of_one f right tests at (j ∷ []) parts [] = refused_part p e 34 at
   of_one f right tests at (j ∷ []) parts (x ∷ []) =
       holds_bind (Part p e) (Valued p e) j (λ a. judge.one_argument at (out-Expr x).pos (f a.known.of) a) parts.0
-      (λ a h. argument_part p (IsWhole p e) f right tests at (out-Expr x).pos a h)
+      (λ a h. argument_part p e f right tests at (out-Expr x).pos a h)
   of_one f right tests at (j ∷ []) parts (x ∷ y ∷ xs) = refused_part p e 34 at
   of_one f right tests at (j ∷ k ∷ js) parts xs = refused_part p e 34 at
 
@@ -115,7 +117,7 @@ module _ (p : Inside) (e : Env) where
   of_two at (j ∷ k ∷ []) parts (x ∷ y ∷ []) =
       holds_bind (Part p e) (Valued p e) j (λ a. bind k (λ b. judge.two_arguments at (out-Expr x).pos (out-Expr y).pos a b)) parts.0
       (λ a g. holds_bind (Part p e) (Valued p e) k (λ b. judge.two_arguments at (out-Expr x).pos (out-Expr y).pos a b) parts.1.0
-      (λ b h. arguments_part p (IsWhole p e) at (out-Expr x).pos (out-Expr y).pos a b g h))
+      (λ b h. arguments_part p e at (out-Expr x).pos (out-Expr y).pos a b g h))
   of_two at (j ∷ k ∷ []) parts (x ∷ y ∷ z ∷ xs) = refused_part p e 34 at
   of_two at (j ∷ k ∷ l ∷ js) parts xs = refused_part p e 34 at
 
@@ -175,9 +177,9 @@ module _ (p : Inside) (e : Env) where
         Holds (Spotted p e) (judge.called_by e c h at js xs)
     called (Calls f) right h may at js parts xs many = spotted p e h.first (judge.function_called e f h.first js xs) (function_part f h.first js parts xs)
     called (Invokes m k) right h may at js parts xs many =
-        spotted p e h.first (judge.invoked e h.first (Plain m k) m k js xs) (invoked_part p e h.first (Plain m k) m k right js parts xs many)
+        spotted p e h.first (judge.invoked e h.first (Plain m k) (heading.Declared m k) js xs) (invoked_part p e h.first (Plain m k) (heading.Declared m k) right js parts xs many)
     called (Converts t) right h may at js parts xs many =
-        spotted p e h.first (judge.one_of (λ of. op.converted t of) h.first js xs) (of_one (op.converted t) (converted_step p t right) (converted_tests t) h.first js parts xs)
+        spotted p e h.first (judge.one_of (judge.step_in (taking.Into t)) h.first js xs) (of_one (op.converted t) (converted_step p t right) (converted_tests t) h.first js parts xs)
     called Neither right h may at js parts xs many = not_called_part h may at xs
 
     pub called_part : (h : Head) → MayFind p e h.found → (at : Pos) (js : List (Judged Answer)) → Parts js → (xs : List Expr) → length js ≡ length xs → Holds (Spotted p e) (judge.called e h at js xs)

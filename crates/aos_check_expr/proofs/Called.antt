@@ -10,29 +10,34 @@ use Rattle.aos_types.specs.Extension.{comes_by, comes_to, on_base}
 use Rattle.aos_types.proofs.Steps.{comes_here}
 use Rattle.aos_typed.specs.declared.tree.TType.TheVariants as type
 use Rattle.aos_typed.specs.Numbers.{id_of}
-use Rattle.aos_typed.specs.Program.{Callee, Dispatched, Upper, Expr, SelfRef, Procedure}
+use Rattle.aos_typed.specs.Formals.{pattern_of}
+use Rattle.aos_typed.specs.Program.{Callee, Dispatched, Upper, Through, Expr, SelfRef, Procedure}
 use Rattle.aos_symbols.specs.declared.home.Signature.{Signature}
 use Rattle.aos_symbols.specs.declared.env.Method.{Method}
 use Rattle.aos_symbols.specs.declared.env.Env.{Env}
 use Rattle.aos_symbols.specs.Env as env
 use Rattle.aos_check_expr.proofs.Inside.{Inside, IsOf, IsCalled}
 use Rattle.aos_check_expr.specs.declared.designators.Head.{Head}
+use Rattle.aos_check_expr.specs.declared.signatures.Heading.{Heading}
+use Rattle.aos_check_expr.specs.declared.signatures.Heading.TheVariants as heading
 use Rattle.aos_check_expr.specs.Known.{object_number, type_as}
+use Rattle.aos_check_expr.specs.Signatures.{signature_of}
 use Rattle.aos_check_expr.specs.Expressions as judge
 use Rattle.aos_check_expr.specs.Expressions.{Bound}
 use Rattle.aos_check_expr.proofs.Types.{not_both, id_above}
 use Rattle.aos_check_expr.proofs.Whole.{IsSigned, IsWhole}
+use Rattle.aos_check_expr.proofs.Callable.{signature_row, procedural_named, pattern_signed}
 use Rattle.aos_check_expr.proofs.Selves.{object_made, object_named, object_there, self_typed}
 
-abbrev pub IsCalling : Inside → Env → Callee → (home number : ℕ) → Type 0
-IsCalling p e c m k = (s : Signature) → env.signature e m k ≡ Some s → (q : Procedure) × IsCalled p c q × IsSigned e s q
+abbrev pub IsCalling : Inside → Env → Callee → Heading → Type 0
+IsCalling p e c h = (s : Signature) → signature_of e h ≡ Some s → (q : Procedure) × IsCalled p c q × IsSigned e s q
 
--- of a method that waits for its bracket
+-- of what waits for its bracket
 abbrev pub IsBound : Inside → Env → Bound → Type 0
-IsBound p e b = IsWhole p e → IsCalling p e b.callee b.home b.number
+IsBound p e b = IsWhole p e → IsCalling p e b.callee b.heading
 
 -- what is found by steps
-and_then_some : {A B : Type 0} (f : A → Option B) (o : Option A) (b : B) → option_and_then f o ≡ Some b → (a : A) × (o ≡ Some a) × (f a ≡ Some b)
+pub and_then_some : {A B : Type 0} (f : A → Option B) (o : Option A) (b : B) → option_and_then f o ≡ Some b → (a : A) × (o ≡ Some a) × (f a ≡ Some b)
 and_then_some f None b is = absurd (none-some b is)
 and_then_some f (Some a) b is = (a, refl, is)
 
@@ -55,7 +60,7 @@ comes_base (suc n) rows t b some is = right (t.0 == b.0) _ (ap (on_base (λ c. c
 
 module _ (p : Inside) (e : Env) (whole : IsWhole p e) where
   pub dispatched_calling : (t : TypeId) (x : Expr) (m : Method) (n : Name) → IsOf p x (type_as t) → is_object (row_of e.types t) ≡ true → env.method e t n ≡ Some m →
-      IsCalling p e (Dispatched x (object_number t) m.slot) m.home m.number
+      IsCalling p e (Dispatched x (object_number t) m.slot) (heading.Declared m.home m.number)
   dispatched_calling t x m n typed object found s is =
       let q = whole.methods t n m found object s is in
       let named = object_named p e whole t object in (
@@ -83,7 +88,7 @@ module _ (p : Inside) (e : Env) (whole : IsWhole p e) where
       by o there kind is = absurd (not_both (sym kind))
 
   upper_calling : (t b : TypeId) (m : Method) (n : Name) → e.self_type ≡ Some t → base_of (row_of e.types t) ≡ Some b → env.method e b n ≡ Some m →
-      IsCalling p e (Upper (object_number b) m.slot) m.home m.number
+      IsCalling p e (Upper (object_number b) m.slot) (heading.Declared m.home m.number)
   upper_calling t b m n itself above found s is =
       let two = whole.itself t itself in
       let base = base_object t b two.1 above in
@@ -104,17 +109,25 @@ module _ (p : Inside) (e : Env) (whole : IsWhole p e) where
           ∙ ap (comes_to e.types t) (id b base.0)
           ∙ base.1
 
+  -- what a value of a procedure type stands for
+  pub through_calling : (t : TypeId) (x : Expr) → IsOf p x (type_as t) → IsCalling p e (Through x (object_number t)) (heading.OfType t)
+  through_calling t x typed s is =
+      let h = signature_row (row_of e.types t) s is in
+      let q = pattern_signed p e whole t h.0 h.1 h.2 in
+      let named = procedural_named p e whole t h.0 h.1 h.2 in
+      (q.0, (subst (IsOf p x) named typed, ap (pattern_of p.program) (sym named) ∙ q.1), subst (λ (s : Signature). IsSigned e s q.0) h.3 q.2)
+
   -- a method by its plain name
-  pub own_calling : (h : Head) (b : Bound) → judge.own_method e h ≡ Some b → IsCalling p e b.callee b.home b.number
+  pub own_calling : (h : Head) (b : Bound) → judge.own_method e h ≡ Some b → IsCalling p e b.callee b.heading
   own_calling h b found =
       let one = if_some (judge.is_method h.found) (option_and_then (λ t. judge.method_on e t h) e.self_type) b found in
       let two = and_then_some (λ t. judge.method_on e t h) e.self_type b one.1 in
       let m = map_some (judge.dispatched h.first SelfRef two.0) (env.method e two.0 h.name) b two.2 in
-      subst (λ (c : Bound). IsCalling p e c.callee c.home c.number) m.2
+      subst (λ (c : Bound). IsCalling p e c.callee c.heading) m.2
       (dispatched_calling two.0 SelfRef m.0 h.name (self_typed p e whole two.0 two.1) (whole.itself two.0 two.1).1 m.1)
 
   -- and the one that it overrides
-  pub raised_calling : (h : Head) (b : Bound) → judge.upper_here e h ≡ Some b → IsCalling p e b.callee b.home b.number
+  pub raised_calling : (h : Head) (b : Bound) → judge.upper_here e h ≡ Some b → IsCalling p e b.callee b.heading
   raised_calling h b found =
       let one = and_then_some (λ t. judge.upper_of e h t) e.self_type b found in
       let t = one.0 in
@@ -122,4 +135,4 @@ module _ (p : Inside) (e : Env) (whole : IsWhole p e) where
       let two = if_some (judge.declares t (env.method e t h.name)) (option_and_then above (base_of (row_of e.types t))) b one.2 in
       let up = and_then_some above (base_of (row_of e.types t)) b two.1 in
       let m = map_some (judge.upper_method h.first up.0) (env.method e up.0 h.name) b up.2 in
-      subst (λ (c : Bound). IsCalling p e c.callee c.home c.number) m.2 (upper_calling t up.0 m.0 h.name one.1 up.1 m.1)
+      subst (λ (c : Bound). IsCalling p e c.callee c.heading) m.2 (upper_calling t up.0 m.0 h.name one.1 up.1 m.1)

@@ -54,7 +54,7 @@ module _ (p : Inside) (e : Env) (whole : IsWhole p e) where
           (low, isnt (is_long_text from) two.0, two.1)
 
   -- a type that is no open array is the same as itself alone
-  same_closed : (n : ℕ) (a b : TypeId) → element_of (row_of e.types b) ≡ None → same_by n e.types a b ≡ true → a ≡ b
+  pub same_closed : (n : ℕ) (a b : TypeId) → element_of (row_of e.types b) ≡ None → same_by n e.types a b ≡ true → a ≡ b
   same_closed n a b shut is = by n is
     where
       one : are_one e.types a b ≡ true → a ≡ b
@@ -77,10 +77,10 @@ module _ (p : Inside) (e : Env) (whole : IsWhole p e) where
           at (inr f) = absurd (none (same_by n e.types) (element_of (row_of e.types a)) (sym (ap (on_both (same_by n e.types) (element_of (row_of e.types a))) shut) ∙ f))
 
   -- the type of NIL alone has its row
-  nil_row : (t : TypeId) → row_of e.types t ≡ Some (row.Basic basic.Nil) → t ≡ nil
+  pub nil_row : (t : TypeId) → row_of e.types t ≡ Some (row.Basic basic.Nil) → t ≡ nil
   nil_row t there = predeclared_unique p e whole t nil (rw (there, whole.basic 7 (omega arith)) refl)
 
-  is_nil_row : (o : Option TypeRow) (r : TypeRow) → o ≡ Some r → is_nil r ≡ true → o ≡ Some (row.Basic basic.Nil)
+  pub is_nil_row : (o : Option TypeRow) (r : TypeRow) → o ≡ Some r → is_nil r ≡ true → o ≡ Some (row.Basic basic.Nil)
   is_nil_row o (row.Basic basic.Nil) is none = is
   is_nil_row o r is none = absurd (not_both (sym none))
 
@@ -122,29 +122,30 @@ module _ (p : Inside) (e : Env) (whole : IsWhole p e) where
 
   -- A value that fits a variable of objects is one.
 
-  -- what bases lead to ANY is it
-  comes_any : (n : ℕ) (a : TypeId) → comes_by n e.types a any ≡ true → a ≡ any
-  comes_any zero a is = same_type a any is
-  comes_any (suc n) a is = by (either_is (a.0 == any.0) (on_base (λ c. comes_by n e.types c any) (base_of (row_of e.types a))) is) (comes_any n)
+  -- what bases lead to a type that is neither a record nor an object type is it
+  pub comes_alone : (b : TypeId) → is_record (row_of e.types b) ≡ false → is_object (row_of e.types b) ≡ false → (n : ℕ) (a : TypeId) → comes_by n e.types a b ≡ true → a ≡ b
+  comes_alone b record_no object_no zero a is = same_type a b is
+  comes_alone b record_no object_no (suc n) a is =
+      by (either_is (a.0 == b.0) (on_base (λ c. comes_by n e.types c b) (base_of (row_of e.types a))) is) (comes_alone b record_no object_no n)
     where
-      no_any : (o : Option TypeRow) → o ≡ Some row.Any → (is_record o ≡ true) ⊎ (is_object o ≡ true) → ⊥
-      no_any o is (inl r) = not_both (sym r ∙ ap is_record is)
-      no_any o is (inr r) = not_both (sym r ∙ ap is_object is)
+      no_base : (c : TypeId) → c ≡ b → (is_record (row_of e.types c) ≡ true) ⊎ (is_object (row_of e.types c) ≡ true) → ⊥
+      no_base c same (inl r) = not_both (sym r ∙ ap (λ v. is_record (row_of e.types v)) same ∙ record_no)
+      no_base c same (inr r) = not_both (sym r ∙ ap (λ v. is_object (row_of e.types v)) same ∙ object_no)
 
-      any_row : (c : TypeId) → c ≡ any → row_of e.types c ≡ Some row.Any
-      any_row c is = ap (row_of e.types) is ∙ whole.basic 8 (omega arith)
-
-      up : (o : Option TypeRow) → row_of e.types a ≡ o → on_base (λ c. comes_by n e.types c any) (base_of o) ≡ true →
-          ((a : TypeId) → comes_by n e.types a any ≡ true → a ≡ any) → a ≡ any
-      up (Some (row.Record (Some c) fs)) there is more = absurd (no_any (row_of e.types c) (any_row c (more c is)) (inl (whole.parts a.0 (row.Record (Some c) fs) there).0))
-      up (Some (row.Object (Some c) fs)) there is more = absurd (no_any (row_of e.types c) (any_row c (more c is)) (inr (whole.parts a.0 (row.Object (Some c) fs) there).0))
+      up : (o : Option TypeRow) → row_of e.types a ≡ o → on_base (λ c. comes_by n e.types c b) (base_of o) ≡ true →
+          ((a : TypeId) → comes_by n e.types a b ≡ true → a ≡ b) → a ≡ b
+      up (Some (row.Record (Some c) fs)) there is more = absurd (no_base c (more c is) (inl (whole.parts a.0 (row.Record (Some c) fs) there).0))
+      up (Some (row.Object (Some c) fs)) there is more = absurd (no_base c (more c is) (inr (whole.parts a.0 (row.Object (Some c) fs) there).0))
       up (Some (row.Record None fs)) there is more = absurd (not_both (sym is))
       up (Some (row.Object None fs)) there is more = absurd (not_both (sym is))
       up o there is more = absurd (not_both (sym is))
 
-      by : ((a.0 == any.0) ≡ true) ⊎ (on_base (λ c. comes_by n e.types c any) (base_of (row_of e.types a)) ≡ true) → ((a : TypeId) → comes_by n e.types a any ≡ true → a ≡ any) → a ≡ any
-      by (inl f) more = same_type a any f
+      by : ((a.0 == b.0) ≡ true) ⊎ (on_base (λ c. comes_by n e.types c b) (base_of (row_of e.types a)) ≡ true) → ((a : TypeId) → comes_by n e.types a b ≡ true → a ≡ b) → a ≡ b
+      by (inl f) more = same_type a b f
       by (inr f) more = up (row_of e.types a) refl f more
+
+  comes_any : (n : ℕ) (a : TypeId) → comes_by n e.types a any ≡ true → a ≡ any
+  comes_any n a is = let there = whole.basic 8 (omega arith) in comes_alone any (ap is_record there) (ap is_object there) n a is
 
   abbrev pub IsTaken : (from to : TypeId) → Type 0
   IsTaken from to = IsReference p e whole from × TakesObject p (type_as to) from

@@ -23,7 +23,7 @@ use Rattle.aos_typed.specs.Value.{Integer, Boolean, Character, Elements}
 use Rattle.aos_typed.specs.WellTyped.{IsLiteral}
 use Rattle.aos_symbols.specs.Env.{shortint, integer, longint, hugeint, char, set, text}
 use Rattle.aos_check_expr.specs.declared.known.Class.{Class}
-use Rattle.aos_check_expr.specs.declared.known.Class.TheVariants.{Unknown, Constant, Variable, ReadOnly, Computed}
+use Rattle.aos_check_expr.specs.declared.known.Class.TheVariants.{Unknown, Constant, Variable, ReadOnly, Computed, Procedure}
 use Rattle.aos_check_expr.specs.declared.operations.Single.{Single}
 use Rattle.aos_check_expr.specs.declared.operations.Single.TheVariants as single
 use Rattle.aos_check_expr.specs.declared.operations.Joint.{Joint}
@@ -95,6 +95,7 @@ good_number (literal.Char c) h = record { low = omega (arith, ints); high = omeg
 good_number (literal.Set s) h = record { low = omega (arith, ints); high = omega (arith, ints, h) }
 good_number (literal.Text t) h = record { low = omega (arith, ints); high = omega (arith, ints, h) }
 good_number literal.Nil h = record { low = omega (arith, ints); high = omega (arith, ints) }
+good_number literal.NoProcedure h = absurd h
 
 -- a good literal is a value of a basic type, a string constant that is no character, or NIL
 pub literal_kind : (l : Literal) → IsGood l → ((is_basic (type_of_literal l) ≡ true) × IsLiteral l (type_as (type_of_literal l))) ⊎ ((type_of_literal l ≡ text) ⊎ (l ≡ literal.Nil))
@@ -115,6 +116,7 @@ literal_kind (literal.Text t) h = by (t.length == 1) refl
     by true e = inl (refl, (eqb-true t.length 1 e, h))
     by false e = inr (inl refl)
 literal_kind literal.Nil h = inr (inr refl)
+literal_kind literal.NoProcedure h = absurd h
 
 -- Sets.
 
@@ -128,6 +130,7 @@ set_type (literal.Char c) h = absurd h
 set_type (literal.Set s) h = refl
 set_type (literal.Text t) h = absurd h
 set_type literal.Nil h = absurd h
+set_type literal.NoProcedure h = absurd h
 
 pub set_good : (l : Literal) → IsSet l → IsGood l
 set_good (literal.Int z) h = absurd h
@@ -136,6 +139,7 @@ set_good (literal.Char c) h = absurd h
 set_good (literal.Set s) h = h
 set_good (literal.Text t) h = absurd h
 set_good literal.Nil h = absurd h
+set_good literal.NoProcedure h = absurd h
 
 -- What operators give.
 
@@ -236,6 +240,8 @@ joint_good joint.And a b g h = tt
 joint_good joint.Or a b g h = tt
 joint_good joint.Same a b g h = tt
 joint_good joint.Differ a b g h = tt
+joint_good joint.SameProcedure a b g h = tt
+joint_good joint.OtherProcedure a b g h = tt
 
 -- MAX and MIN
 
@@ -278,6 +284,7 @@ IsKnownClass P Unknown = ⊥
 IsKnownClass P Variable = Unit {0}
 IsKnownClass P ReadOnly = Unit {0}
 IsKnownClass P Computed = Unit {0}
+IsKnownClass P (Procedure m n) = Unit {0}
 
 pub class_of_one_known : (P : Literal → Type 0) (s : Single) → ((a : Literal) → IsGood a → MayBe P (single_value s a)) →
     (c : Class) → IsKnownClass IsGood c → IsKnownClass P (class_of_one s c)
@@ -287,6 +294,7 @@ class_of_one_known P s each Unknown h = absurd h
 class_of_one_known P s each Variable h = tt
 class_of_one_known P s each ReadOnly h = tt
 class_of_one_known P s each Computed h = tt
+class_of_one_known P s each (Procedure m n) h = tt
 
 -- of a second operand, where the first has no value
 behind : (P : Literal → Type 0) (of_constant : Class) → IsKnownClass P of_constant → (d : Class) → IsKnownClass IsGood d → IsKnownClass P (class_behind of_constant d)
@@ -295,6 +303,7 @@ behind P c g (Constant v) h = g
 behind P c g Variable h = tt
 behind P c g ReadOnly h = tt
 behind P c g Computed h = tt
+behind P c g (Procedure m n) h = tt
 
 pub class_of_known : (P : Literal → Type 0) (j : Joint) → ((a b : Literal) → IsGood a → IsGood b → MayBe P (joint_value j a b)) →
     (c d : Class) → IsKnownClass IsGood c → IsKnownClass IsGood d → IsKnownClass P (class_of j c d)
@@ -304,8 +313,10 @@ class_of_known P j each (Constant (Some a)) Unknown g h = absurd h
 class_of_known P j each (Constant (Some a)) Variable g h = tt
 class_of_known P j each (Constant (Some a)) ReadOnly g h = tt
 class_of_known P j each (Constant (Some a)) Computed g h = tt
+class_of_known P j each (Constant (Some a)) (Procedure m n) g h = tt
 class_of_known P j each (Constant None) d g h = behind P (Constant None) tt d h
 class_of_known P j each Unknown d g h = absurd g
 class_of_known P j each Variable d g h = behind P Computed tt d h
 class_of_known P j each ReadOnly d g h = behind P Computed tt d h
 class_of_known P j each Computed d g h = behind P Computed tt d h
+class_of_known P j each (Procedure m n) d g h = behind P Computed tt d h

@@ -25,6 +25,12 @@ IsOf p = typed.IsOf p.program p.own
 abbrev pub IsCalled : Inside → Callee → Procedure → Type 0
 IsCalled p = typed.IsCalled p.program p.own
 
+abbrev pub IsNamed : Inside → Expr → Type 0
+IsNamed p = typed.IsNamed p.program p.own
+
+abbrev pub IsInitialized : Inside → (slot : Option ℕ) → (type : ℕ) → Arguments → Type 0
+IsInitialized p = typed.IsInitialized p.program p.own
+
 -- Statements.
 
 abbrev pub IsCall : Inside → Call → Type 0

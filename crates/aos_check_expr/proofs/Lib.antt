@@ -1,4 +1,5 @@
 pub mod Rows
+pub mod Formals
 pub mod Inside
 pub mod Opens
 pub mod Stored
@@ -9,9 +10,12 @@ pub mod Good
 pub mod Sound
 pub mod Parts
 pub mod Whole
+pub mod Naming
 pub mod Objects
 pub mod Pointed
 pub mod Compatible
+pub mod Agreeing
+pub mod Callable
 pub mod Selves
 pub mod Called
 pub mod Spots
@@ -23,4 +27,5 @@ pub mod Typing
 pub mod Order
 pub mod Dimensions
 pub mod Handed
+pub mod Initials
 pub mod First

@@ -6,7 +6,7 @@ use Rattle.aos_types.specs.declared.row.Basic.TheVariants as basic
 use Rattle.aos_types.specs.declared.row.TypeId.{TypeId}
 use Rattle.aos_types.specs.declared.row.TypeRow.{TypeRow}
 use Rattle.aos_types.specs.declared.row.TypeRow.TheVariants as row
-use Rattle.aos_types.specs.Table.{row_of, is_open, is_record, is_pointer, is_object, on_both}
+use Rattle.aos_types.specs.Table.{row_of, is_open, is_record, is_pointer, is_object, is_procedure, on_both}
 use Rattle.aos_types.specs.Extension.{comes_to}
 use Rattle.aos_types.specs.Sameness.{are_one, are_predeclared, element_of, same_by, same}
 use Rattle.aos_types.proofs.Steps.{comes_here}
@@ -15,7 +15,7 @@ use Rattle.aos_typed.specs.declared.tree.TType.TheVariants as type
 use Rattle.aos_typed.specs.Numbers.{id_of}
 use Rattle.aos_typed.specs.Open.{first_from, first_same}
 use Rattle.aos_typed.specs.Program.{Expr, Read}
-use Rattle.aos_typed.specs.WellTyped.{FitsObject, target, target_in, is_any as is_any_type, is_reference as is_reference_type, is_value as is_value_type, is_basic as is_basic_type, is_whole}
+use Rattle.aos_typed.specs.WellTyped.{FitsObject, target, target_in, is_any as is_any_type, is_reference as is_reference_type, is_value as is_value_type, is_procedural, is_basic as is_basic_type, is_whole}
 use Rattle.aos_symbols.specs.declared.env.Env.{Env}
 use Rattle.aos_symbols.specs.Env as env
 use Rattle.aos_symbols.specs.Env.{nil, any, text}
@@ -23,7 +23,7 @@ use Rattle.aos_check_expr.proofs.Inside.{Inside, IsOf}
 use Rattle.aos_check_expr.specs.Known.{Answer, is, is_basic, is_of_any, type_as}
 use Rattle.aos_check_expr.specs.Designators as desig
 use Rattle.aos_check_expr.proofs.Types.{not_both, same_type, basic_cases, integer_cases, as_named, id_above}
-use Rattle.aos_check_expr.proofs.Sound.{IsScalar, IsClosedPlace, IsOpenPlace, IsWholeRead, IsOther, IsObject, TakesObject, IsSound}
+use Rattle.aos_check_expr.proofs.Sound.{IsScalar, IsClosedPlace, IsOpenPlace, IsWholeRead, IsOther, IsObject, IsCallable, IsNamedAs, IsRoutine, TakesObject, IsSound}
 use Rattle.aos_check_expr.proofs.Whole.{IsWhole, IsWritten}
 
 pub either_is : (a b : Bool) → (a || b) ≡ true → (a ≡ true) ⊎ (b ≡ true)
@@ -111,6 +111,17 @@ IsPartsRow (row.Open u) = Unit {0}
 IsPartsRow (row.Record base fs) = Unit {0}
 IsPartsRow r = ⊥
 
+-- values of basic types, and objects, are values
+pub basic_value : (rows : List TypeRow) (t : TType) → is_basic_type t ≡ true → is_value_type rows t ≡ true
+basic_value rows t is = ap (λ b. b || (is_reference_type rows t || is_procedural rows t)) is
+
+pub value_typed : (rows : List TypeRow) (t : TType) → is_reference_type rows t ≡ true → is_value_type rows t ≡ true
+value_typed rows t is = by (is_basic_type t)
+  where
+    by : (b : Bool) → (b || (is_reference_type rows t || is_procedural rows t)) ≡ true
+    by true = refl
+    by false = ap (λ r. r || is_procedural rows t) is
+
 module _ (p : Inside) (e : Env) (whole : IsWhole p e) where
   -- a row that a module writes stands behind the predeclared ones
   pub row_high : (t : TypeId) (r : TypeRow) → row_of e.types t ≡ Some r → IsWritten r → 10 ≤ t.0
@@ -128,7 +139,7 @@ module _ (p : Inside) (e : Env) (whole : IsWhole p e) where
   high_target t high =
       ap (λ k. target_in p.program.types k (row_of p.program.types k)) (id_above t high) ∙ ap (λ rows. target_in rows t (row_of rows t)) whole.rows
 
-  high_any : (t : TypeId) → 10 ≤ t.0 → is_any_type (type_as t) ≡ false
+  pub high_any : (t : TypeId) → 10 ≤ t.0 → is_any_type (type_as t) ≡ false
   high_any t high = ap is_any_type (as_named t (omega (arith, high)))
 
   -- Types whose values are objects: that of NIL, ANY, and pointers and object types, whose objects are made as a type.
@@ -221,15 +232,43 @@ module _ (p : Inside) (e : Env) (whole : IsWhole p e) where
 
       by : IsClosedPlace p t w.1 ⊎ IsOpenPlace p t w.1 → (u : TType) → TakesObject p u t → IsOf p (Read (type_as t) w.1) u
       by (inl c) u (ref, inl is) = absurd (no_nil c.1 is)
-      by (inl c) u (ref, inr fits) = (c.0, value, inr fits)
+      by (inl c) u (ref, inr fits) = (c.0, value, inr (inl fits))
         where
           value : is_value_type p.program.types (type_as t) ≡ true
-          value = or_true (is_basic_type (type_as t)) _ (reference_typed t kind)
-            where
-              or_true : (a b : Bool) → b ≡ true → (a || b) ≡ true
-              or_true true b is = refl
-              or_true false b is = is
+          value = value_typed p.program.types (type_as t) (reference_typed t kind)
       by (inr o) u takes = absurd (reference_closed t kind (ap (λ rows. is_open (row_of rows t)) (sym whole.rows) ∙ o.2))
+
+  -- A procedure is no object, and has no parts.
+
+  pub routine_row : (t : TypeId) (x : Expr) → IsRoutine p t x → (r : TypeRow) → row_of e.types t ≡ Some r → is_procedure (Some r) ≡ true
+  routine_row t x o r there = by o.1
+    where
+      by : IsCallable p t x ⊎ IsNamedAs p t x → is_procedure (Some r) ≡ true
+      by (inl c) = ap is_procedure (sym there) ∙ ap (λ rows. is_procedure (row_of rows t)) (sym whole.rows) ∙ c.0
+      by (inr n) = absurd (none-some r (sym whole.unnamed ∙ ap (row_of e.types) (sym n.0) ∙ there))
+
+  pub routine_no_reference : (t : TypeId) (x : Expr) → IsRoutine p t x → IsReference t → ⊥
+  routine_no_reference t x o (inl is) = not_both (sym (routine_row t x o (row.Basic basic.Nil) (ap (row_of e.types) is ∙ whole.basic 7 (omega arith))))
+  routine_no_reference t x o (inr (inl is)) = not_both (sym (routine_row t x o row.Any (ap (row_of e.types) is ∙ whole.basic 8 (omega arith))))
+  routine_no_reference t x o (inr (inr made)) = at (row_of e.types t) refl
+    where
+      led : (r : Option TypeRow) → row_of e.types t ≡ r → target_in e.types t r ≡ Some (desig.made_as e t)
+      led r there = ap (target_in e.types t) (sym there) ∙ sym (high_target t made.0) ∙ made.1
+
+      by : (r : TypeRow) → is_procedure (Some r) ≡ true → target_in e.types t (Some r) ≡ Some (desig.made_as e t) → ⊥
+      by (row.Procedure fs s) is to = none-some (desig.made_as e t) to
+      by r is to = not_both (sym is)
+
+      at : (r : Option TypeRow) → row_of e.types t ≡ r → ⊥
+      at None there = none-some (desig.made_as e t) (led None there)
+      at (Some r) there = by r (routine_row t x o r there) (led (Some r) there)
+
+  pub routine_no_parts : (t : TypeId) (x : Expr) → IsRoutine p t x → (r : TypeRow) → row_of e.types t ≡ Some r → IsPartsRow r → ⊥
+  routine_no_parts t x o r there parts = by r parts (routine_row t x o r there)
+    where
+      by : (r : TypeRow) → IsPartsRow r → is_procedure (Some r) ≡ true → ⊥
+      by (row.Procedure fs s) parts is = parts
+      by r parts is = not_both (sym is)
 
   no_text : desig.is_reference e text ≡ false
   no_text = rw (whole.basic 9 (omega arith)) refl
@@ -242,7 +281,8 @@ module _ (p : Inside) (e : Env) (whole : IsWhole p e) where
       by (inl scalar) = absurd (not_both (sym is ∙ low_no_reference e s.of scalar.0))
       by (inr (inl w)) = read_object s.of a.typed w (reference_kind s.of is)
       by (inr (inr (inl t))) = absurd (not_both (sym is ∙ ap (desig.is_reference e) t ∙ no_text))
-      by (inr (inr (inr o))) = o
+      by (inr (inr (inr (inl o)))) = o
+      by (inr (inr (inr (inr r)))) = absurd (routine_no_reference s.of a.typed r (reference_kind s.of is))
 
   -- what is sound and of a type whose values are objects is one
   pub object_of : (a : Answer) (s : IsSound p a) → is_basic s.of ≡ false → IsReference s.of → IsObject p s.of a.typed
@@ -257,7 +297,8 @@ module _ (p : Inside) (e : Env) (whole : IsWhole p e) where
       by (inl scalar) = absurd (not_both (sym scalar.0 ∙ high))
       by (inr (inl w)) = read_object s.of a.typed w kind
       by (inr (inr (inl t))) = absurd (no_string kind t)
-      by (inr (inr (inr o))) = o
+      by (inr (inr (inr (inl o)))) = o
+      by (inr (inr (inr (inr r)))) = absurd (routine_no_reference s.of a.typed r kind)
 
   -- What has parts is no object.
 

@@ -24,7 +24,7 @@ use Rattle.aos_symbols.specs.Env.{set}
 use Rattle.aos_symbols.proofs.Holds.{Holds, none_left, none_right, test_is, broken}
 use Rattle.aos_check_expr.proofs.Inside.{Inside, IsOf}
 use Rattle.aos_check_expr.specs.declared.known.Class.{Class}
-use Rattle.aos_check_expr.specs.declared.known.Class.TheVariants.{Unknown, Constant, Variable, ReadOnly, Computed}
+use Rattle.aos_check_expr.specs.declared.known.Class.TheVariants.{Unknown, Constant, Variable, ReadOnly, Computed, Procedure}
 use Rattle.aos_check_expr.specs.declared.operations.Single.TheVariants as single
 use Rattle.aos_check_expr.specs.declared.operations.Joint.TheVariants as joint
 use Rattle.aos_check_expr.specs.declared.operations.Step.{Step}
@@ -32,30 +32,34 @@ use Rattle.aos_check_expr.specs.declared.operations.Operation.{Operation}
 use Rattle.aos_check_expr.specs.Known.{Answer, is_number, is_lost, lost, answered, constant_answer, type_of_literal, type_of}
 use Rattle.aos_check_expr.specs.Operations as op
 use Rattle.aos_check_expr.specs.Expressions as judge
-use Rattle.aos_check_expr.proofs.Stored.{IsStored, IsMade, made_of_one, made_of, made_kept}
+use Rattle.aos_check_expr.proofs.Stored.{IsStored, IsMade, not_stored, made_of_one, made_of, made_kept}
 use Rattle.aos_check_expr.proofs.Good.{IsGood, IsSet, MayBe, IsKnownClass, number_good, set_type, set_good, set_given, single_good, joint_good, class_of_one_known, class_of_known}
-use Rattle.aos_check_expr.proofs.Sound.{IsSound, IsPlain, literal_typed, plain_sound, sound_number, IsStep, IsOperation, TestsOne, TestsTwo, stepped_plain, joined_plain, signed_step, signed_tests, opposite_step, opposite_tests, added_operation, added_tests, multiplied_operation, multiplied_tests, related_operation, related_tests, shifted_operation, shifted_tests}
+use Rattle.aos_check_expr.proofs.Whole.{IsWhole}
+use Rattle.aos_check_expr.proofs.Naming.{IsNaming, naming_made}
+use Rattle.aos_check_expr.proofs.Sound.{IsSound, IsPlain, basic_some, literal_none, literal_typed, plain_sound, sound_number, IsStep, IsOperation, TestsOne, TestsTwo, stepped_plain, joined_plain, signed_step, signed_tests, opposite_step, opposite_tests, added_operation, added_tests, multiplied_operation, multiplied_tests, related_operation, related_tests, shifted_operation, shifted_tests}
 
--- of a part's class, that it is known, with a good value where it is constant; a variable is read; the part is sound where what W says is so
-pub record IsPart (p : Inside) (W : Type 0) (a : Answer) : Type 0 where
+-- of a part's class, that it is known, with a good value where it is constant; a variable is read; the part is sound in an environment of
+-- bodies, and where it is a procedure that is named, it is the one whose signature it names
+pub record IsPart (p : Inside) (e : Env) (a : Answer) : Type 0 where
   pub class : IsKnownClass IsGood a.known.class
   pub valued : not (is_lost a.known.class) ≡ true
   pub read : IsStored a.known.class → (place : Place) × (a.typed ≡ Read (type_of a.known.of) place)
-  pub sound : W → IsSound p a
+  pub sound : IsWhole p e → IsSound p a
+  pub named : IsWhole p e → IsNaming p e a.known.class a.typed
 
 -- the same of one whose value is of a basic type
-pub record IsValue (p : Inside) (W : Type 0) (a : Answer) : Type 0 where
+pub record IsValue (p : Inside) (e : Env) (a : Answer) : Type 0 where
   pub class : IsKnownClass IsGood a.known.class
   pub valued : not (is_lost a.known.class) ≡ true
   pub made : IsMade a.known.class
-  pub plain : W → IsPlain p a
+  pub plain : IsWhole p e → IsPlain p a
 
 -- of the elements of a set so far: they may be constants that have no value, since the whole needn't be constant
-pub record AreElements (p : Inside) (W : Type 0) (a : Answer) : Type 0 where
+pub record AreElements (p : Inside) (e : Env) (a : Answer) : Type 0 where
   pub class : IsKnownClass IsSet a.known.class
   pub made : IsMade a.known.class
   pub known : a.known.of ≡ Some set
-  pub typed : W → IsOf p a.typed type.Set
+  pub typed : IsWhole p e → IsOf p a.typed type.Set
 
 -- the class of an answer
 pub class_answered : (P : Class → Type 0) (c : Class) (of : Option TypeId) (x : Expr) → P c → P (answered c of x).known.class
@@ -65,6 +69,7 @@ class_answered P Unknown of x h = h
 class_answered P Variable of x h = h
 class_answered P ReadOnly of x h = h
 class_answered P Computed of x h = h
+class_answered P (Procedure m n) of x h = h
 
 kept_class_is : (P : Class → Type 0) (b : Bool) (c : Class) → b ≡ true → P c → P (op.kept_class b c)
 kept_class_is P true c e h = h
@@ -109,39 +114,48 @@ known_class_on P Q on Unknown h = absurd h
 known_class_on P Q on Variable h = tt
 known_class_on P Q on ReadOnly h = tt
 known_class_on P Q on Computed h = tt
+known_class_on P Q on (Procedure m n) h = tt
 
-module _ (p : Inside) (W : Type 0) where
+module _ (p : Inside) (e : Env) where
   abbrev Part : Answer → Type 0
-  Part = IsPart p W
+  Part = IsPart p e
 
   abbrev Valued : Answer → Type 0
-  Valued = IsValue p W
+  Valued = IsValue p e
 
   pub as_part : (j : Judged Answer) → Holds Valued j → Holds Part j
-  as_part j h e = let x = h e in record { class = x.class; valued = x.valued; read = λ s. absurd (x.made s); sound = λ w. plain_sound p j.answer (x.plain w) }
+  as_part j h none =
+      let x = h none in
+      record {
+        class = x.class;
+        valued = x.valued;
+        read = λ s. absurd (not_stored j.answer.known.class x.made s);
+        sound = λ w. plain_sound p j.answer (x.plain w);
+        named = λ w. naming_made p e j.answer.known.class j.answer.typed x.made;
+      }
 
   -- Operators.
 
   step_part : (f : Option TypeId → Step) → IsStep p f → TestsOne f → (first : Pos) (own : List Breach) (a : Answer) → (own ≡ [] → (f a.known.of).is_kept ≡ true) → Part a →
       Holds Valued (op.told first own (op.stepped (f a.known.of) a))
-  step_part f right tests first own a test x e =
+  step_part f right tests first own a test x free =
       let s = f a.known.of in
-      let k : s.is_kept ≡ true = test (none_left own (lost (op.stepped s a).known.class first) e) in
+      let k : s.is_kept ≡ true = test (none_left own (lost (op.stepped s a).known.class first) free) in
       record {
         class = stepped_class IsGood s a (single_good s.single) k x.class;
-        valued = test_is (not (is_lost (op.stepped s a).known.class)) 20 first (none_right own (lost (op.stepped s a).known.class first) e);
+        valued = test_is (not (is_lost (op.stepped s a).known.class)) 20 first (none_right own (lost (op.stepped s a).known.class first) free);
         made = stepped_made s a;
         plain = λ w. stepped_plain p f right tests a (x.sound w) x.class k;
       }
 
   operation_part : (f : Option TypeId → Option TypeId → Operation) → IsOperation p f → TestsTwo f → (first : Pos) (own : List Breach) (a b : Answer) →
       (own ≡ [] → (f a.known.of b.known.of).is_kept ≡ true) → Part a → Part b → Holds Valued (op.told first own (op.joined (f a.known.of b.known.of) a b))
-  operation_part f right tests first own a b test x y e =
+  operation_part f right tests first own a b test x y free =
       let o = f a.known.of b.known.of in
-      let k : o.is_kept ≡ true = test (none_left own (lost (op.joined o a b).known.class first) e) in
+      let k : o.is_kept ≡ true = test (none_left own (lost (op.joined o a b).known.class first) free) in
       record {
         class = joined_class IsGood o a b (joint_good o.joint) k x.class y.class;
-        valued = test_is (not (is_lost (op.joined o a b).known.class)) 20 first (none_right own (lost (op.joined o a b).known.class first) e);
+        valued = test_is (not (is_lost (op.joined o a b).known.class)) 20 first (none_right own (lost (op.joined o a b).known.class first) free);
         made = joined_made o a b;
         plain = λ w. joined_plain p f right tests a b (x.sound w) (y.sound w) x.class y.class k;
       }
@@ -157,32 +171,36 @@ module _ (p : Inside) (W : Type 0) where
       (operation_part (op.multiplied o) (multiplied_operation p o) (multiplied_tests o) first (breach_unless (op.multiplied o a.known.of b.known.of).is_kept 30 at) a b (test_is _ 30 at) x y)
 
   -- a relation, where that of two texts is a part
-  abbrev pub related_texts : Env → Pos → RelationOp → Answer → Answer → Judged Answer
-  related_texts e first o a b = op.told first [] (judge.texts_related e (judge.relation_in o) a b)
+  abbrev pub related_texts : Pos → RelationOp → Answer → Answer → Judged Answer
+  related_texts first o a b = op.told first [] (judge.texts_related e (judge.relation_in o) a b)
 
   -- and one of two objects
-  abbrev pub related_objects : Env → Pos → Pos → RelationOp → Answer → Answer → Judged Answer
-  related_objects e first at o a b = op.operands first at (op.identified (judge.relation_in o) (judge.are_comparable e a.known.of b.known.of)) a b
+  abbrev pub related_objects : Pos → Pos → RelationOp → Answer → Answer → Judged Answer
+  related_objects first at o a b = op.operands first at (op.identified (judge.relation_in o) (judge.are_comparable e a.known.of b.known.of)) a b
 
-  pub related_part : (e : Env) (first at : Pos) (o : RelationOp) (a b : Answer) → judge.is_test o ≡ false →
-      (judge.compares_texts e o a.known b.known ≡ true → Holds Part (related_texts e first o a b)) →
-      (judge.compares_objects e o a.known.of b.known.of ≡ true → Holds Part (related_objects e first at o a b)) →
+  pub related_part : (first at : Pos) (o : RelationOp) (a b : Answer) → judge.is_test o ≡ false →
+      (judge.compares_texts e o a.known b.known ≡ true → Holds Part (related_texts first o a b)) →
+      (judge.compares_procedures e o a.known.of b.known.of ≡ true → Holds Part (judge.procedures_related e first at o a b)) →
+      (judge.compares_objects e o a.known.of b.known.of ≡ true → Holds Part (related_objects first at o a b)) →
       Part a → Part b → Holds Part (judge.related_by e first at o a b)
-  related_part e first at o a b i texts objects x y = by (judge.compares_texts e o a.known b.known) refl (judge.compares_objects e o a.known.of b.known.of) refl
+  related_part first at o a b i texts procedures objects x y =
+      by (judge.compares_texts e o a.known b.known) refl (judge.compares_procedures e o a.known.of b.known.of) refl (judge.compares_objects e o a.known.of b.known.of) refl
     where
       operated : Judged Answer
       operated = op.operands first at (op.related o a.known.of b.known.of) a b
 
-      by : (v : Bool) → judge.compares_texts e o a.known b.known ≡ v → (w : Bool) → judge.compares_objects e o a.known.of b.known.of ≡ w →
-          Holds Part (if v then related_texts e first o a b else op.operands first at (if w then op.identified (judge.relation_in o) (judge.are_comparable e a.known.of b.known.of) else op.related o a.known.of b.known.of) a b)
-      by true k w l = texts k
-      by false k true l = objects l
-      by false k false l =
+      by : (v : Bool) → judge.compares_texts e o a.known b.known ≡ v → (u : Bool) → judge.compares_procedures e o a.known.of b.known.of ≡ u →
+          (w : Bool) → judge.compares_objects e o a.known.of b.known.of ≡ w →
+          Holds Part (if v then related_texts first o a b else if u then judge.procedures_related e first at o a b else op.operands first at (if w then op.identified (judge.relation_in o) (judge.are_comparable e a.known.of b.known.of) else op.related o a.known.of b.known.of) a b)
+      by true k u h w l = texts k
+      by false k true h w l = procedures h
+      by false k false h true l = objects l
+      by false k false h false l =
           as_part operated
           (operation_part (op.related o) (related_operation p o i) (related_tests o i) first (breach_unless (op.related o a.known.of b.known.of).is_kept 30 at) a b (test_is _ 30 at) x y)
 
   pub signed_part : (g : Option Sign) (at : Pos) (a : Answer) → Part a → Holds Part (judge.signed g at a)
-  signed_part None at a x = λ e. x
+  signed_part None at a x = λ none. x
   signed_part (Some g) at a x =
       as_part (judge.signed (Some g) at a) (step_part (op.signed g) (signed_step p g) (signed_tests g) at (breach_unless (op.signed g a.known.of).is_kept 30 at) a (test_is _ 30 at) x)
 
@@ -199,47 +217,48 @@ module _ (p : Inside) (W : Type 0) where
   arguments_part at first second a b = operation_part op.shifted (shifted_operation p) shifted_tests at (op.argument (is_number a.known.of) first ++ op.argument (is_number b.known.of) second) a b both
     where
       both : (op.argument (is_number a.known.of) first ++ op.argument (is_number b.known.of) second) ≡ [] → (op.shifted a.known.of b.known.of).is_kept ≡ true
-      both e =
-          let i = test_is (is_number a.known.of) 35 first (none_left (op.argument (is_number a.known.of) first) (op.argument (is_number b.known.of) second) e) in
-          let j = test_is (is_number b.known.of) 35 second (none_right (op.argument (is_number a.known.of) first) (op.argument (is_number b.known.of) second) e) in
+      both free =
+          let i = test_is (is_number a.known.of) 35 first (none_left (op.argument (is_number a.known.of) first) (op.argument (is_number b.known.of) second) free) in
+          let j = test_is (is_number b.known.of) 35 second (none_right (op.argument (is_number a.known.of) first) (op.argument (is_number b.known.of) second) free) in
           and_true (is_number a.known.of) (is_number b.known.of) i j
 
   -- Literals.
 
   pub constant_part : (v : Literal) → IsGood v → Valued (constant_answer v)
-  constant_part v g = record { class = g; valued = refl; made = λ s. s; plain = λ w. record { of = type_of_literal v; known = refl; typed = literal_typed p v g } }
+  constant_part v g = record { class = g; valued = refl; made = tt; plain = λ w. record { of = type_of_literal v; known = refl; none = literal_none p v g; typed = literal_typed p v g } }
 
   pub number_part : (o : Option ℤ) → MayBe (IsWithin W64) o → (at : Pos) → Holds Part (judge.number o at)
   number_part None h at = broken Part _ [] _
-  number_part (Some n) h at = as_part (judge.number (Some n) at) (λ e. constant_part (literal.Int n) (number_good n h))
+  number_part (Some n) h at = as_part (judge.number (Some n) at) (λ none. constant_part (literal.Int n) (number_good n h))
 
   pub character_part : (o : Option ℕ) → MayBe (λ c. c < 256) o → (at : Pos) → Holds Part (judge.character o at)
   character_part None h at = broken Part _ [] _
-  character_part (Some c) h at = as_part (judge.character (Some c) at) (λ e. constant_part (literal.Char c) h)
+  character_part (Some c) h at = as_part (judge.character (Some c) at) (λ none. constant_part (literal.Char c) h)
 
   pub string_part : (o : Option TextConstant) → MayBe (λ t. t.first < 256) o → (at : Pos) → Holds Part (judge.string o at)
   string_part None h at = broken Part _ [] _
-  string_part (Some t) h at = as_part (judge.string (Some t) at) (λ e. constant_part (literal.Text t) h)
+  string_part (Some t) h at = as_part (judge.string (Some t) at) (λ none. constant_part (literal.Text t) h)
 
   pub limit_part : (o : Option Literal) → MayBe IsGood o → (at : Pos) → Holds Valued (judge.limit_value o at)
   limit_part None h at = broken Valued _ [] _
-  limit_part (Some v) h at = λ e. constant_part v h
+  limit_part (Some v) h at = λ none. constant_part v h
 
   -- Sets.
 
   abbrev pub Elements : Answer → Type 0
-  Elements = AreElements p W
+  Elements = AreElements p e
 
-  set_answered : (c : Class) (x : Expr) → IsKnownClass IsSet c → IsMade c → (W → IsOf p x type.Set) → Elements (answered c (Some set) x)
+  set_answered : (c : Class) (x : Expr) → IsKnownClass IsSet c → IsMade c → (IsWhole p e → IsOf p x type.Set) → Elements (answered c (Some set) x)
   set_answered (Constant (Some v)) x g m h = record { class = g; made = m; known = ap (λ t. Some t) (set_type v g); typed = λ w. inl g }
   set_answered (Constant None) x g m h = record { class = g; made = m; known = refl; typed = h }
   set_answered Unknown x g m h = absurd g
-  set_answered Variable x g m h = record { class = g; made = m; known = refl; typed = h }
-  set_answered ReadOnly x g m h = record { class = g; made = m; known = refl; typed = h }
+  set_answered Variable x g m h = absurd m
+  set_answered ReadOnly x g m h = absurd m
+  set_answered (Procedure k n) x g m h = absurd m
   set_answered Computed x g m h = record { class = g; made = m; known = refl; typed = h }
 
   pub no_elements : Elements op.no_elements
-  no_elements = record { class = omega arith; made = λ s. s; known = refl; typed = λ w. inl (omega arith) }
+  no_elements = record { class = omega arith; made = tt; known = refl; typed = λ w. inl (omega arith) }
 
   -- one element, and those from one to another
   element_of : (x : Answer) → Part x → (op.one_element x.known.of).is_kept ≡ true → Elements (op.stepped (op.one_element x.known.of) x)
@@ -265,15 +284,16 @@ module _ (p : Inside) (W : Type 0) where
       set_answered (op.class_of j a.known.class x.known.class) (Binary two.Union a.typed x.typed) c (made_of j a.known.class x.known.class) (λ w. ((g.typed w, h.typed w), refl))
 
   pub with_element_part : (at : Pos) (a x : Answer) → Elements a → Part x → Holds Elements (judge.with_element at a x)
-  with_element_part at a x g h e = union_of a (op.stepped (op.one_element x.known.of) x) g (element_of x h (test_is (op.one_element x.known.of).is_kept 30 at e))
+  with_element_part at a x g h none = union_of a (op.stepped (op.one_element x.known.of) x) g (element_of x h (test_is (op.one_element x.known.of).is_kept 30 at none))
 
   pub with_span_part : (at : Pos) (a x y : Answer) → Elements a → Part x → Part y → Holds Elements (judge.with_span at a x y)
-  with_span_part at a x y g h k e = union_of a (op.joined (op.span x.known.of y.known.of) x y) g (span_of x y h k (test_is (op.span x.known.of y.known.of).is_kept 30 at e))
+  with_span_part at a x y g h k none = union_of a (op.joined (op.span x.known.of y.known.of) x y) g (span_of x y h k (test_is (op.span x.known.of y.known.of).is_kept 30 at none))
 
   pub whole_part : (at : Pos) (a : Answer) → Elements a → Holds Part (judge.whole_set at a)
-  whole_part at a h e = record {
+  whole_part at a h free = record {
     class = known_class_on IsSet IsGood set_good a.known.class h.class;
-    valued = test_is (not (is_lost a.known.class)) 20 at e;
-    read = λ s. absurd (h.made s);
-    sound = λ w. record { of = set; known = h.known; typed = inl (refl, h.typed w) };
+    valued = test_is (not (is_lost a.known.class)) 20 at free;
+    read = λ s. absurd (not_stored a.known.class h.made s);
+    sound = λ w. record { of = set; known = h.known; none = basic_some p set refl; typed = inl (refl, h.typed w) };
+    named = λ w. naming_made p e a.known.class a.typed h.made;
   }

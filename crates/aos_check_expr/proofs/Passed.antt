@@ -9,7 +9,7 @@ use Rattle.aos_types.specs.declared.row.TypeId.{TypeId}
 use Rattle.aos_types.specs.declared.row.TypeRow.{TypeRow}
 use Rattle.aos_types.specs.declared.row.TypeRow.TheVariants as row
 use Rattle.aos_types.specs.declared.TheConstants.{MOST_SCALARS}
-use Rattle.aos_types.specs.Table.{row_of, is_open, is_record, is_pointer}
+use Rattle.aos_types.specs.Table.{row_of, is_open, is_record, is_pointer, is_procedure}
 use Rattle.aos_types.specs.Extension.{comes_to, extends, extends_pointer}
 use Rattle.aos_types.specs.Fit.{fits as fits_of}
 use Rattle.aos_types.proofs.Steps.{comes_here}
@@ -20,7 +20,7 @@ use Rattle.aos_typed.specs.declared.tree.TType.TheVariants as type
 use Rattle.aos_typed.specs.Numbers.{id_of}
 use Rattle.aos_typed.specs.Open.{open_dimensions, open_element}
 use Rattle.aos_typed.specs.Program.{Place, Rows, Known as KnownRows, Longer, Arguments, Expr as TypedExpr, Read, Parameter, Passed, Deref, Typed, Guarded, Callee, Function as Invoked, Procedure}
-use Rattle.aos_typed.specs.WellTyped.{HaveLengths, IsArrayOf, IsByValue, IsOpening, is_whole, is_basic as is_basic_type, FitsObject, IsGiven, NamesType, is_reference as is_reference_type, is_value as is_value_type}
+use Rattle.aos_typed.specs.WellTyped.{HaveLengths, IsArrayOf, IsByValue, IsOpening, is_whole, FitsObject, IsGiven, NamesType, is_value as is_value_type}
 use Rattle.aos_symbols.specs.declared.home.Parameter.{Parameter as Formal}
 use Rattle.aos_symbols.specs.declared.home.Gives.{Gives}
 use Rattle.aos_symbols.specs.declared.home.Gives.TheVariants as gives
@@ -34,26 +34,29 @@ use Rattle.aos_symbols.proofs.Each.{Each}
 use Rattle.aos_symbols.proofs.Told.{basic as basic_told, of_any, defined}
 use Rattle.aos_symbols.proofs.Holds.{Holds, holds_bind, broken, test_is}
 use Rattle.aos_check_expr.specs.declared.known.Class.{Class}
-use Rattle.aos_check_expr.specs.declared.known.Class.TheVariants.{Unknown, Constant, Variable, ReadOnly, Computed}
-use Rattle.aos_check_expr.specs.Known.{Answer, is_basic, is_integer, is_long_text, is, passes, fits_type, object_number, type_as, type_of}
-use Rattle.aos_check_expr.specs.Designators.{has_parts, is_opened, is_record_type, is_reference, is_value, is_compatible, names_type, with_type, place_in}
+use Rattle.aos_check_expr.specs.declared.known.Class.TheVariants.{Unknown, Constant, Variable, ReadOnly, Computed, Procedure as ClassOf}
+use Rattle.aos_check_expr.specs.Known.{Answer, is_basic, is_integer, is_long_text, is, passes, fits_type, object_number, type_as, type_of, as_procedure}
+use Rattle.aos_check_expr.specs.declared.signatures.Heading.{Heading}
+use Rattle.aos_check_expr.specs.Signatures.{signature_of}
+use Rattle.aos_check_expr.specs.Designators.{has_parts, is_opened, is_record_type, is_reference, is_procedural, is_value, is_compatible, is_assignable, typed_for, names_type, with_type, place_in}
 use Rattle.aos_check_expr.specs.Arrays as arrays
 use Rattle.aos_check_expr.specs.Arguments as judge
 use Rattle.aos_check_expr.specs.Arguments.{Given, Scalar, Whole, Opening, Handing, given_as, listed}
 use Rattle.aos_check_expr.specs.Expressions as calls
-use Rattle.aos_check_expr.proofs.Inside.{Inside, IsPlaceOf, AreRows, AreArguments, IsCalled, IsOf}
-use Rattle.aos_check_expr.proofs.Types.{same_type, id_as, id_above, as_named, as_basic, fits_includes, wider, includes_itself, integer_basic}
+use Rattle.aos_check_expr.proofs.Inside.{Inside, IsPlaceOf, AreRows, AreArguments, IsCalled, IsOf, IsNamed}
+use Rattle.aos_check_expr.proofs.Types.{same_type, id_above, as_named, as_basic, fits_includes, wider, includes_itself, integer_basic}
 use Rattle.aos_check_expr.proofs.Opens.{closed_row, all_behind, closed_dimensions, closed_element, next_dimensions, next_element}
 use Rattle.aos_check_expr.proofs.Good.{IsGood, IsKnownClass}
 use Rattle.aos_check_expr.proofs.Stored.{IsStored}
 use Rattle.aos_check_expr.proofs.Sound.{not_both, IsScalar, IsClosedPlace, IsOpenPlace, IsWholeRead, IsOther, IsSound, scalar_of}
 use Rattle.aos_check_expr.proofs.Whole.{IsWritten}
-use Rattle.aos_check_expr.proofs.Objects.{either_is, IsPartsRow, row_high, high_row, reference_kind, reference_typed, of_any_type, object_of, parts_no_reference}
+use Rattle.aos_check_expr.proofs.Objects.{basic_value, value_typed, either_is, IsPartsRow, row_high, high_row, reference_kind, reference_typed, of_any_type, object_of, parts_no_reference, routine_no_parts}
 use Rattle.aos_check_expr.proofs.Called.{IsCalling}
 use Rattle.aos_check_expr.proofs.Pointed.{comes_record, comes_whole}
 use Rattle.aos_check_expr.proofs.Compatible.{by_table, object_fits, whole_fits}
+use Rattle.aos_check_expr.proofs.Callable.{no_element, parameter_id, procedure_row, procedural_row, procedural_typed, procedural_value, callable_own, assignable_compatible, procedural_fits}
 use Rattle.aos_check_expr.proofs.Spots.{IsWhole, IsParameterType, elements_told, elements_id, AreParameters, IsResultOf, IsSigned, told_element, opened_row, Part, Valued, refused_value_part}
-use Rattle.aos_check_expr.proofs.Worded.{string_rows_are, string_kept, lengths_read, has_in, array_row, no_text, no_object, characters_row, char_row}
+use Rattle.aos_check_expr.proofs.Worded.{string_rows_are, string_kept, lengths_read, has_in, array_row, no_text, no_object, no_routine, characters_row, char_row}
 
 some_not : (n : ℕ) → Some n ≡ None → ⊥
 some_not n e = none-some n (sym e)
@@ -71,11 +74,6 @@ no_breach : (o : Option ℕ) (at : Pos) → judge.breach_of o at ≡ [] → o �
 no_breach None at e = refl
 no_breach (Some rule) at e = absurd (cc)
 
-no_element : (r : Option TypeRow) → element_of r ≡ None → is_open r ≡ false
-no_element (Some (row.Open u)) none = absurd (none-some u (sym none))
-no_element None none = refl
-no_element r none = refl
-
 array_no_open : {n : ℕ} {u v : TypeId} → Some (row.Array n u) ≡ Some (row.Open v) → ⊥
 array_no_open e = cc
 
@@ -89,11 +87,6 @@ basic_fit u t low fit = by (is_integer u) refl fit
     by : (b : Bool) → is_integer u ≡ b → (if b && is_integer t then nat_le u.0 t.0 else is u t) ≡ true → is_basic u ≡ true
     by true i fit = integer_basic u i
     by false i fit = subst (λ v. is_basic v ≡ true) (sym (same_type u t fit)) low
-
--- the type of a parameter is a number of the table
-parameter_id : (p : Inside) (e : Env) → IsWhole p e → (t : TypeId) → IsParameterType e t → id_of (type_as t) ≡ t
-parameter_id p e whole t (inl told) = id_as e.types t told
-parameter_id p e whole t (inr opening) = let u = opened_row e t opening in id_above t (whole.opens.above t u.0 u.2)
 
 module _ (p : Inside) (e : Env) (whole : IsWhole p e) where
   -- of a parameter, by its type
@@ -246,7 +239,8 @@ module _ (p : Inside) (e : Env) (whole : IsWhole p e) where
             subst (λ y. AreRows p (arrays.array_rows e (open_dimensions e.types t) (Some u) (place_in y)) (open_dimensions e.types t) (type_as (open_element e.types t))) (sym w.2)
             (rows_passed u w.1 w.0 does w.3)
         typed u does (inr (inr (inl q))) = absurd (no_text p e whole u q (array_row p e whole u (agreeing t u does).0))
-        typed u does (inr (inr (inr o))) = absurd (no_object p e whole u v.typed (array_row p e whole u (agreeing t u does).0) o)
+        typed u does (inr (inr (inr (inl o)))) = absurd (no_object p e whole u v.typed (array_row p e whole u (agreeing t u does).0) o)
+        typed u does (inr (inr (inr (inr r)))) = absurd (no_routine p e whole u v.typed (array_row p e whole u (agreeing t u does).0) r)
 
         array : judge.array_rule e t v.known.of ≡ None →
             AreRows p (arrays.array_rows e (open_dimensions e.types t) v.known.of (place_in v.typed)) (open_dimensions e.types t) (type_as (open_element e.types t))
@@ -306,8 +300,10 @@ module _ (p : Inside) (e : Env) (whole : IsWhole p e) where
       held (inr o) = absurd (parts_closed u parts (open_here u w.0 o.2))
   placed_whole u x parts (inr (inr (inl q))) =
       let high = parts_high u parts in let n : u.0 ≡ 9 = ap (λ (v : TypeId). v.0) q in absurd (omega (arith, high, n))
-  placed_whole u x parts (inr (inr (inr o))) =
+  placed_whole u x parts (inr (inr (inr (inl o)))) =
       let r = parts_there (row_of e.types u) parts in absurd (not_both (sym o.1 ∙ (parts_no_reference p e whole u r.0 r.1 r.2).1))
+  placed_whole u x parts (inr (inr (inr (inr q)))) =
+      let r = parts_there (row_of e.types u) parts in absurd (routine_no_parts p e whole u x q r.0 r.1 r.2)
 
   -- bases lead to the parameter's type in the program, too
   comes_there : (a : Parameter) (t u : TypeId) → a.of ≡ type_as t → IsParameterType e t → 10 ≤ u.0 → comes_to e.types u t ≡ true →
@@ -368,6 +364,7 @@ module _ (p : Inside) (e : Env) (whole : IsWhole p e) where
       kept_class true (Constant l) g e = absurd (some_not 32 e)
       kept_class true ReadOnly g e = absurd (some_not 33 e)
       kept_class true Computed g e = absurd (some_not 32 e)
+      kept_class true (ClassOf m n) g e = absurd (some_not 32 e)
       kept_class false c g e = absurd (some_not 32 e)
 
       read : (place : Place) × (v.typed ≡ Read (type_of v.known.of) place)
@@ -402,7 +399,11 @@ module _ (p : Inside) (e : Env) (whole : IsWhole p e) where
           held (inl c) = c.0
           held (inr o) = absurd (not_both (sym (open_here sound.of w.0 o.2) ∙ subst (λ u. is_opened e u ≡ false) one isnt))
       own_place one (inr (inr (inl q))) = absurd (no_low a t of kind isnt (one ∙ q))
-      own_place one (inr (inr (inr o))) = read_of type.Any (of_any_type p e whole sound.of v.typed o)
+      own_place one (inr (inr (inr (inl o)))) = read_of type.Any (of_any_type p e whole sound.of v.typed o)
+      own_place one (inr (inr (inr (inr (low, inl c))))) =
+          let r = procedure_row (row_of e.types sound.of) (ap (λ rows. is_procedure (row_of rows sound.of)) (sym whole.rows) ∙ c.0) in
+          read_of (type_as sound.of) (callable_own p e whole v sound r.0 r.1 r.2)
+      own_place one (inr (inr (inr (inr (low, inr n))))) = absurd (subst (IsNamed p) read.1 n.1)
 
       by : (b : Bool) → is_record_type e sound.of ≡ b → GivenAs a (with_type e (Some sound.of) (place_in v.typed))
       by true of_record =
@@ -449,10 +450,14 @@ module _ (p : Inside) (e : Env) (whole : IsWhole p e) where
   or_right true b is = refl
   or_right false b is = is
 
-  -- a scalar
-  pub scalar_fits : (t : TypeId) → (t ≡ nil → ⊥) → is_value e t ≡ true → (v : Answer) → IsSound p v → is_compatible e v.known.of (Some t) ≡ true →
+  or_left : (a b : Bool) → b ≡ false → (a || b) ≡ true → a ≡ true
+  or_left true b none is = refl
+  or_left false b none is = absurd (not_both (sym is ∙ none))
+
+  -- a scalar that is no procedure
+  plain_fits : (t : TypeId) → (t ≡ nil → ⊥) → is_value e t ≡ true → is_procedural e t ≡ false → (v : Answer) → IsSound p v → is_compatible e v.known.of (Some t) ≡ true →
       (is_value_type p.program.types (type_as t) ≡ true) × IsOf p v.typed (type_as t)
-  scalar_fits t not_nil value v sound fits = by (is_basic t) refl value
+  plain_fits t not_nil value other v sound fits = by (is_basic t) refl value
     where
       fit : is_compatible e (Some sound.of) (Some t) ≡ true
       fit = sym (ap (λ o. is_compatible e o (Some t)) sound.known) ∙ fits
@@ -461,7 +466,7 @@ module _ (p : Inside) (e : Env) (whole : IsWhole p e) where
       low basic =
           let fitting : fits_type sound.of t ≡ true = sym (ap (λ b. if b then fits_type sound.of t else not (is_long_text sound.of) && fits_of e.types sound.of t) (or_right (is_basic sound.of) (is_basic t) basic)) ∙ fit in
           let own = basic_fit sound.of t basic fitting in (
-            ap (λ b. b || is_reference_type p.program.types (type_as t)) (as_basic t basic),
+            basic_value p.program.types (type_as t) (as_basic t basic),
             wider p v.typed (type_as sound.of) (type_as t) (scalar_of p sound.of v.typed sound.typed own) (fits_includes sound.of t own fitting),
           )
 
@@ -469,16 +474,39 @@ module _ (p : Inside) (e : Env) (whole : IsWhole p e) where
       object high ref =
           let taken = object_fits p e whole sound.of t ref high not_nil fit in
           let own = object_of p e whole v sound (by_table p e whole sound.of t high fit).0 taken.0 in
-          (or_right (is_basic_type (type_as t)) _ (reference_typed p e whole t (reference_kind p e whole t ref)), own.2 (type_as t) taken.1)
+          (value_typed p.program.types (type_as t) (reference_typed p e whole t (reference_kind p e whole t ref)), own.2 (type_as t) taken.1)
 
-      by : (b : Bool) → is_basic t ≡ b → (b || is_reference e t) ≡ true → (is_value_type p.program.types (type_as t) ≡ true) × IsOf p v.typed (type_as t)
+      by : (b : Bool) → is_basic t ≡ b → (b || (is_reference e t || is_procedural e t)) ≡ true → (is_value_type p.program.types (type_as t) ≡ true) × IsOf p v.typed (type_as t)
       by true basic is = low basic
-      by false high is = object high is
+      by false high is = object high (or_left (is_reference e t) (is_procedural e t) other is)
+
+  -- a scalar, as what it is for its variable
+  pub scalar_fits : (t : TypeId) → (t ≡ nil → ⊥) → is_value e t ≡ true → (v : Answer) → Part p e v → is_assignable e v.known (Some t) ≡ true →
+      (is_value_type p.program.types (type_as t) ≡ true) × IsOf p (typed_for e (Some t) v) (type_as t)
+  scalar_fits t not_nil value v x fits = by (is_procedural e t) refl
+    where
+      by : (b : Bool) → is_procedural e t ≡ b → (is_value_type p.program.types (type_as t) ≡ true) × IsOf p (if b then as_procedure v else v.typed) (type_as t)
+      by true procedural = procedural_fits p e whole t procedural v x fits
+      by false other = plain_fits t not_nil value other v (x.sound whole) (assignable_compatible p e whole t other v.known fits)
+
+  -- a type that has parts is no procedure type
+  parts_no_procedure : (t : TypeId) → has_parts e t ≡ true → is_procedural e t ≡ false
+  parts_no_procedure t parts = by (row_of e.types t) refl (and_parts (not (is_basic t)) _ parts).1
+    where
+      and_none : (b : Bool) → (b && false) ≡ false
+      and_none true = refl
+      and_none false = refl
+
+      by : (o : Option TypeRow) → row_of e.types t ≡ o → is_whole o ≡ true → is_procedural e t ≡ false
+      by (Some (row.Array n u)) there is = ap (λ o. not (is_basic t) && is_procedure o) there ∙ and_none (not (is_basic t))
+      by (Some (row.Record base fs)) there is = ap (λ o. not (is_basic t) && is_procedure o) there ∙ and_none (not (is_basic t))
+      by o there is = absurd (not_both (sym is))
 
   -- a record or an array, which begins with one of the type
-  pub whole_place : (t : TypeId) → has_parts e t ≡ true → (v : Answer) (s : IsSound p v) → is_compatible e v.known.of (Some t) ≡ true →
+  pub whole_place : (t : TypeId) → has_parts e t ≡ true → (v : Answer) (s : IsSound p v) → is_assignable e v.known (Some t) ≡ true →
       (10 ≤ s.of.0) × IsPlaceOf p (place_in v.typed) (type_as s.of) × (comes_to e.types s.of t ≡ true)
-  whole_place t parts v sound fits =
+  whole_place t parts v sound assigned =
+      let fits = assignable_compatible p e whole t (parts_no_procedure t parts) v.known assigned in
       let fit : is_compatible e (Some sound.of) (Some t) ≡ true = sym (ap (λ o. is_compatible e o (Some t)) sound.known) ∙ fits in
       let there = (and_parts (not (is_basic t)) _ parts).1 in
       let comes = whole_fits p e whole sound.of t parts fit in
@@ -493,15 +521,15 @@ module _ (p : Inside) (e : Env) (whole : IsWhole p e) where
       sound : IsSound p v
       sound = x.sound whole
 
-      rules : (is_compatible e v.known.of (Some t) ≡ true) × ((is_value e t || has_parts e t) ≡ true)
+      rules : (is_assignable e v.known (Some t) ≡ true) × ((is_value e t || has_parts e t) ≡ true)
       rules = without (arrays.text_for e (judge.variable_of t) v.known.class) refl none
         where
           without : (o : Option TextConstant) → arrays.text_for e (judge.variable_of t) v.known.class ≡ o → judge.value_rule e t v.known ≡ None →
-              (is_compatible e v.known.of (Some t) ≡ true) × ((is_value e t || has_parts e t) ≡ true)
+              (is_assignable e v.known (Some t) ≡ true) × ((is_value e t || has_parts e t) ≡ true)
           without (Some s) at = rw at (λ none. absurd (some_not _ none))
           without None at = rw at (λ none.
-              let two = or_none (judge.broken_unless 35 (is_compatible e v.known.of (Some t))) (judge.broken_unless 99 (is_value e t || has_parts e t)) none in
-              (unless_none 35 (is_compatible e v.known.of (Some t)) two.0, unless_none 99 (is_value e t || has_parts e t) two.1))
+              let two = or_none (judge.broken_unless 35 (is_assignable e v.known (Some t))) (judge.broken_unless 99 (is_value e t || has_parts e t)) none in
+              (unless_none 35 (is_assignable e v.known (Some t)) two.0, unless_none 99 (is_value e t || has_parts e t) two.1))
 
       as_value : IsByValue p.program a a.of
       as_value = (shut a t of kind isnt, value, refl)
@@ -518,14 +546,10 @@ module _ (p : Inside) (e : Env) (whole : IsWhole p e) where
           at (inl (defined r from there closed)) = let m = n in omega (arith, from, m)
           at (inr opening) = not_both (sym opening ∙ isnt)
 
-      scalar : has_parts e t ≡ false → IsGivenFor a (Scalar v.typed)
+      scalar : has_parts e t ≡ false → IsGivenFor a (Scalar (typed_for e (Some t) v))
       scalar other more rest is =
-          let fine = scalar_fits t not_nil (left (is_value e t) (has_parts e t) other rules.1) v sound rules.0 in
-          (a, rest, refl, as_value, subst (λ T. is_value_type p.program.types T ≡ true) (sym of) fine.0, subst (IsOf p v.typed) (sym of) fine.1, is)
-        where
-          left : (a b : Bool) → b ≡ false → (a || b) ≡ true → a ≡ true
-          left true b none is = refl
-          left false b none is = absurd (not_both (sym is ∙ none))
+          let fine = scalar_fits t not_nil (or_left (is_value e t) (has_parts e t) other rules.1) v x rules.0 in
+          (a, rest, refl, as_value, subst (λ T. is_value_type p.program.types T ≡ true) (sym of) fine.0, subst (IsOf p (typed_for e (Some t) v)) (sym of) fine.1, is)
 
       copied : has_parts e t ≡ true → IsGivenFor a (Whole (place_in v.typed))
       copied parts more rest is =
@@ -538,7 +562,7 @@ module _ (p : Inside) (e : Env) (whole : IsWhole p e) where
             is,
           )
 
-      by : (b : Bool) → has_parts e t ≡ b → IsGivenFor a (if b then Whole (place_in v.typed) else Scalar v.typed)
+      by : (b : Bool) → has_parts e t ≡ b → IsGivenFor a (if b then Whole (place_in v.typed) else Scalar (typed_for e (Some t) v))
       by true parts = copied parts
       by false other = scalar other
 
@@ -636,34 +660,39 @@ module _ (p : Inside) (e : Env) where
   -- A function's value.
 
   function_part : (first : Pos) (c : Callee) (s : Signature) (of : Option TypeId) → (IsWhole p e → (q : Procedure) × IsCalled p c q × IsSigned e s q) → s.gives ≡ gives.Value of →
-      (js : List (Judged Answer)) → Each (Holds (Part p e)) js → (xs : List Expr) → length js ≡ length xs → Holds (Valued p e) (calls.function_value e first c s of js xs)
+      (js : List (Judged Answer)) → Each (Holds (Part p e)) js → (xs : List Expr) → length js ≡ length xs → Holds (Valued p e) (calls.function_value e first c s.parameters of js xs)
   function_part first c s of called value js parts xs same =
       holds_bind (λ (g : Handing). (g.are_kept ≡ true) × (IsWhole p e → (as' : List Parameter) → AreParameters e s.parameters as' → AreArguments p (listed g.given) as')) (Valued p e)
       (calls.arguments_for e first s.parameters js xs) (calls.function_told e first c of) (arguments_part first s.parameters js parts xs same) told
     where
       given : IsWhole p e → (gs : List Given) (q : Procedure) → IsCalled p c q → (t : TypeId) → q.result ≡ Some (type_as t) → (t ≡ nil → ⊥) →
-          AreArguments p (listed gs) q.parameters → (b : Bool) → is_basic t ≡ b → (b || is_reference e t) ≡ true → IsScalar p t (Invoked c (listed gs)) ⊎ IsOther p t (Invoked c (listed gs))
+          AreArguments p (listed gs) q.parameters → (b : Bool) → is_basic t ≡ b → (b || (is_reference e t || is_procedural e t)) ≡ true → IsScalar p t (Invoked c (listed gs)) ⊎ IsOther p t (Invoked c (listed gs))
       given whole gs q there t result not_nil are true low is =
-          inl (low, (q, type_as t, there, result, ap (λ b. b || is_reference_type p.program.types (type_as t)) (as_basic t low), inl (includes_itself (type_as t) (as_basic t low)), are))
-      given whole gs q there t result not_nil are false high ref =
-          let kind = reference_kind p e whole t ref in
-          let typed = reference_typed p e whole t kind in
-          inr (inr (high, typed, λ u takes. (q, type_as t, there, result, or_right (is_basic_type (type_as t)) _ typed, inr (fits takes.1), are)))
+          inl (low, (q, type_as t, there, result, basic_value p.program.types (type_as t) (as_basic t low), inl (includes_itself (type_as t) (as_basic t low)), are))
+      given whole gs q there t result not_nil are false high more = by (either_is (is_reference e t) (is_procedural e t) more)
         where
           fits : {u : TType} → (t ≡ nil) ⊎ FitsObject p.program.types u (type_as t) → FitsObject p.program.types u (type_as t)
           fits (inl none) = absurd (not_nil none)
           fits (inr f) = f
 
-          or_right : (a b : Bool) → b ≡ true → (a || b) ≡ true
-          or_right true b is = refl
-          or_right false b is = is
+          by : (is_reference e t ≡ true) ⊎ (is_procedural e t ≡ true) → IsScalar p t (Invoked c (listed gs)) ⊎ IsOther p t (Invoked c (listed gs))
+          by (inl ref) =
+              let typed = reference_typed p e whole t (reference_kind p e whole t ref) in
+              inr (inr (inl (high, typed, λ u takes. (q, type_as t, there, result, value_typed p.program.types (type_as t) typed, inr (inl (fits takes.1)), are))))
+          by (inr procedural) =
+              let r = procedural_row p e whole t procedural in
+              let value = procedural_value p.program.types (type_as t) (procedural_typed p e whole t r.0 r.1 r.2) in
+              inr (inr (inr (
+                high,
+                inl (ap (λ rows. is_procedure (row_of rows t)) whole.rows ∙ ap is_procedure r.2, λ u same. (q, type_as t, there, result, value, inr (inr same), are)),
+              )))
 
       told : (g : Handing) → (g.are_kept ≡ true) × (IsWhole p e → (as' : List Parameter) → AreParameters e s.parameters as' → AreArguments p (listed g.given) as') →
           Holds (Valued p e) (calls.function_told e first c of g)
       told g arguments none = rw arguments.0 (record {
         class = tt;
         valued = refl;
-        made = λ w. w;
+        made = tt;
         plain = λ whole.
             let signed = called whole in
             let result = subst (λ r. IsResultOf r signed.0.result) value signed.2.result in
@@ -671,19 +700,20 @@ module _ (p : Inside) (e : Env) where
             record {
               of = result.0;
               known = result.1;
+              none = λ is. absurd (result.3 is);
               typed = given whole g.given signed.0 signed.1 result.0 result.2 result.3 (arguments.1 whole signed.0.parameters signed.2.parameters) (is_basic result.0) refl held;
             };
       })
 
   -- of what is called as its signature tells
-  pub invoked_part : (first : Pos) (c : Callee) (m k : ℕ) → (IsWhole p e → IsCalling p e c m k) → (js : List (Judged Answer)) → Each (Holds (Part p e)) js → (xs : List Expr) → length js ≡ length xs →
-      Holds (Valued p e) (calls.invoked e first c m k js xs)
-  invoked_part first c m k called js parts xs same = by (env.signature e m k) refl
+  pub invoked_part : (first : Pos) (c : Callee) (h : Heading) → (IsWhole p e → IsCalling p e c h) → (js : List (Judged Answer)) → Each (Holds (Part p e)) js → (xs : List Expr) → length js ≡ length xs →
+      Holds (Valued p e) (calls.invoked e first c h js xs)
+  invoked_part first c h called js parts xs same = by (signature_of e h) refl
     where
-      by_result : (s : Signature) → env.signature e m k ≡ Some s → (g : Gives) → s.gives ≡ g → Holds (Valued p e) (calls.value_of_procedure e first c s js xs)
+      by_result : (s : Signature) → signature_of e h ≡ Some s → (g : Gives) → s.gives ≡ g → Holds (Valued p e) (calls.value_of_procedure e first c s js xs)
       by_result s is gives.Nothing at = rw at (refused_value_part p e 36 first)
       by_result s is (gives.Value of) at = rw at (function_part first c s of (λ whole. called whole s is) at js parts xs same)
 
-      by : (o : Option Signature) → env.signature e m k ≡ o → Holds (Valued p e) (calls.invoked e first c m k js xs)
+      by : (o : Option Signature) → signature_of e h ≡ o → Holds (Valued p e) (calls.invoked e first c h js xs)
       by None is = rw is (refused_value_part p e 20 first)
       by (Some s) is = rw is (by_result s is s.gives refl)

@@ -1,5 +1,5 @@
 -- SELF, and the fields of objects, in an environment of bodies.
-use Rattle.std.proofs.Common.{◌≡◌, ℕ, ◌≤◌, List, Bool, true, false, ◌||◌, ◌⊎◌, inl, inr, Option, Some, None, refl, sym, ap, ap₂, ◌∙◌, subst, le-ltb, arith}
+use Rattle.std.proofs.Common.{◌≡◌, ℕ, ◌≤◌, List, Bool, true, false, ◌||◌, ◌⊎◌, inl, inr, Option, Some, refl, sym, ap, ap₂, ◌∙◌, subst, le-ltb, arith}
 use Rattle.std.proofs.lemmas.Bool.{and_parts}
 use Rattle.aos_types.specs.declared.row.TypeId.{TypeId}
 use Rattle.aos_types.specs.declared.row.TypeRow.{TypeRow}
@@ -56,7 +56,7 @@ module _ (p : Inside) (e : Env) (whole : IsWhole p e) where
           object_number t,
           two.0,
           subst (λ T. is_object (row_of p.program.types (id_of T)) ≡ true) named (object_there t two.1),
-          inr (subst (λ T. FitsObject p.program.types u T) named (fits high takes.1)),
+          inr (inl (subst (λ T. FitsObject p.program.types u T) named (fits high takes.1))),
         ),
       )
     where

@@ -24,22 +24,23 @@ use Rattle.aos_typed.specs.declared.tree.TType.TheVariants as type
 use Rattle.aos_typed.specs.Numbers.{id_of}
 use Rattle.aos_typed.specs.Open.{open_dimensions, open_element}
 use Rattle.aos_typed.specs.Program.{Place, Of, Rows, Expr, Lit, Read, Binary}
-use Rattle.aos_typed.specs.WellTyped.{HaveLengths, Includes, FitsObject, IsLiteral, HasRange, is_ordered, is_reference as is_reference_type, is_basic as is_basic_type, is_compared}
+use Rattle.aos_typed.specs.WellTyped.{HaveLengths, Includes, FitsObject, FitsProcedure, IsLiteral, HasRange, is_ordered, is_reference as is_reference_type, is_basic as is_basic_type, is_compared}
 use Rattle.aos_symbols.specs.declared.scope.Function.{Function}
 use Rattle.aos_symbols.specs.declared.scope.Function.TheVariants as function
-use Rattle.aos_symbols.specs.Env.{shortint, integer, longint, hugeint, boolean, char, set, nil, text}
-use Rattle.aos_types.specs.Table.{row_of, is_open}
-use Rattle.aos_check_expr.proofs.Inside.{Inside, IsPlaceOf, AreRows, IsOf}
+use Rattle.aos_symbols.specs.Env.{shortint, integer, longint, hugeint, boolean, char, set, nil, text, procedure}
+use Rattle.aos_types.specs.Table.{row_of, is_open, is_procedure}
+use Rattle.aos_check_expr.proofs.Inside.{Inside, IsPlaceOf, AreRows, IsOf, IsNamed}
 use Rattle.aos_check_expr.specs.declared.known.Class.{Class}
-use Rattle.aos_check_expr.specs.declared.known.Class.TheVariants.{Unknown, Constant, Variable, ReadOnly, Computed}
+use Rattle.aos_check_expr.specs.declared.known.Class.TheVariants.{Unknown, Constant, Variable, ReadOnly, Computed, Procedure}
 use Rattle.aos_check_expr.specs.declared.operations.Joint.TheVariants as joint
 use Rattle.aos_check_expr.specs.declared.operations.Step.{Step}
 use Rattle.aos_check_expr.specs.declared.operations.Operation.{Operation}
-use Rattle.aos_check_expr.specs.Known.{Answer, is_basic, is_integer, is, is_number, is_boolean, is_char, is_set, larger, width_of_type, width_of, least_of, greatest_of, type_of_literal, type_as, answered}
+use Rattle.aos_check_expr.specs.Known.{Answer, is_nil, is_basic, is_integer, is, is_number, is_boolean, is_char, is_set, larger, width_of_type, width_of, least_of, greatest_of, type_of_literal, type_as, answered}
 use Rattle.aos_check_expr.specs.Operations as op
 use Rattle.aos_check_expr.specs.Expressions.{is_test}
 pub use Rattle.aos_check_expr.proofs.Types.{not_both}
 use Rattle.aos_check_expr.proofs.Types.{most_includes, includes_itself, integer_itself, as_basic, wider, same_type, integer_cases, basic_cases, integer_basic, as_integer, order_includes}
+use Rattle.aos_check_expr.proofs.Stored.{IsMade, made_of_one, made_of}
 use Rattle.aos_check_expr.proofs.Good.{IsGood, IsKnownClass, literal_kind, single_good, joint_good, class_of_one_known, class_of_known}
 
 both_true : (a b : Bool) → (a && b) ≡ true → (a ≡ true) × (b ≡ true)
@@ -161,7 +162,8 @@ module _ (p : Inside) where
 
   -- a whole variable, and an open array, which has its rows
   abbrev pub IsClosedPlace : TypeId → Place → Type 0
-  IsClosedPlace t place = IsPlaceOf p place (type_as t) × (id_of (type_as t) ≡ t) × (is_open (row_of p.program.types t) ≡ false)
+  IsClosedPlace t place =
+      IsPlaceOf p place (type_as t) × (id_of (type_as t) ≡ t) × (is_open (row_of p.program.types t) ≡ false) × (row_of p.program.types t ≡ None → ⊥)
 
   abbrev pub IsOpenPlace : TypeId → Place → Type 0
   IsOpenPlace t place =
@@ -178,24 +180,40 @@ module _ (p : Inside) where
   abbrev pub IsObject : TypeId → Expr → Type 0
   IsObject t x = (is_basic t ≡ false) × (is_reference_type p.program.types (type_as t) ≡ true) × ((u : TType) → TakesObject u t → IsOf p x u)
 
-  -- a string constant that is no character, or an object
-  abbrev pub IsOther : TypeId → Expr → Type 0
-  IsOther t x = (t ≡ text) ⊎ IsObject t x
+  -- a value of a procedure type, which is of each type that has the same formals, and a procedure that is named
+  abbrev pub IsCallable : TypeId → Expr → Type 0
+  IsCallable t x = (is_procedure (row_of p.program.types t) ≡ true) × ((u : TType) → FitsProcedure p.program u (type_as t) → IsOf p x u)
 
-  -- an expression whose type is known, and which is of it
+  abbrev pub IsNamedAs : TypeId → Expr → Type 0
+  IsNamedAs t x = (t ≡ procedure) × IsNamed p x
+
+  abbrev pub IsRoutine : TypeId → Expr → Type 0
+  IsRoutine t x = (is_basic t ≡ false) × (IsCallable t x ⊎ IsNamedAs t x)
+
+  -- a string constant that is no character, an object, or a procedure
+  abbrev pub IsOther : TypeId → Expr → Type 0
+  IsOther t x = (t ≡ text) ⊎ (IsObject t x ⊎ IsRoutine t x)
+
+  -- an expression whose type is known, and which is of it; NIL alone is of its type
   pub record IsSound (a : Answer) : Type 0 where
     pub of : TypeId
     pub known : a.known.of ≡ Some of
+    pub none : of ≡ nil → is_nil a.known.class ≡ true
     pub typed : IsScalar of a.typed ⊎ (IsWholeRead of a.typed ⊎ IsOther of a.typed)
 
   -- one that is no variable
   pub record IsPlain (a : Answer) : Type 0 where
     pub of : TypeId
     pub known : a.known.of ≡ Some of
+    pub none : of ≡ nil → is_nil a.known.class ≡ true
     pub typed : IsScalar of a.typed ⊎ IsOther of a.typed
 
+  -- a basic type isn't that of NIL
+  pub basic_some : {A : Type 0} (t : TypeId) → is_basic t ≡ true → t ≡ nil → A
+  basic_some t low is = absurd (not_both (sym low ∙ ap is_basic is))
+
   pub plain_sound : (a : Answer) → IsPlain a → IsSound a
-  plain_sound a x = record { of = x.of; known = x.known; typed = by x.typed }
+  plain_sound a x = record { of = x.of; known = x.known; none = x.none; typed = by x.typed }
     where
       by : IsScalar x.of a.typed ⊎ IsOther x.of a.typed → IsScalar x.of a.typed ⊎ (IsWholeRead x.of a.typed ⊎ IsOther x.of a.typed)
       by (inl s) = inl s
@@ -206,20 +224,29 @@ module _ (p : Inside) where
   scalar_of t x (inl s) b = s.1
   scalar_of t x (inr (inl w)) b = absurd (not_both (sym b ∙ w.0))
   scalar_of t x (inr (inr (inl e))) b = absurd (not_both (sym b ∙ ap is_basic e))
-  scalar_of t x (inr (inr (inr o))) b = absurd (not_both (sym b ∙ o.0))
+  scalar_of t x (inr (inr (inr (inl o)))) b = absurd (not_both (sym b ∙ o.0))
+  scalar_of t x (inr (inr (inr (inr r)))) b = absurd (not_both (sym b ∙ r.0))
 
   -- a good literal is of the type of its value
   pub literal_typed : (v : Literal) → IsGood v → IsScalar (type_of_literal v) (Lit v) ⊎ IsOther (type_of_literal v) (Lit v)
   literal_typed v g = by (literal_kind v g)
     where
       nothing : IsObject nil (Lit literal.Nil)
-      nothing = (refl, refl, λ u takes. inr (refl, takes.0))
+      nothing = (refl, refl, λ u takes. inr (inl (refl, takes.0)))
 
       by : ((is_basic (type_of_literal v) ≡ true) × IsLiteral v (type_as (type_of_literal v))) ⊎ ((type_of_literal v ≡ text) ⊎ (v ≡ literal.Nil)) →
           IsScalar (type_of_literal v) (Lit v) ⊎ IsOther (type_of_literal v) (Lit v)
       by (inl s) = inl (s.0, inl s.1)
       by (inr (inl t)) = inr (inl t)
-      by (inr (inr e)) = subst (λ v. IsScalar (type_of_literal v) (Lit v) ⊎ IsOther (type_of_literal v) (Lit v)) (sym e) (inr (inr nothing))
+      by (inr (inr e)) = subst (λ v. IsScalar (type_of_literal v) (Lit v) ⊎ IsOther (type_of_literal v) (Lit v)) (sym e) (inr (inr (inl nothing)))
+
+  pub literal_none : (v : Literal) → IsGood v → type_of_literal v ≡ nil → is_nil (Constant (Some v)) ≡ true
+  literal_none v g is = by (literal_kind v g)
+    where
+      by : ((is_basic (type_of_literal v) ≡ true) × IsLiteral v (type_as (type_of_literal v))) ⊎ ((type_of_literal v ≡ text) ⊎ (v ≡ literal.Nil)) → is_nil (Constant (Some v)) ≡ true
+      by (inl s) = basic_some (type_of_literal v) s.0 is
+      by (inr (inl t)) = let n : 9 ≡ 7 = ap (λ (u : TypeId). u.0) (sym t ∙ is) in absurd (omega (arith, n))
+      by (inr (inr e)) = ap (λ v. is_nil (Constant (Some v))) e
 
   -- Operands, by the types that they are tested to have.
 
@@ -464,13 +491,14 @@ module _ (p : Inside) where
 
   -- Parts.
 
-  pub answered_plain : (c : Class) (t : TypeId) (x : Expr) → IsKnownClass IsGood c → is_basic t ≡ true → IsOf p x (type_as t) → IsPlain (answered c (Some t) x)
-  answered_plain (Constant (Some v)) t x g b h = record { of = type_of_literal v; known = refl; typed = literal_typed v g }
-  answered_plain (Constant None) t x g b h = record { of = t; known = refl; typed = inl (b, h) }
-  answered_plain Unknown t x g b h = absurd g
-  answered_plain Variable t x g b h = record { of = t; known = refl; typed = inl (b, h) }
-  answered_plain ReadOnly t x g b h = record { of = t; known = refl; typed = inl (b, h) }
-  answered_plain Computed t x g b h = record { of = t; known = refl; typed = inl (b, h) }
+  pub answered_plain : (c : Class) (t : TypeId) (x : Expr) → IsKnownClass IsGood c → IsMade c → is_basic t ≡ true → IsOf p x (type_as t) → IsPlain (answered c (Some t) x)
+  answered_plain (Constant (Some v)) t x g m b h = record { of = type_of_literal v; known = refl; none = literal_none v g; typed = literal_typed v g }
+  answered_plain (Constant None) t x g m b h = record { of = t; known = refl; none = basic_some t b; typed = inl (b, h) }
+  answered_plain Unknown t x g m b h = absurd g
+  answered_plain Variable t x g m b h = absurd m
+  answered_plain ReadOnly t x g m b h = absurd m
+  answered_plain Computed t x g m b h = record { of = t; known = refl; none = basic_some t b; typed = inl (b, h) }
+  answered_plain (Procedure k n) t x g m b h = absurd m
 
   -- a value that is tested to be of a type
   pub sound_number : (a : Answer) → IsSound a → is_number a.known.of ≡ true → IsOf p a.typed (type.Integer W64)
@@ -488,10 +516,10 @@ module _ (p : Inside) where
       let i : is_boolean (Some x.of) ≡ true = sym (ap is_boolean x.known) ∙ k in
       as_boolean x.of a.typed (scalar_of x.of a.typed x.typed (basic_same boolean x.of refl i)) i
 
-  kept_plain : (kept : Bool) (c : Class) (of : Option TypeId) (t : TypeId) (x : Expr) → kept ≡ true → IsKnownClass IsGood c → of ≡ Some t → is_basic t ≡ true → IsOf p x (type_as t) →
+  kept_plain : (kept : Bool) (c : Class) (of : Option TypeId) (t : TypeId) (x : Expr) → kept ≡ true → IsKnownClass IsGood c → IsMade c → of ≡ Some t → is_basic t ≡ true → IsOf p x (type_as t) →
       IsPlain (answered (op.kept_class kept c) (op.kept_type kept of) x)
-  kept_plain true c of t x k g is b h = subst (λ o. IsPlain (answered c o x)) (sym is) (answered_plain c t x g b h)
-  kept_plain false c of t x k g is b h = absurd (cc)
+  kept_plain true c of t x k g m is b h = subst (λ o. IsPlain (answered c o x)) (sym is) (answered_plain c t x g m b h)
+  kept_plain false c of t x k g m is b h = absurd (cc)
 
   pub stepped_plain : (f : Option TypeId → Step) → IsStep f → TestsOne f → (a : Answer) → IsSound a → IsKnownClass IsGood a.known.class → (f a.known.of).is_kept ≡ true →
       IsPlain (op.stepped (f a.known.of) a)
@@ -502,7 +530,7 @@ module _ (p : Inside) where
           let s = f (Some x.of) in
           let b = tests x.of k in
           let r = right x.of a.typed b (scalar_of x.of a.typed x.typed b) k in
-          kept_plain s.is_kept (op.class_of_one s.single a.known.class) s.of r.0 (op.single_typed s.single a.typed) k (class_of_one_known IsGood s.single (single_good s.single) a.known.class g) r.1 r.2 r.3
+          kept_plain s.is_kept (op.class_of_one s.single a.known.class) s.of r.0 (op.single_typed s.single a.typed) k (class_of_one_known IsGood s.single (single_good s.single) a.known.class g) (made_of_one s.single a.known.class) r.1 r.2 r.3
 
   pub joined_plain : (f : Option TypeId → Option TypeId → Operation) → IsOperation f → TestsTwo f → (a b : Answer) → IsSound a → IsSound b → IsKnownClass IsGood a.known.class →
       IsKnownClass IsGood b.known.class → (f a.known.of b.known.of).is_kept ≡ true → IsPlain (op.joined (f a.known.of b.known.of) a b)
@@ -516,4 +544,4 @@ module _ (p : Inside) where
           let t = tests x.of y.of k in
           let r = right x.of y.of a.typed b.typed t.0 t.1 (scalar_of x.of a.typed x.typed t.0) (scalar_of y.of b.typed y.typed t.1) k in
           kept_plain o.is_kept (op.class_of o.joint a.known.class b.known.class) o.of r.0 (op.joint_typed o.joint a.typed b.typed) k
-          (class_of_known IsGood o.joint (joint_good o.joint) a.known.class b.known.class g h) r.1 r.2 r.3
+          (class_of_known IsGood o.joint (joint_good o.joint) a.known.class b.known.class g h) (made_of o.joint a.known.class b.known.class) r.1 r.2 r.3

@@ -1,5 +1,5 @@
 -- Designators that break no rule: variables of their types, and sound values.
-use Rattle.std.proofs.Common.{◌≡◌, ℕ, suc, ◌==◌, List, [], ◌∷◌, Bool, true, false, ◌&&◌, ◌||◌, ◌⊎◌, inl, inr, not, Option, Some, None, is_some, slice_get, option_and_then, fold, if◌then◌else◌, refl, sym, ap, ap₂, ◌∙◌, subst, eqb-true, eq-eqb}
+use Rattle.std.proofs.Common.{◌≡◌, ℕ, suc, ◌==◌, List, [], ◌∷◌, Bool, true, false, ◌&&◌, ◌||◌, ◌⊎◌, inl, inr, not, Option, Some, None, is_some, slice_get, option_and_then, fold, if◌then◌else◌, refl, sym, ap, ap₂, ◌∙◌, subst, eqb-true, eq-eqb, lt-ltb, arith}
 use Rattle.std.proofs.lemmas.Option.{none-some, same_Some, option_and_then_some}
 use Rattle.std.proofs.lemmas.Bool.{and_parts}
 use Rattle.aos_base.specs.declared.number.Width.TheVariants.{W64}
@@ -17,9 +17,9 @@ use Rattle.aos_typed.specs.Numbers.{id_of}
 use Rattle.aos_typed.specs.Open.{open_dimensions, open_element}
 use Rattle.aos_typed.specs.declared.tree.TType.{TType}
 use Rattle.aos_typed.specs.declared.tree.TType.TheVariants as type
-use Rattle.aos_typed.specs.Program.{Place, ModuleVar, Of, Index, Deref, Guarded, Row, Expr, Read, Guard, Plain}
+use Rattle.aos_typed.specs.Program.{Place, ModuleVar, Of, Index, Deref, Guarded, Row, Expr, Read, Guard, Callee, Plain, Dispatched, Upper, Through, ProcedureOf, MethodOf, Procedure}
 use Rattle.aos_typed.specs.Program.{Field as FieldOf}
-use Rattle.aos_typed.specs.WellTyped.{field_type, is_reference as is_reference_type}
+use Rattle.aos_typed.specs.WellTyped.{IsProcedural, field_type, is_reference as is_reference_type}
 use Rattle.aos_symbols.specs.declared.scope.Entry.{Entry}
 use Rattle.aos_symbols.specs.declared.scope.Constant.{Constant as Declared}
 use Rattle.aos_symbols.specs.declared.scope.Meaning.{Meaning}
@@ -35,26 +35,32 @@ use Rattle.aos_symbols.specs.Judged.{Judged, kept}
 use Rattle.aos_symbols.specs.Spelling.{word, is_among, procedures_of_out}
 use Rattle.aos_symbols.specs.Scope.{Scope, find}
 use Rattle.aos_symbols.specs.Env as env
-use Rattle.aos_symbols.specs.Env.{text}
+use Rattle.aos_symbols.specs.Env.{nil, text}
+use Rattle.aos_symbols.specs.declared.home.Signature.{Signature}
 use Rattle.aos_symbols.proofs.Each.{each_at}
 use Rattle.aos_symbols.proofs.Holds.{Holds, holds_bind, broken}
 use Rattle.aos_symbols.proofs.Lookups.{IsPredeclared, itself, IsOfAll, lookup_is, member_is}
-use Rattle.aos_symbols.proofs.Told.{IsTold}
-use Rattle.aos_check_expr.proofs.Inside.{Inside, IsPlaceOf, AreRows, IsOf}
+use Rattle.aos_symbols.proofs.Told.{IsTold, basic as basic_told, of_any, defined}
+use Rattle.aos_check_expr.proofs.Inside.{Inside, IsPlaceOf, AreRows, IsOf, IsNamed}
 use Rattle.aos_check_expr.specs.declared.known.Class.{Class}
-use Rattle.aos_check_expr.specs.declared.known.Class.TheVariants.{Unknown, Constant, Variable, ReadOnly, Computed}
+use Rattle.aos_check_expr.specs.declared.known.Class.TheVariants.{Unknown, Constant, Variable, ReadOnly, Computed, Procedure as ClassOf}
 use Rattle.aos_check_expr.specs.declared.known.Known.{Known}
 use Rattle.aos_check_expr.specs.declared.designators.Head.{Head}
 use Rattle.aos_check_expr.specs.Known.{Answer, Spot, Held, Stands, Value, is_basic, is_number, is_lost, object_number, value_class, type_as, type_of, read_from, known_as, spot_of, answered, constant_answer, nothing}
+use Rattle.aos_check_expr.specs.declared.signatures.Heading.TheVariants as heading
 use Rattle.aos_check_expr.specs.Designators as desig
+use Rattle.aos_check_expr.specs.Expressions as judge
+use Rattle.aos_check_expr.specs.Expressions.{Bound}
 use Rattle.aos_check_expr.proofs.Types.{includes_itself, as_basic, id_as}
-pub use Rattle.aos_check_expr.proofs.Whole.{IsTyped, closed, opened, GoodConstants, IsParameterType, AreParameters, IsResultOf, IsSigned, IsFieldScope, IsSearched, has_fields, AreOpensTold, parameter_type, opens_told, told_element, HasBody, IsWhole, NarrowsWell, text_row, no_array, array_open, no_open, opened_row, told_closed, row_opened, elements_told, elements_id}
-use Rattle.aos_check_expr.proofs.Called.{IsCalling}
-use Rattle.aos_check_expr.proofs.Objects.{sound_object, of_own_type, parts_no_reference, record_no_reference, IsPartsRow}
+pub use Rattle.aos_check_expr.proofs.Whole.{IsTyped, closed, opened, GoodConstants, IsParameterType, AreParameters, IsResultOf, IsSigned, IsFieldScope, IsSearched, has_fields, AreOpensTold, parameter_type, opens_told, told_element, IsWhole, NarrowsWell, text_row, no_array, array_open, no_open, opened_row, told_closed, row_opened, elements_told, elements_id}
+use Rattle.aos_check_expr.proofs.Called.{IsCalling, IsBound, if_some, through_calling}
+use Rattle.aos_check_expr.proofs.Objects.{basic_value, sound_object, of_own_type, parts_no_reference, record_no_reference, routine_no_parts, IsPartsRow}
 use Rattle.aos_check_expr.proofs.Selves.{object_made, self_object, object_field_typed, self_field, object_refers, object_type_row}
-use Rattle.aos_check_expr.proofs.Pointed.{pointed_kind, followed_typed, guard_object, guard_record}
+use Rattle.aos_check_expr.proofs.Pointed.{no_extension, pointed_kind, followed_typed, guard_object, guard_record}
+use Rattle.aos_check_expr.proofs.Naming.{IsNaming, naming_made, naming_stored}
+use Rattle.aos_check_expr.proofs.Callable.{told_no_nil, procedural_row, callable_own}
 use Rattle.aos_check_expr.proofs.Opens.{closed_dimensions, closed_element, next_dimensions, next_element}
-use Rattle.aos_check_expr.proofs.Stored.{IsStored, IsMade}
+use Rattle.aos_check_expr.proofs.Stored.{IsStored, not_stored}
 use Rattle.aos_check_expr.proofs.Good.{IsGood, HasGood, IsKnownClass}
 use Rattle.aos_check_expr.proofs.Sound.{not_both, IsScalar, IsClosedPlace, IsOpenPlace, IsWholeRead, IsOther, IsObject, IsSound, IsPlain, plain_sound, sound_number}
 use Rattle.aos_check_expr.proofs.Parts.{IsPart, IsValue, constant_part}
@@ -62,7 +68,7 @@ use Rattle.aos_check_expr.proofs.Parts.{IsPart, IsValue, constant_part}
 -- a designator is a variable of its type, or a sound value
 abbrev IsSoundHeld : Inside → Env → Known → Held → Type 0
 IsSoundHeld p e k (Stands place) = IsTyped p e place k.of
-IsSoundHeld p e k (Value x) = IsPlain p (record { known = k; typed = x })
+IsSoundHeld p e k (Value x) = IsPlain p (record { known = k; typed = x }) × IsNaming p e k.class x
 
 abbrev pub IsSoundSpot : Inside → Env → Spot → Type 0
 IsSoundSpot p e a = IsSoundHeld p e a.known a.held
@@ -70,7 +76,7 @@ IsSoundSpot p e a = IsSoundHeld p e a.known a.held
 -- a variable may be written, or read alone; a value is neither
 abbrev pub IsStoredHeld : Held → Class → Type 0
 IsStoredHeld (Stands place) c = IsStored c
-IsStoredHeld (Value x) c = IsMade c
+IsStoredHeld (Value x) c = IsStored c → ⊥
 
 -- a designator as a part of an expression
 pub record IsSpot (p : Inside) (e : Env) (a : Spot) : Type 0 where
@@ -107,6 +113,7 @@ class_as P Unknown of h = h
 class_as P Variable of h = h
 class_as P ReadOnly of h = h
 class_as P Computed of h = h
+class_as P (ClassOf m n) of h = h
 
 part_known : (may : Bool) (c : Class) → IsKnownClass IsGood c → IsKnownClass IsGood (desig.part_class may c)
 part_known true Variable h = tt
@@ -115,6 +122,7 @@ part_known may (Constant v) h = h
 part_known may Unknown h = h
 part_known may ReadOnly h = h
 part_known may Computed h = h
+part_known may (ClassOf m n) h = h
 
 part_valued : (may : Bool) (c : Class) → not (is_lost c) ≡ true → not (is_lost (desig.part_class may c)) ≡ true
 part_valued true Variable h = refl
@@ -123,6 +131,7 @@ part_valued may (Constant v) h = h
 part_valued may Unknown h = h
 part_valued may ReadOnly h = h
 part_valued may Computed h = h
+part_valued may (ClassOf m n) h = h
 
 part_stored : (may : Bool) (c : Class) (part : Place → Place) (h : Held) → IsStoredHeld h c → IsStoredHeld (desig.part_held part h) (desig.part_class may c)
 part_stored may c part (Stands place) s = by may c s
@@ -134,21 +143,23 @@ part_stored may c part (Stands place) s = by may c s
     by may (Constant v) s = absurd s
     by may Unknown s = absurd s
     by may Computed s = absurd s
+    by may (ClassOf m n) s = absurd s
 part_stored may c part (Value x) s = by may c s
   where
-    by : (may : Bool) (c : Class) → IsMade c → IsMade (desig.part_class may c)
+    by : (may : Bool) (c : Class) → (IsStored c → ⊥) → IsStored (desig.part_class may c) → ⊥
     by may Variable s = absurd (s tt)
     by may (Constant v) s = s
     by may Unknown s = s
     by may ReadOnly s = s
     by may Computed s = s
+    by may (ClassOf m n) s = s
 
 module _ (p : Inside) (e : Env) where
   abbrev pub Part : Answer → Type 0
-  Part = IsPart p (IsWhole p e)
+  Part = IsPart p e
 
   abbrev pub Valued : Answer → Type 0
-  Valued = IsValue p (IsWhole p e)
+  Valued = IsValue p e
 
   -- What is found of a name.
 
@@ -157,7 +168,7 @@ module _ (p : Inside) (e : Env) where
 
   -- a procedure that the scope of a module names is that of its signature
   abbrev pub IsProcedure : Symbol → Type 0
-  IsProcedure x = (k : ℕ) → x.means ≡ means.Procedure k → desig.is_of_module x ≡ true → IsCalling p e (Plain x.at.home k) x.at.home k
+  IsProcedure x = (k : ℕ) → x.means ≡ means.Procedure k → desig.is_of_module x ≡ true → IsCalling p e (Plain x.at.home k) (heading.Declared x.at.home k)
 
   abbrev pub IsSeen : Symbol → Type 0
   IsSeen x = IsVariable x × IsProcedure x
@@ -172,7 +183,7 @@ module _ (p : Inside) (e : Env) where
   }
     where
       procedure : (o : Open) (s : Scope) (w : List ℕ) (x : Entry) (k : ℕ) → (o.scope == 0) ≡ true → env.scope e o ≡ Some s → find s w ≡ Some x → x.means ≡ means.Procedure k →
-          IsCalling p e (Plain o.home k) o.home k
+          IsCalling p e (Plain o.home k) (heading.Declared o.home k)
       procedure o s w x k own there is means =
           let here : o ≡ env.own o.home = ap (λ (i : ℕ). record { home = o.home; scope = i }) (eqb-true o.scope 0 own) in
           whole.signatures o.home k s w x (subst (λ (o : Open). env.scope e o ≡ Some s) here there) is means
@@ -265,7 +276,7 @@ module _ (p : Inside) (e : Env) where
   value_part : (later : Bool) (v : Option Literal) → HasGood v → (at : Pos) → Holds Valued (desig.constant_of (if later then None else Some v) at)
   value_part true v h at = broken Valued _ [] _
   value_part false None h at = absurd (none-some h.0 h.1)
-  value_part false (Some v) h at = λ none. constant_part p (IsWhole p e) v (subst IsGood (sym (same_Some v h.0 h.1)) h.2)
+  value_part false (Some v) h at = λ none. constant_part p e v (subst IsGood (sym (same_Some v h.0 h.1)) h.2)
 
   constant_there : GoodConstants e → (o : Open) (k : ℕ) (here at : Pos) → Holds Valued (desig.constant_of (env.constant e o k here) at)
   constant_there good o k here at = by (option_and_then (λ s. slice_get s.constants k) (env.scope e o)) refl
@@ -282,7 +293,12 @@ module _ (p : Inside) (e : Env) where
   Spotted = IsSpot p e
 
   pub spotted : (at : Pos) (j : Judged Answer) → Holds Valued j → Holds Spotted (desig.spotted at j)
-  spotted at j h = holds_bind Valued Spotted j (λ a. kept (spot_of at a)) h (λ a x e. record { class = x.class; valued = x.valued; stored = x.made; sound = x.plain })
+  spotted at j h = holds_bind Valued Spotted j (λ a. kept (spot_of at a)) h (λ a x none. record {
+    class = x.class;
+    valued = x.valued;
+    stored = not_stored a.known.class x.made;
+    sound = λ whole. (x.plain whole, naming_made p e a.known.class a.typed x.made);
+  })
 
   stored : (c : Class) (of : Option TypeId) (place : Place) (at : Pos) → IsStored c → (IsWhole p e → IsTyped p e place of) → Spotted (record { known = known_as c of; held = Stands place; at = at })
   stored Variable of place at s h = record { class = tt; valued = refl; stored = tt; sound = h }
@@ -290,6 +306,7 @@ module _ (p : Inside) (e : Env) where
   stored (Constant v) of place at s h = absurd s
   stored Unknown of place at s h = absurd s
   stored Computed of place at s h = absurd s
+  stored (ClassOf m n) of place at s h = absurd s
 
   -- What is read.
 
@@ -298,8 +315,16 @@ module _ (p : Inside) (e : Env) where
 
   -- a variable that isn't of a basic type is a whole one, or an open array
   pub held_place : IsWhole p e → (place : Place) (t : TypeId) → is_basic t ≡ false → IsTyped p e place (Some t) → IsClosedPlace p t place ⊎ IsOpenPlace p t place
-  held_place whole place t other (closed typed known) = inl (typed, id_as e.types t known, shut)
+  held_place whole place t other (closed typed known) = inl (typed, id_as e.types t known, shut, there)
     where
+      told_row : IsTold e.types t → row_of e.types t ≡ None → ⊥
+      told_row (basic_told below) none = not_both (sym (lt-ltb t.0 7 below) ∙ other)
+      told_row (of_any any) none = none-some row.Any (sym none ∙ ap (λ n. slice_get e.types n) any ∙ whole.basic 8 (omega arith))
+      told_row (defined r from there shut) none = none-some r (sym none ∙ there)
+
+      there : row_of p.program.types t ≡ None → ⊥
+      there none = told_row known (ap (λ rows. row_of rows t) (sym whole.rows) ∙ none)
+
       isnt : (b : Bool) → desig.is_opened e t ≡ b → b ≡ false
       isnt true is = absurd (told_closed e whole.opens t known is)
       isnt false is = refl
@@ -327,17 +352,27 @@ module _ (p : Inside) (e : Env) where
   place_read whole place t h = by (is_basic t) refl
     where
       by : (b : Bool) → is_basic t ≡ b → IsScalarOrWhole t (Read (type_as t) place)
-      by true low = inl (low, (low_typed place t low h, ap (λ b. b || is_reference_type p.program.types (type_as t)) (as_basic t low), inl (includes_itself (type_as t) (as_basic t low))))
+      by true low = inl (low, (low_typed place t low h, basic_value p.program.types (type_as t) (as_basic t low), inl (includes_itself (type_as t) (as_basic t low))))
       by false other = inr (inl (other, place, refl, held_place whole place t other h))
 
-  stands_sound : IsWhole p e → (place : Place) (of : Option TypeId) → IsTyped p e place of → (t : TypeId) × (of ≡ Some t) × IsScalarOrWhole t (Read (type_of of) place)
+  -- nor of NIL's type
+  place_some : IsWhole p e → (place : Place) (t : TypeId) → IsTyped p e place (Some t) → t ≡ nil → ⊥
+  place_some whole place t (closed typed known) is = told_no_nil e.types t known is
+  place_some whole place t (opened v r same at opening rows lengths) is =
+      let u = opened_row e v opening in
+      let above = whole.opens.above v u.0 u.2 in
+      let n : v.0 ≡ 7 = ap (λ (w : TypeId). w.0) (sym (same_Some t v same) ∙ is) in
+      omega (arith, above, n)
+
+  stands_sound : IsWhole p e → (place : Place) (of : Option TypeId) → IsTyped p e place of →
+      (t : TypeId) × (of ≡ Some t) × (t ≡ nil → ⊥) × IsScalarOrWhole t (Read (type_of of) place)
   stands_sound whole place None (closed typed known) = absurd known
   stands_sound whole place None (opened t r same at opening rows lengths) = absurd (none-some t same)
-  stands_sound whole place (Some t) h = (t, refl, place_read whole place t h)
+  stands_sound whole place (Some t) h = (t, refl, place_some whole place t h, place_read whole place t h)
 
   pub read_sound : IsWhole p e → (k : Known) (x : Held) → IsSoundHeld p e k x → IsSound p (record { known = k; typed = read_from k.of x })
-  read_sound whole k (Stands place) h = let r = stands_sound whole place k.of h in record { of = r.0; known = r.1; typed = r.2 }
-  read_sound whole k (Value x) h = plain_sound p (record { known = k; typed = x }) h
+  read_sound whole k (Stands place) h = let r = stands_sound whole place k.of h in record { of = r.0; known = r.1; none = λ is. absurd (r.2 is); typed = r.3 }
+  read_sound whole k (Value x) h = plain_sound p (record { known = k; typed = x }) h.0
 
   -- a part whose type isn't known is none where all types are
   pub no_type : (k : Known) (h : Held) → k.of ≡ None → IsSoundHeld p e k h → ⊥
@@ -347,7 +382,7 @@ module _ (p : Inside) (e : Env) where
       by None is (closed typed known) = known
       by None is (opened t r same at opening rows lengths) = none-some t same
       by (Some t) is s = none-some t (sym is)
-  no_type k (Value x) is s = none-some s.of (sym is ∙ s.known)
+  no_type k (Value x) is s = none-some s.0.of (sym is ∙ s.0.known)
 
   unknown_fine : (a : Spot) → Spotted a → a.known.of ≡ None → (at : Pos) → Spotted (desig.unknown_part at a)
   unknown_fine a x is at = record {
@@ -425,8 +460,15 @@ module _ (p : Inside) (e : Env) where
             let same : of ≡ sound.of = same_Some of sound.of (sym known ∙ sound.known) in
             let ref : desig.is_reference e of ≡ true = first (desig.is_reference e of) (sym (ap (λ r. desig.is_reference e of || (r && desig.is_passed (desig.place_of a.held))) other) ∙ two.0) in
             let object = subst (λ v. IsObject p v (read_from a.known.of a.held)) (sym same)
-            (sound_object p e whole (record { known = a.known; typed = read_from a.known.of a.held }) sound (ap (desig.is_reference e) (sym same) ∙ ref)) in
-            record { of = t; known = refl; typed = inr (inr (guard_object p e whole of t (read_from a.known.of a.held) object ref two.1)) };
+            (sound_object p e whole (record { known = a.known; typed = read_from a.known.of a.held }) sound (ap (desig.is_reference e) (sym same) ∙ ref)) in (
+              record {
+                of = t;
+                known = refl;
+                none = λ is. absurd (no_extension p e whole of t (inl is) ref two.1);
+                typed = inr (inr (inl (guard_object p e whole of t (read_from a.known.of a.held) object ref two.1)));
+              },
+              tt,
+            );
       })
     where
       first : (b : Bool) → (b || false) ≡ true → b ≡ true
@@ -465,6 +507,47 @@ module _ (p : Inside) (e : Env) where
 
   -- Names.
 
+  -- A procedure as a value.
+
+  -- what is named is as its signature tells
+  abbrev pub IsNamedWell : (home number : ℕ) → Expr → Type 0
+  IsNamedWell m n x =
+      (s : Signature) → env.signature e m n ≡ Some s → (q : Procedure) × IsSigned e s q × IsNamed p x × ((t : TType) → IsProcedural p.program t q → IsOf p x t)
+
+  pub procedure_part : (m n : ℕ) (x : Expr) (first at : Pos) → (IsWhole p e → IsNamedWell m n x) → Holds Spotted (desig.procedure_spot e m n x first at)
+  procedure_part m n x first at well = by (env.signature e m n) refl
+    where
+      by : (o : Option Signature) → env.signature e m n ≡ o → Holds Spotted (desig.procedure_spot e m n x first at)
+      by None is = rw is (spotted at (desig.refused_value 20 first) (refused_value_part 20 first))
+      by (Some s) is = rw is (λ none. record {
+        class = tt;
+        valued = refl;
+        stored = λ w. w;
+        sound = λ whole.
+            let y = well whole in (
+              record {
+                of = env.procedure;
+                known = refl;
+                none = λ same. let n : ◌≡◌ {A = ℕ} 4294967295 7 = ap (λ (t : TypeId). t.0) same in absurd (omega (arith, n));
+                typed = inr (inr (inr (refl, inr (refl, (y s is).2))));
+              },
+              λ s is. (let z = y s is in (z.0, z.1, z.3)),
+            );
+      })
+
+  -- what is called may be named, but for what a method overrides and for what a value stands for
+  pub called_named : (c : Callee) (x : Expr) (m n : ℕ) → judge.value_called c ≡ Some x → IsCalling p e c (heading.Declared m n) → IsNamedWell m n x
+  called_named (Plain h k) x m n is calling s there =
+      let y = calling s there in
+      subst (λ x. (q : Procedure) × IsSigned e s q × IsNamed p x × ((t : TType) → IsProcedural p.program t q → IsOf p x t)) (same_Some (ProcedureOf h k) x is)
+      (y.0, y.2, (y.0, y.1), λ t fits. (y.0, y.1, fits))
+  called_named (Dispatched o t k) x m n is calling s there =
+      let y = calling s there in
+      subst (λ x. (q : Procedure) × IsSigned e s q × IsNamed p x × ((t : TType) → IsProcedural p.program t q → IsOf p x t)) (same_Some (MethodOf o t k) x is)
+      (y.0, y.2, (y.1.0, y.1.1, (y.0, y.1.2)), λ u fits. (y.1.0, y.1.1, (y.0, y.1.2, fits)))
+  called_named (Upper t k) x m n is calling s there = absurd (none-some x is)
+  called_named (Through o t) x m n is calling s there = absurd (none-some x is)
+
   narrowed_fine : (x : Symbol) (k : ℕ) (vs : List Narrowed) (a : Spot) → Spotted a → (IsWhole p e → NarrowsWell e x k a vs) → Spotted (fold (desig.narrowed_by e x k) a vs)
   narrowed_fine x k [] a s well = s
   narrowed_fine x k (v ∷ vs) a s well = narrowed_fine x k vs (desig.narrowed_by e x k a v) (one (desig.is_narrowed x k v) refl) (λ whole. (well whole).1)
@@ -477,7 +560,7 @@ module _ (p : Inside) (e : Env) where
   otherwise_spot (means.Type of) h = spotted h.name.pos (desig.refused 16 h.name.pos) (refused_part 16 h.name.pos)
   otherwise_spot (means.Module m) h = spotted h.name.pos (desig.refused 16 h.name.pos) (refused_part 16 h.name.pos)
   otherwise_spot means.Out h = spotted h.name.pos (desig.refused 16 h.name.pos) (refused_part 16 h.name.pos)
-  otherwise_spot (means.Truth b) h = spotted h.name.pos (kept (constant_answer (literal.Bool b))) (λ none. constant_part p (IsWhole p e) (literal.Bool b) tt)
+  otherwise_spot (means.Truth b) h = spotted h.name.pos (kept (constant_answer (literal.Bool b))) (λ none. constant_part p e (literal.Bool b) tt)
   otherwise_spot (means.Function f) h = spotted h.name.pos (desig.refused_value 36 h.first) (refused_value_part 36 h.first)
   otherwise_spot (means.Routine r) h = spotted h.name.pos (desig.refused_value 36 h.first) (refused_value_part 36 h.first)
   otherwise_spot means.Proper h = spotted h.name.pos (desig.refused_value 36 h.first) (refused_value_part 36 h.first)
@@ -497,14 +580,46 @@ module _ (p : Inside) (e : Env) where
         class = tt;
         valued = refl;
         stored = λ w. w;
-        sound = λ whole. record { of = t; known = refl; typed = inr (inr (self_object p e whole t is)) };
+        sound = λ whole. (
+          record {
+            of = t;
+            known = refl;
+            none = λ none. let high = (object_made p e whole t (whole.itself t is).1).0 in let n : t.0 ≡ 7 = ap (λ (u : TypeId). u.0) none in absurd (omega (arith, high, n));
+            typed = inr (inr (inl (self_object p e whole t is)));
+          },
+          tt,
+        );
       }
 
-  meant_spot : GoodConstants e → (x : Symbol) → (IsWhole p e → IsVariable x) → (m : Meaning) → x.means ≡ m → (h : Head) → Holds Spotted (desig.meant e x m h)
-  meant_spot good x sound (means.Variable k) is h = λ none.
-      narrowed_fine x k e.narrowed (desig.variable e x k h.name.pos)
-      (stored (desig.access (x.at.home == e.number) x.mark) (env.variable_type e x.at k) (desig.place_of_variable e x k) h.name.pos (access_stored (x.at.home == e.number) x.mark) (λ whole. sound whole k is))
-      (λ whole. whole.narrows x k h.name.pos)
+  variable_fine : (x : Symbol) → (IsWhole p e → IsVariable x) → (k : ℕ) → x.means ≡ means.Variable k → (at : Pos) → Spotted (desig.variable_spot e x k at)
+  variable_fine x sound k is at =
+      narrowed_fine x k e.narrowed (desig.variable e x k at)
+      (stored (desig.access (x.at.home == e.number) x.mark) (env.variable_type e x.at k) (desig.place_of_variable e x k) at (access_stored (x.at.home == e.number) x.mark) (λ whole. sound whole k is))
+      (λ whole. whole.narrows x k at)
+
+  -- the variable that a name stands for
+  pub variable_named : (l : Lookup) (n : Name) (first : Pos) → MayFind l → (a : Spot) → desig.variable_named e (record { found = l; name = n; first = first }) ≡ Some a → Spotted a
+  variable_named NoName n first may a is = absurd (none-some a is)
+  variable_named NotExported n first may a is = absurd (none-some a is)
+  variable_named (Found x) n first may a is = by x.means refl is
+    where
+      by : (m : Meaning) → x.means ≡ m → desig.variable_meant e x m n.pos ≡ Some a → Spotted a
+      by (means.Variable k) at is = subst Spotted (same_Some (desig.variable_spot e x k n.pos) a is) (variable_fine x (λ whole. (may whole x refl).0) k at n.pos)
+      by m at is = absurd (none-some a is)
+
+  procedure_fine : (x : Symbol) → (IsWhole p e → IsProcedure x) → (k : ℕ) → x.means ≡ means.Procedure k → (h : Head) → Holds Spotted (desig.procedure_meant e x k h)
+  procedure_fine x seen k is h = by (desig.is_of_module x) refl
+    where
+      by : (b : Bool) → desig.is_of_module x ≡ b →
+          Holds Spotted (if b then desig.procedure_spot e x.at.home k (ProcedureOf x.at.home k) h.first h.name.pos else desig.meant_otherwise (means.Procedure k) h)
+      by true own =
+          procedure_part x.at.home k (ProcedureOf x.at.home k) h.first h.name.pos
+          (λ whole. called_named (Plain x.at.home k) (ProcedureOf x.at.home k) x.at.home k refl (seen whole k is own))
+      by false other = otherwise_spot (means.Procedure k) h
+
+  meant_spot : GoodConstants e → (x : Symbol) → (IsWhole p e → IsSeen x) → (m : Meaning) → x.means ≡ m → (h : Head) → Holds Spotted (desig.meant e x m h)
+  meant_spot good x sound (means.Variable k) is h = λ none. variable_fine x (λ whole. (sound whole).0) k is h.name.pos
+  meant_spot good x sound (means.Procedure k) is h = procedure_fine x (λ whole. (sound whole).1) k is h
   meant_spot good x sound (means.Constant k) is h = spotted h.name.pos (desig.constant_of (env.constant e x.at k h.first) h.name.pos) (constant_there good x.at k h.first h.name.pos)
   meant_spot good x sound means.Itself is h = self_spot h.name.pos
   meant_spot good x sound m is h = otherwise_spot m h
@@ -512,7 +627,7 @@ module _ (p : Inside) (e : Env) where
   found_spot : GoodConstants e → (l : Lookup) → MayFind l → (h : Head) → Holds Spotted (desig.found e l h)
   found_spot good NoName may h = spotted h.name.pos (desig.refused 14 h.name.pos) (refused_part 14 h.name.pos)
   found_spot good NotExported may h = spotted h.name.pos (desig.refused 15 h.name.pos) (refused_part 15 h.name.pos)
-  found_spot good (Found x) may h = meant_spot good x (λ whole. (may whole x refl).0) x.means refl h
+  found_spot good (Found x) may h = meant_spot good x (λ whole. may whole x refl) x.means refl h
 
   pub named_spot : GoodConstants e → (h : Head) → MayFind h.found → Holds Spotted (desig.named e h)
   named_spot good h may = found_spot good h.found may h
@@ -530,6 +645,7 @@ module _ (p : Inside) (e : Env) where
   class_typed may (Constant v) of place s h = absurd s
   class_typed may Unknown of place s h = absurd s
   class_typed may Computed of place s h = absurd s
+  class_typed may (ClassOf m n) of place s h = absurd s
 
   -- a type that has parts is none of a value's
   abbrev HasParts : TypeId → Type 0
@@ -538,7 +654,7 @@ module _ (p : Inside) (e : Env) where
   held_part : IsWhole p e → (k : Known) (h : Held) (may : Bool) (of : Option TypeId) (part : Place → Place) (t : TypeId) → k.of ≡ Some t → HasParts t →
       IsPartOf k.of of part → IsStoredHeld h k.class → IsSoundHeld p e k h → IsSoundHeld p e (known_as (desig.part_class may k.class) of) (desig.part_held part h)
   held_part whole k (Stands place) may of part t is other typed stored s = class_typed may k.class of (part place) stored (typed place s)
-  held_part whole k (Value x) may of part t is other typed stored s = absurd (by s.typed)
+  held_part whole k (Value x) may of part t is other typed stored (s, naming) = absurd (by s.typed)
     where
       same : t ≡ s.of
       same = same_Some t s.of (sym is ∙ s.known)
@@ -549,7 +665,8 @@ module _ (p : Inside) (e : Env) where
       by : IsScalar p s.of x ⊎ IsOther p s.of x → ⊥
       by (inl scalar) = not_both (sym scalar.0 ∙ ap is_basic (sym same) ∙ other.0)
       by (inr (inl is_text)) = none.0 (same ∙ is_text)
-      by (inr (inr o)) = not_both (sym o.1 ∙ ap (λ t. is_reference_type p.program.types (type_as t)) (sym same) ∙ none.1)
+      by (inr (inr (inl o))) = not_both (sym o.1 ∙ ap (λ t. is_reference_type p.program.types (type_as t)) (sym same) ∙ none.1)
+      by (inr (inr (inr routine))) = let r = other.1 whole in routine_no_parts p e whole s.of x routine r.0 (ap (row_of e.types) (sym same) ∙ r.1) r.2
 
   part_fine : (may : Bool) (of : Option TypeId) (part : Place → Place) (at : Pos) (a : Spot) → Spotted a → (t : TypeId) → a.known.of ≡ Some t → HasParts t →
       (IsWhole p e → IsPartOf a.known.of of part) → Spotted (desig.part_spot may of part at a)
@@ -602,6 +719,27 @@ module _ (p : Inside) (e : Env) where
       (sound_object p e whole (record { known = a.known; typed = read_from a.known.of a.held }) sound
       (ap (desig.is_reference e) (sym same) ∙ object_refers p e whole t object)))
       (object_made p e whole t (object_type_row p e whole t object).1)
+
+  -- a value of a procedure type that a designator is
+  procedural_held : IsWhole p e → (a : Spot) → Spotted a → (t : TypeId) → a.known.of ≡ Some t → desig.is_procedural e t ≡ true → IsOf p (read_from a.known.of a.held) (type_as t)
+  procedural_held whole a x t known procedural =
+      let sound = read_sound whole a.known a.held (x.sound whole) in
+      let same : t ≡ sound.of = same_Some t sound.of (sym known ∙ sound.known) in
+      let r = procedural_row p e whole t procedural in
+      subst (λ u. IsOf p (read_from a.known.of a.held) (type_as u)) (sym same)
+      (callable_own p e whole (record { known = a.known; typed = read_from a.known.of a.held }) sound r.0 r.1 (ap (row_of e.types) (sym same) ∙ r.2))
+
+  bound_of : (first : Pos) (of : Option TypeId) (c : Class) (h : Held) (at : Pos) → Spotted (spot of c h at) → (b : Bound) → judge.bound_value e first (spot of c h at) ≡ Some b → IsBound p e b
+  bound_of first None c h at x b is = absurd (none-some b is)
+  bound_of first (Some t) c h at x b is = λ whole.
+      let a = spot (Some t) c h at in
+      let two = if_some (desig.is_procedural e t) (Some (judge.through first a t)) b is in
+      subst (λ (b : Bound). IsCalling p e b.callee b.heading) (same_Some (judge.through first a t) b two.1)
+      (through_calling p e whole t (read_from (Some t) h) (procedural_held whole a x t refl two.0))
+
+  -- a call of what it stands for
+  pub bound_value : (first : Pos) (a : Spot) → Spotted a → (b : Bound) → judge.bound_value e first a ≡ Some b → IsBound p e b
+  bound_value first a x b is = bound_of first a.known.of a.known.class a.held a.at x b is
 
   -- a field of an object is a variable
   variable_stored : (may : Bool) → IsStored (desig.part_class may Variable)
@@ -793,4 +931,9 @@ module _ (p : Inside) (e : Env) where
     valued = x.valued;
     read = is_read a.known.class a.known.of a.held x.stored;
     sound = λ whole. read_sound whole a.known a.held (x.sound whole);
+    named = λ whole. naming_read a.known a.held x.stored (x.sound whole);
   }
+    where
+      naming_read : (k : Known) (h : Held) → IsStoredHeld h k.class → IsSoundHeld p e k h → IsNaming p e k.class (read_from k.of h)
+      naming_read k (Stands place) stored s = naming_stored p e k.class (Read (type_of k.of) place) stored
+      naming_read k (Value y) stored s = s.1

@@ -12,28 +12,31 @@ use Rattle.aos_types.specs.declared.row.TypeRow.TheVariants as row
 use Rattle.aos_types.specs.Table.{row_of, is_record, is_open}
 use Rattle.aos_typed.specs.declared.tree.TType.{TType}
 use Rattle.aos_typed.specs.declared.tree.TType.TheVariants as type
-use Rattle.aos_typed.specs.Program.{Place, Expr, Is, IsRecord}
-use Rattle.aos_typed.specs.WellTyped.{is_reference as is_reference_type}
+use Rattle.aos_typed.specs.Program.{Place, Expr, Lit, Is, IsRecord}
+use Rattle.aos_typed.specs.declared.tree.Literal.TheVariants as literal
+use Rattle.aos_typed.specs.WellTyped.{is_reference as is_reference_type, is_procedural as is_procedural_type}
 use Rattle.aos_symbols.specs.declared.env.Env.{Env}
-use Rattle.aos_symbols.specs.Env.{boolean}
+use Rattle.aos_symbols.specs.Env.{boolean, nil, procedure}
 use Rattle.aos_symbols.proofs.Holds.{Holds, holds_bind, none_left, none_right, test_is, broken}
-use Rattle.aos_check_expr.proofs.Inside.{Inside, IsPlaceOf, IsOf}
+use Rattle.aos_check_expr.proofs.Inside.{Inside, IsPlaceOf, IsOf, IsNamed}
 use Rattle.aos_check_expr.specs.declared.known.Class.{Class}
 use Rattle.aos_check_expr.specs.declared.known.Class.TheVariants.{Unknown, Computed}
 use Rattle.aos_check_expr.specs.declared.operations.Operation.{Operation}
-use Rattle.aos_check_expr.specs.Known.{Answer, is_basic, is_of_any, is_lost, value_class, type_as, answered, object_number}
+use Rattle.aos_check_expr.specs.Known.{Answer, is, is_basic, is_of_any, is_lost, is_nil, value_class, type_as, answered, as_procedure, object_number}
 use Rattle.aos_check_expr.specs.Operations as op
 use Rattle.aos_check_expr.specs.Designators as desig
 use Rattle.aos_check_expr.specs.TypeNames.{last_name}
 use Rattle.aos_check_expr.specs.Expressions as judge
-use Rattle.aos_check_expr.proofs.Types.{not_both}
+use Rattle.aos_check_expr.proofs.Types.{not_both, same_type}
 use Rattle.aos_check_expr.proofs.Good.{IsGood, IsKnownClass, joint_good, class_of_known}
-use Rattle.aos_check_expr.proofs.Stored.{IsMade, made_of}
+use Rattle.aos_check_expr.proofs.Stored.{IsMade, not_stored, made_of}
+use Rattle.aos_check_expr.proofs.Naming.{naming_made}
 use Rattle.aos_check_expr.proofs.Sound.{IsScalar, IsClosedPlace, IsOpenPlace, IsWholeRead, IsOther, IsSound, plain_sound, answered_plain}
 use Rattle.aos_check_expr.proofs.Parts.{class_answered, related_objects}
 use Rattle.aos_check_expr.proofs.Whole.{IsWhole}
-use Rattle.aos_check_expr.proofs.Objects.{either_is, IsReference, IsPartsRow, high_row, reference_kind, of_any_type, sound_object, parts_no_reference, record_no_reference}
+use Rattle.aos_check_expr.proofs.Objects.{either_is, IsReference, IsPartsRow, high_row, reference_kind, of_any_type, sound_object, parts_no_reference, record_no_reference, routine_no_parts}
 use Rattle.aos_check_expr.proofs.Pointed.{extends_reference, no_extension, made_there, names_passed, record_told, extension_named}
+use Rattle.aos_check_expr.proofs.Callable.{procedural_row, procedural_typed, callable_own, named_held}
 use Rattle.aos_check_expr.proofs.Spots.{Part}
 
 module _ (p : Inside) (e : Env) where
@@ -93,30 +96,94 @@ module _ (p : Inside) (e : Env) where
   identified_of rel.Greater b = refl
   identified_of rel.GreaterEqual b = refl
 
-  pub objects_part : (first at : Pos) (o : RelationOp) (a b : Answer) → Part p e a → Part p e b → Holds (Part p e) (related_objects p (IsWhole p e) e first at o a b)
-  objects_part first at o a b x y none =
-      let r = judge.relation_in o in
-      let are = judge.are_comparable e a.known.of b.known.of in
-      let q = op.identified r are in
+  -- an operation that gives a truth value, where it takes its operands
+  operated : (first at : Pos) (q : Operation) → q.of ≡ Some boolean → (a b : Answer) → IsKnownClass IsGood a.known.class → IsKnownClass IsGood b.known.class →
+      (IsWhole p e → q.is_kept ≡ true → IsOf p (op.joint_typed q.joint a.typed b.typed) type.Boolean) → Holds (Part p e) (op.operands first at q a b)
+  operated first at q of a b g h right none =
       let kept : q.is_kept ≡ true = test_is q.is_kept 30 at (none_left _ _ none) in
       let c = op.class_of q.joint a.known.class b.known.class in
       let typed = op.joint_typed q.joint a.typed b.typed in
-      let class = class_of_known IsGood q.joint (joint_good q.joint) a.known.class b.known.class x.class y.class in
-      subst (Part p e) (sym (joined_is q kept (identified_of r are) a b)) (record {
+      let class = class_of_known IsGood q.joint (joint_good q.joint) a.known.class b.known.class g h in
+      let made = made_of q.joint a.known.class b.known.class in
+      let own : IsMade (answered c (Some boolean) typed).known.class = class_answered IsMade c (Some boolean) typed made in
+      subst (Part p e) (sym (joined_is kept)) (record {
         class = class_answered (IsKnownClass IsGood) c (Some boolean) typed class;
-        valued = subst (λ z. not (is_lost z.known.class) ≡ true) (joined_is q kept (identified_of r are) a b) (test_is (not (is_lost (op.joined q a b).known.class)) 20 first (none_right _ _ none));
-        read = λ s. absurd (class_answered IsMade c (Some boolean) typed (made_of q.joint a.known.class b.known.class) s);
-        sound = λ w.
-            let s = x.sound w in
-            let t = y.sound w in
-            let refs = comparable s.of t.of (subst (λ k. judge.are_comparable e (Some s.of) k ≡ true) t.known (subst (λ k. judge.are_comparable e k b.known.of ≡ true) s.known (sym (identified_kept r are) ∙ kept))) in
-            plain_sound p (answered c (Some boolean) typed)
-            (answered_plain p c boolean typed class refl (compared r are a.typed b.typed (object_held w a s refs.0) (object_held w b t refs.1)));
+        valued = subst (λ z. not (is_lost z.known.class) ≡ true) (joined_is kept) (test_is (not (is_lost (op.joined q a b).known.class)) 20 first (none_right _ _ none));
+        read = λ s. absurd (not_stored (answered c (Some boolean) typed).known.class own s);
+        sound = λ w. plain_sound p (answered c (Some boolean) typed) (answered_plain p c boolean typed class made refl (right w kept));
+        named = λ w. naming_made p e (answered c (Some boolean) typed).known.class (answered c (Some boolean) typed).typed own;
       })
     where
-      joined_is : (q : Operation) → q.is_kept ≡ true → q.of ≡ Some boolean → (a b : Answer) →
-          op.joined q a b ≡ answered (op.class_of q.joint a.known.class b.known.class) (Some boolean) (op.joint_typed q.joint a.typed b.typed)
-      joined_is q kept of a b = rw (kept, of) refl
+      joined_is : q.is_kept ≡ true → op.joined q a b ≡ answered (op.class_of q.joint a.known.class b.known.class) (Some boolean) (op.joint_typed q.joint a.typed b.typed)
+      joined_is kept = rw (kept, of) refl
+
+  pub objects_part : (first at : Pos) (o : RelationOp) (a b : Answer) → Part p e a → Part p e b → Holds (Part p e) (related_objects p e first at o a b)
+  objects_part first at o a b x y =
+      let r = judge.relation_in o in
+      let are = judge.are_comparable e a.known.of b.known.of in
+      operated first at (op.identified r are) (identified_of r are) a b x.class y.class (λ w kept.
+      let s = x.sound w in
+      let t = y.sound w in
+      let refs = comparable s.of t.of (subst (λ k. judge.are_comparable e (Some s.of) k ≡ true) t.known (subst (λ k. judge.are_comparable e k b.known.of ≡ true) s.known (sym (identified_kept r are) ∙ kept))) in
+      compared r are a.typed b.typed (object_held w a s refs.0) (object_held w b t refs.1))
+
+  -- Procedure values that are compared: of procedure types, or procedures that are named, or NIL.
+
+  abbrev HasProcedure : Expr → Type 0
+  HasProcedure x = ((u : TType) × IsOf p x u × (is_procedural_type p.program.types u ≡ true)) ⊎ IsNamed p x
+
+  procedure_held : IsWhole p e → (a : Answer) (s : IsSound p a) → judge.may_be_procedure e (Some s.of) ≡ true → HasProcedure (as_procedure a)
+  procedure_held whole a s may = by (is_nil a.known.class) refl
+    where
+      procedural : desig.is_procedural e s.of ≡ true → HasProcedure a.typed
+      procedural is = let r = procedural_row p e whole s.of is in inl (type_as s.of, callable_own p e whole a s r.0 r.1 r.2, procedural_typed p e whole s.of r.0 r.1 r.2)
+
+      known : (is procedure s.of ≡ true) ⊎ (desig.is_procedural e s.of ≡ true) → HasProcedure a.typed
+      known (inl q) = inr (named_held p e whole a s (sym (same_type procedure s.of q)))
+      known (inr q) = procedural q
+
+      some : is_nil a.known.class ≡ false → (is nil s.of ≡ true) ⊎ ((is procedure s.of || desig.is_procedural e s.of) ≡ true) → HasProcedure a.typed
+      some other (inl n) = absurd (not_both (sym (s.none (sym (same_type nil s.of n))) ∙ other))
+      some other (inr q) = known (either_is (is procedure s.of) (desig.is_procedural e s.of) q)
+
+      by : (b : Bool) → is_nil a.known.class ≡ b → HasProcedure (if b then Lit literal.NoProcedure else a.typed)
+      by true none = inr refl
+      by false other = some other (either_is (is nil s.of) (is procedure s.of || desig.is_procedural e s.of) may)
+
+  matched : (r : Relation) (b : Bool) (x y : Expr) → HasProcedure x → HasProcedure y → IsOf p (op.joint_typed (op.matched r b).joint x y) type.Boolean
+  matched rel.NotEqual b x y h k = ((h, k, refl), refl)
+  matched rel.Equal b x y h k = (h, k, refl)
+  matched rel.Less b x y h k = (h, k, refl)
+  matched rel.LessEqual b x y h k = (h, k, refl)
+  matched rel.Greater b x y h k = (h, k, refl)
+  matched rel.GreaterEqual b x y h k = (h, k, refl)
+
+  matched_kept : (r : Relation) (b : Bool) → (op.matched r b).is_kept ≡ b
+  matched_kept rel.NotEqual b = refl
+  matched_kept rel.Equal b = refl
+  matched_kept rel.Less b = refl
+  matched_kept rel.LessEqual b = refl
+  matched_kept rel.Greater b = refl
+  matched_kept rel.GreaterEqual b = refl
+
+  matched_of : (r : Relation) (b : Bool) → (op.matched r b).of ≡ Some boolean
+  matched_of rel.NotEqual b = refl
+  matched_of rel.Equal b = refl
+  matched_of rel.Less b = refl
+  matched_of rel.LessEqual b = refl
+  matched_of rel.Greater b = refl
+  matched_of rel.GreaterEqual b = refl
+
+  pub procedures_part : (first at : Pos) (o : RelationOp) (a b : Answer) → Part p e a → Part p e b → Holds (Part p e) (judge.procedures_related e first at o a b)
+  procedures_part first at o a b x y =
+      let r = judge.relation_in o in
+      let are = judge.may_be_procedure e a.known.of && judge.may_be_procedure e b.known.of in
+      operated first at (op.matched r are) (matched_of r are) (judge.procedure_operand a) (judge.procedure_operand b) x.class y.class (λ w kept.
+      let s = x.sound w in
+      let t = y.sound w in
+      let may = and_parts (judge.may_be_procedure e a.known.of) (judge.may_be_procedure e b.known.of) (sym (matched_kept r are) ∙ kept) in
+      matched r are (as_procedure a) (as_procedure b)
+      (procedure_held w a s (sym (ap (judge.may_be_procedure e) s.known) ∙ may.0)) (procedure_held w b t (sym (ap (judge.may_be_procedure e) t.known) ∙ may.1)))
 
   -- Type tests.
 
@@ -159,7 +226,8 @@ module _ (p : Inside) (e : Env) where
       by (inl c) = absurd (not_both (sym (and_parts (not (is_basic s.of)) _ of_record).0 ∙ ap not c.0))
       by (inr (inl w)) = subst (λ x. IsOf p (IsRecord (desig.place_in x) (object_number u)) type.Boolean) (sym w.2) (held w.1 w.3 (ap (λ x. desig.is_passed (desig.place_in x)) (sym w.2) ∙ passed))
       by (inr (inr (inl t))) = let r = record_row (row_of e.types s.of) own in absurd ((parts_no_reference p e whole s.of r.0 r.1 r.2).0 t)
-      by (inr (inr (inr o))) = let r = record_row (row_of e.types s.of) own in absurd (not_both (sym o.1 ∙ (parts_no_reference p e whole s.of r.0 r.1 r.2).1))
+      by (inr (inr (inr (inl o)))) = let r = record_row (row_of e.types s.of) own in absurd (not_both (sym o.1 ∙ (parts_no_reference p e whole s.of r.0 r.1 r.2).1))
+      by (inr (inr (inr (inr q)))) = let r = record_row (row_of e.types s.of) own in absurd (routine_no_parts p e whole s.of a.typed q r.0 r.1 r.2)
 
   test_typed : IsWhole p e → (a : Answer) (s : IsSound p a) (u : TypeId) → judge.may_test e a (Some u) ≡ true → IsOf p (judge.test_typed e a (Some u)) type.Boolean
   test_typed whole a s u may = rw s.known (by (desig.is_record_type e s.of) refl)
@@ -200,5 +268,6 @@ module _ (p : Inside) (e : Env) where
             class = tt;
             valued = refl;
             read = λ w. absurd w;
-            sound = λ w. plain_sound p (answered Computed (Some boolean) (judge.test_typed e a (Some u))) (answered_plain p Computed boolean (judge.test_typed e a (Some u)) tt refl (test_typed w a (x.sound w) u may));
+            sound = λ w. plain_sound p (answered Computed (Some boolean) (judge.test_typed e a (Some u))) (answered_plain p Computed boolean (judge.test_typed e a (Some u)) tt tt refl (test_typed w a (x.sound w) u may));
+            named = λ w. tt;
           })

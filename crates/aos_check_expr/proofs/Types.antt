@@ -17,8 +17,9 @@ use Rattle.aos_typed.specs.declared.tree.Literal.TheVariants as literal
 use Rattle.aos_typed.specs.declared.tree.TType.{TType}
 use Rattle.aos_typed.specs.declared.tree.TType.TheVariants as type
 use Rattle.aos_typed.specs.Numbers.{id_of}
-use Rattle.aos_typed.specs.Program.{Expr, Lit, Read, Unary, Binary, And, Or, Element, Ord, Chr, CompareTexts, Len, LenBehind, SelfRef, Function, Same, Is, IsRecord, Guard, Had}
-use Rattle.aos_typed.specs.WellTyped.{bits, Includes, Fits, FitsObject, IsLiteral, HasRange, Gives, GivesOfTwo, target, is_any, is_reference, is_basic as is_basic_type}
+use Rattle.aos_typed.specs.Program.{Expr, Lit, Read, Unary, Binary, And, Or, Element, Ord, Chr, CompareTexts, Len, LenBehind, SelfRef, Function, Same, Is, IsRecord, Guard, ProcedureOf, MethodOf, SameProcedure, Had, Procedure}
+use Rattle.aos_typed.specs.Formals.{pattern_of}
+use Rattle.aos_typed.specs.WellTyped.{bits, Includes, Fits, FitsObject, IsLiteral, HasRange, Gives, GivesOfTwo, IsProcedural, target, is_any, is_reference, is_procedural, is_basic as is_basic_type}
 use Rattle.aos_symbols.specs.Env.{shortint, integer, longint, hugeint, boolean, char, set, nil, any}
 use Rattle.aos_symbols.proofs.Told.{IsTold, basic, of_any, defined}
 use Rattle.aos_check_expr.proofs.Inside.{Inside, IsOf}
@@ -169,6 +170,7 @@ literal_wider (literal.Text c) type.Set u i h = absurd h
 literal_wider (literal.Text c) type.Any u i h = absurd h
 literal_wider (literal.Text c) (type.Named o) u i h = absurd h
 literal_wider literal.Nil t u i h = absurd h
+literal_wider literal.NoProcedure t u i h = absurd h
 
 range_wider : (low high : ℤ) (t u : TType) → Includes u t → HasRange t low high → HasRange u low high
 range_wider low high (type.Integer w) u i h = integer_in (λ u. HasRange u low high) w (λ v vw. (within_wider v w low vw h.0, within_wider v w high vw h.1)) u i
@@ -254,13 +256,39 @@ basic_fits_none p t v b f = by f.1
     by (inl e) = basic_not_any t b e
     by (inr o) = none-some o.0 (sym (basic_target p t b) ∙ o.2)
 
-fits_wider : (p : Inside) (t u v : TType) → is_basic_type t ≡ true → Includes u t → Fits p.program.types t v → Fits p.program.types u v
+-- nor procedures
+
+basic_pattern : (p : Inside) (t : TType) → is_basic_type t ≡ true → pattern_of p.program t ≡ None
+basic_pattern p (type.Integer w) b = refl
+basic_pattern p type.Boolean b = refl
+basic_pattern p type.Char b = refl
+basic_pattern p type.Set b = refl
+basic_pattern p type.Any b = absurd (cc)
+basic_pattern p (type.Named o) b = absurd (cc)
+
+basic_no_procedure : (p : Inside) (t : TType) → is_basic_type t ≡ true → is_procedural p.program.types t ≡ false
+basic_no_procedure p (type.Integer W8) b = rw (p.basic 0 (omega arith)) refl
+basic_no_procedure p (type.Integer W16) b = rw (p.basic 1 (omega arith)) refl
+basic_no_procedure p (type.Integer W32) b = rw (p.basic 2 (omega arith)) refl
+basic_no_procedure p (type.Integer W64) b = rw (p.basic 3 (omega arith)) refl
+basic_no_procedure p type.Boolean b = rw (p.basic 4 (omega arith)) refl
+basic_no_procedure p type.Char b = rw (p.basic 5 (omega arith)) refl
+basic_no_procedure p type.Set b = rw (p.basic 6 (omega arith)) refl
+basic_no_procedure p type.Any b = absurd (cc)
+basic_no_procedure p (type.Named o) b = absurd (cc)
+
+basic_is_none : (p : Inside) (t : TType) → is_basic_type t ≡ true → (q : Procedure) → IsProcedural p.program t q → ⊥
+basic_is_none p t b q x = none-some x.0 (sym (basic_pattern p t b) ∙ x.1)
+
+fits_wider : (p : Inside) (t u v : TType) → is_basic_type t ≡ true → Includes u t → Fits p.program t v → Fits p.program u v
 fits_wider p t u v b i (inl k) = inl (includes_on u t v i k)
-fits_wider p t u v b i (inr o) = absurd (basic_fits_none p t v b o)
+fits_wider p t u v b i (inr (inl o)) = absurd (basic_fits_none p t v b o)
+fits_wider p t u v b i (inr (inr o)) = absurd (none-some o.0 (sym (basic_pattern p t b) ∙ o.2))
 
 basic_wider : (p : Inside) (x : Expr) (t u : TType) → is_basic_type t ≡ true → IsOf p x t → Includes u t → IsOf p x u
 basic_wider p (Lit l) t u b (inl h) i = inl (literal_wider l t u i h)
-basic_wider p (Lit l) t u b (inr r) i = absurd (not_both (sym r.1 ∙ basic_no_reference p t b))
+basic_wider p (Lit l) t u b (inr (inl r)) i = absurd (not_both (sym r.1 ∙ basic_no_reference p t b))
+basic_wider p (Lit l) t u b (inr (inr r)) i = absurd (not_both (sym r.1 ∙ basic_no_procedure p t b))
 basic_wider p (Read of place) t u b h i = (h.0, h.1, fits_wider p t u of b i h.2)
 basic_wider p (Unary op a) t u b h i = (h.0, gives_wider op t u i h.1)
 basic_wider p (Binary op x y) t u b h i = (h.0, gives_of_two_wider op t u i h.1)
@@ -282,6 +310,9 @@ basic_wider p (Guard a k) t u b h i = absurd (by h.2)
     by : (t ≡ type.Any) ⊎ ((c : TypeId) × (target p.program.types t ≡ Some c) × (comes_to p.program.types (id_of (type.Named k)) c ≡ true)) → ⊥
     by (inl e) = basic_not_any t b e
     by (inr o) = none-some o.0 (sym (basic_target p t b) ∙ o.1)
+basic_wider p (ProcedureOf m k) t u b (q, there, fits) i = absurd (basic_is_none p t b q fits)
+basic_wider p (MethodOf a o k) t u b (typed, object, (q, there, fits)) i = absurd (basic_is_none p t b q fits)
+basic_wider p (SameProcedure x y) t u b h i = (h.0, h.1, boolean_wider t u i h.2)
 basic_wider p (Had v) t u b h i = absurd h
 
 pub wider : (p : Inside) (x : Expr) (t u : TType) → IsOf p x t → Includes u t → IsOf p x u

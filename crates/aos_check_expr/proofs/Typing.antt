@@ -1,5 +1,7 @@
 -- Expressions that break no rule are well typed, where the types of all variables are known and all constants have values.
-use Rattle.std.proofs.Common.{◌≡◌, ℕ, suc, List, [], length, ap, Bool, true, false, not, ◌||◌, Option, Some, None, is_some, if◌then◌else◌, refl, sym, ◌∙◌}
+use Rattle.std.proofs.Common.{◌≡◌, ℕ, suc, List, [], length, ap, Bool, true, false, not, ◌||◌, Option, Some, None, is_some, option_and_then, if◌then◌else◌, refl, sym, ◌∙◌, subst}
+use Rattle.std.specs.Option.{option_or}
+use Rattle.std.proofs.lemmas.Option.{same_Some}
 use Rattle.aos_base.specs.declared.text.Pos.{Pos}
 use Rattle.aos_base.specs.declared.number.Width.TheVariants.{W64}
 use Rattle.aos_tree.specs.declared.name.Name.{Name}
@@ -16,6 +18,7 @@ use Rattle.aos_tree.specs.declared.expr.Desig.{Desig, Row_of-Selector, end_of-Se
 use Rattle.aos_tree.specs.declared.expr.Selector.{Selector, items-the_row-Expr}
 use Rattle.aos_tree.specs.declared.expr.Selector.TheVariants as s
 use Rattle.aos_types.specs.declared.row.TypeId.{TypeId}
+use Rattle.aos_typed.specs.Program.{Callee, Expr as TypedExpr}
 use Rattle.aos_typed.specs.declared.tree.Literal.TheVariants as literal
 use Rattle.aos_typed.specs.declared.tree.TType.TheVariants as type
 use Rattle.aos_typed.specs.Numbers.{predeclared_rows}
@@ -30,8 +33,10 @@ use Rattle.aos_base.specs.Number.{if_within}
 use Rattle.aos_base.specs.Operators.{natural}
 use Rattle.aos_check_expr.proofs.Inside.{IsOf, AreRows}
 use Rattle.aos_check_expr.specs.declared.known.Class.{Class}
-use Rattle.aos_check_expr.specs.declared.known.Class.TheVariants.{Unknown, Constant, Variable, ReadOnly, Computed}
+use Rattle.aos_check_expr.specs.declared.known.Class.TheVariants.{Unknown, Constant, Variable, ReadOnly, Computed, Procedure}
 use Rattle.aos_check_expr.specs.declared.designators.Head.{Head}
+use Rattle.aos_check_expr.specs.declared.signatures.Heading.{Heading}
+use Rattle.aos_check_expr.specs.declared.signatures.Heading.TheVariants as heading
 use Rattle.aos_check_expr.specs.Known.{Answer, Spot, read_from, is_number, is_boolean, is_char, is_lost, constant_answer}
 use Rattle.aos_check_expr.specs.Operations as op
 use Rattle.aos_check_expr.specs.Designators as desig
@@ -39,10 +44,10 @@ use Rattle.aos_check_expr.specs.Expressions as judge
 use Rattle.aos_check_expr.proofs.Good.{IsKnownClass, within_if, natural_below}
 use Rattle.aos_check_expr.proofs.Parts.{Elements, as_part, constant_part, added_part, multiplied_part, related_part, signed_part, opposite_part, number_part, character_part, string_part, no_elements, with_element_part, with_span_part, whole_part}
 use Rattle.aos_check_expr.proofs.Selves.{object_type_row}
-use Rattle.aos_check_expr.proofs.Called.{IsBound, if_some, dispatched_calling, own_calling, raised_calling}
-use Rattle.aos_check_expr.proofs.Spots.{MayFind, IsStoredHeld, Part, Spotted, refused_part, refused_value_part, spotted, object_held, guarded_part, plain_head, behind_head, named_spot, field_part, element_part, followed_part, read_part}
+use Rattle.aos_check_expr.proofs.Called.{IsCalling, IsBound, if_some, and_then_some, dispatched_calling, own_calling, raised_calling}
+use Rattle.aos_check_expr.proofs.Spots.{MayFind, IsStoredHeld, Part, Spotted, refused_part, refused_value_part, spotted, object_held, guarded_part, plain_head, behind_head, procedure_part, called_named, variable_named, bound_value, named_spot, field_part, element_part, followed_part, read_part}
 use Rattle.aos_check_expr.proofs.Passed.{invoked_part}
-use Rattle.aos_check_expr.proofs.Tested.{objects_part, tested_part}
+use Rattle.aos_check_expr.proofs.Tested.{objects_part, procedures_part, tested_part}
 use Rattle.aos_check_expr.proofs.CallParts.{Parts, called_part}
 use Rattle.aos_check_expr.proofs.Worded.{first_below, texts_part}
 pub use Rattle.aos_check_expr.proofs.Types.{wider}
@@ -63,7 +68,7 @@ module _ (p : Inside) (e : Env) (good : GoodConstants e) where
   IsFineSpot = Holds (Spotted p e)
 
   abbrev AreFine : Judged Answer → Type 0
-  AreFine = Holds (Elements p (IsWhole p e))
+  AreFine = Holds (Elements p e)
 
   after : (j : Judged Answer) (g : Answer → Judged Answer) → IsFine j → ((a : Answer) → Part p e a → IsFine (g a)) → IsFine (bind j g)
   after = holds_bind (Part p e) (Part p e)
@@ -80,14 +85,36 @@ module _ (p : Inside) (e : Env) (good : GoodConstants e) where
   part_of : (j : Judged Spot) → IsFineSpot j → IsFinePart (judge.as_part j)
   part_of j h = holds_bind (Spotted p e) Parted j (λ a. kept (judge.Meant a)) h (λ a x none. x)
 
+  -- a method that isn't called
+  unbound_of : (c : Callee) (h : Heading) (first : Pos) → (IsWhole p e → IsCalling p e c h) → IsFineSpot (judge.unbound e (record { callee = c; heading = h; first = first }))
+  unbound_of c (heading.OfType t) first calling = spotted p e first (desig.refused_value 36 first) (refused_value_part p e 36 first)
+  unbound_of c (heading.Declared m k) first calling = by (judge.value_called c) refl
+    where
+      by : (o : Option TypedExpr) → judge.value_called c ≡ o → IsFineSpot (judge.unbound e (record { callee = c; heading = heading.Declared m k; first = first }))
+      by None is = rw is (spotted p e first (desig.refused_value 36 first) (refused_value_part p e 36 first))
+      by (Some x) is = rw is (procedure_part p e m k x first first (λ whole. called_named p e c x m k is (calling whole)))
+
+  unbound_fine : (b : judge.Bound) → IsBound p e b → IsFineSpot (judge.unbound e b)
+  unbound_fine b calling = unbound_of b.callee b.heading b.first calling
+
+  named_fine : (h : Head) → MayFind p e h.found → (o : Option judge.Bound) → judge.own_method e h ≡ o → IsFineSpot (judge.named_or_bound e h o)
+  named_fine h may None found = named_spot p e good h may
+  named_fine h may (Some b) found = unbound_fine b (λ whole. own_calling p e whole h b found)
+
   pub spot_fine : (a : judge.Part) → Parted a → IsFineSpot (judge.spot_of_part e a)
-  spot_fine (judge.Begun h) may = named_spot p e good h may
+  spot_fine (judge.Begun h) may = named_fine h may (judge.own_method e h) refl
   spot_fine (judge.Meant a) x = λ none. x
-  spot_fine (judge.Waits b) x =
-      spotted p e b.first (desig.refused_value (judge.unbound_rule b.callee) b.first) (refused_value_part p e (judge.unbound_rule b.callee) b.first)
+  spot_fine (judge.Waits b) x = unbound_fine b x
+
+  selected_name_fine : (q : Pos) (h : Head) → MayFind p e h.found → IsFineSpot (judge.selected_name e q h)
+  selected_name_fine q h may = by (judge.is_method h.found)
+    where
+      by : (b : Bool) → IsFineSpot (if b then desig.spotted h.first (desig.refused 42 q) else desig.named e h)
+      by true = spotted p e h.first (desig.refused 42 q) (refused_part p e 42 q)
+      by false = named_spot p e good h may
 
   selected_fine : (q : Pos) (a : judge.Part) → Parted a → IsFineSpot (judge.selected e q a)
-  selected_fine q (judge.Begun h) may = named_spot p e good h may
+  selected_fine q (judge.Begun h) may = selected_name_fine q h may
   selected_fine q (judge.Meant a) x = λ none. x
   selected_fine q (judge.Waits b) x = spotted p e b.first (desig.refused 42 q) (refused_part p e 42 q)
 
@@ -120,7 +147,7 @@ module _ (p : Inside) (e : Env) (good : GoodConstants e) where
     where
       by : (b : Bool) → IsFinePart (if b then kept (judge.Begun (desig.member_behind e h n)) else judge.pointed_name e first h q n)
       by true = λ none. behind_head p e h.found n
-      by false = holds_bind (Spotted p e) Parted (desig.named e h) (λ a. judge.pointed_spot e first a q n) (named_spot p e good h may) (λ a x. pointed_spot_fine first a x q n)
+      by false = holds_bind (Spotted p e) Parted (judge.selected_name e q h) (λ a. judge.pointed_spot e first a q n) (selected_name_fine q h may) (λ a x. pointed_spot_fine first a x q n)
   pointed_fine first (judge.Meant a) x q n = pointed_spot_fine first a x q n
   pointed_fine first (judge.Waits b) x q n = part_of (judge.selected e q (judge.Waits b)) (selected_fine q (judge.Waits b) x)
 
@@ -146,14 +173,23 @@ module _ (p : Inside) (e : Env) (good : GoodConstants e) where
   followed_part_fine (judge.Waits b) x q = followed_spot_fine (judge.Waits b) x q
 
   -- a bracket behind it
-  bound_head_fine : (h : Head) → MayFind p e h.found → (o : Option judge.Bound) → judge.own_method e h ≡ o → Parted (judge.bound_head h o)
-  bound_head_fine h may None found = may
-  bound_head_fine h may (Some b) found = λ whole. own_calling p e whole h b found
+  bound_head_fine : (h : Head) → MayFind p e h.found → (b : judge.Bound) → judge.bound_head e h ≡ Some b → IsBound p e b
+  bound_head_fine h may b = by (judge.own_method e h) refl
+    where
+      by : (o : Option judge.Bound) → judge.own_method e h ≡ o → option_or o (option_and_then (judge.bound_value e h.first) (desig.variable_named e h)) ≡ Some b → IsBound p e b
+      by (Some c) found is = subst (IsBound p e) (same_Some c b is) (λ whole. own_calling p e whole h c found)
+      by None found is =
+          let a = and_then_some (judge.bound_value e h.first) (desig.variable_named e h) b is in
+          bound_value p e h.first a.0 (variable_named p e h.found h.name h.first may a.0 a.1) b a.2
 
-  pub bound_fine : (a : judge.Part) → Parted a → Parted (judge.bound_part e a)
-  bound_fine (judge.Begun h) may = bound_head_fine h may (judge.own_method e h) refl
-  bound_fine (judge.Meant a) x = x
-  bound_fine (judge.Waits b) x = x
+  bound_or_fine : (a : judge.Part) → Parted a → (o : Option judge.Bound) → ((b : judge.Bound) → o ≡ Some b → IsBound p e b) → Parted (judge.bound_or a o)
+  bound_or_fine a x None each = x
+  bound_or_fine a x (Some b) each = each b refl
+
+  pub bound_fine : (first : Pos) (a : judge.Part) → Parted a → Parted (judge.bound_part e first a)
+  bound_fine first (judge.Begun h) may = bound_or_fine (judge.Begun h) may (judge.bound_head e h) (bound_head_fine h may)
+  bound_fine first (judge.Meant a) x = bound_or_fine (judge.Meant a) x (judge.bound_value e first a) (bound_value p e first a x)
+  bound_fine first (judge.Waits b) x = x
 
   pub bracketed_as_fine : (first : Pos) (a : judge.Part) → Parted a → (q : Pos) (js : List (Judged Answer)) → Parts p e js → (xs : List Expr) → length js ≡ length xs →
       IsFinePart (judge.bracketed_as e first a q js xs)
@@ -165,11 +201,11 @@ module _ (p : Inside) (e : Env) (good : GoodConstants e) where
   bracketed_as_fine first (judge.Meant a) x q js parts xs many =
       part_of (desig.guarded e first q a (judge.guard_type e xs)) (guarded_part p e first q a x (judge.guard_type e xs))
   bracketed_as_fine first (judge.Waits b) x q js parts xs many =
-      let j = judge.invoked e b.first b.callee b.home b.number js xs in
-      part_of (desig.spotted b.first j) (spotted p e b.first j (invoked_part p e b.first b.callee b.home b.number x js parts xs many))
+      let j = judge.invoked e b.first b.callee b.heading js xs in
+      part_of (desig.spotted b.first j) (spotted p e b.first j (invoked_part p e b.first b.callee b.heading x js parts xs many))
 
   pub bracketed_fine : (first : Pos) (a : judge.Part) → Parted a → (q : Pos) (js : List (Judged Answer)) → Parts p e js → (xs : List Expr) → length js ≡ length xs → IsFinePart (judge.bracketed e first a q js xs)
-  bracketed_fine first a x q js parts xs many = bracketed_as_fine first (judge.bound_part e a) (bound_fine a x) q js parts xs many
+  bracketed_fine first a x q js parts xs many = bracketed_as_fine first (judge.bound_part e first a) (bound_fine first a x) q js parts xs many
 
   -- there are as many arguments as expressions
   as_many : {m : _} (r : Row_of-Expr m) → length (judge.arguments e r) ≡ length (items-the_row-Expr _ r)
@@ -184,7 +220,7 @@ module _ (p : Inside) (e : Env) (good : GoodConstants e) where
   relation_by first at o a h right fine true is = tested_part p e at a h (judge.qualident_in right)
   relation_by first at o a h right fine false isnt =
       after (judge.simple e right) (λ b. judge.related_by e first at o a b) fine
-      (λ b k. related_part p (IsWhole p e) e first at o a b isnt (texts_part p e first o a b h k) (λ are. objects_part p e first at o a b h k) h k)
+      (λ b k. related_part p e first at o a b isnt (texts_part p e first o a b h k) (λ are. procedures_part p e first at o a b h k) (λ are. objects_part p e first at o a b h k) h k)
 
   mutual
     expr_fine : (x : Expr) → IsFine (judge.expr e x)
@@ -200,7 +236,7 @@ module _ (p : Inside) (e : Env) (good : GoodConstants e) where
     simple_fine : (x : Simple) → IsFine (judge.simple e x)
     simple_fine (Simple' at sign first shape rest) =
         after (bind (judge.term e first) (λ a. judge.signed sign at a)) (λ a. judge.additions e at a rest)
-        (after (judge.term e first) (λ a. judge.signed sign at a) (term_fine first) (λ a h. signed_part p (IsWhole p e) sign at a h))
+        (after (judge.term e first) (λ a. judge.signed sign at a) (term_fine first) (λ a h. signed_part p e sign at a h))
         (λ a h. additions_fine at a h rest)
 
     additions_fine : {m : _} (first : Pos) (a : Answer) → Part p e a → (r : Row_of-Addition m) → IsFine (judge.additions e first a r)
@@ -209,7 +245,7 @@ module _ (p : Inside) (e : Env) (good : GoodConstants e) where
         after (judge.addition e first a x) (λ b. judge.additions e first b xs) (addition_fine first a h x) (λ b k. additions_fine first b k xs)
 
     addition_fine : (first : Pos) (a : Answer) → Part p e a → (x : Addition) → IsFine (judge.addition e first a x)
-    addition_fine first a h (Addition' at o right) = after (judge.term e right) (λ b. judge.added first at o a b) (term_fine right) (λ b k. added_part p (IsWhole p e) first at o a b h k)
+    addition_fine first a h (Addition' at o right) = after (judge.term e right) (λ b. judge.added first at o a b) (term_fine right) (λ b k. added_part p e first at o a b h k)
 
     term_fine : (x : Term) → IsFine (judge.term e x)
     term_fine (Term' at first shape rest) = after (judge.factor e first) (λ a. judge.products e at a rest) (factor_fine first) (λ a h. products_fine at a h rest)
@@ -218,7 +254,7 @@ module _ (p : Inside) (e : Env) (good : GoodConstants e) where
     products_fine first a h end_of-Product = λ none. h
     products_fine first a h (more_of-Product at o right xs) =
         after (bind (judge.factor e right) (λ b. judge.multiplied first at o a b)) (λ b. judge.products e first b xs)
-        (after (judge.factor e right) (λ b. judge.multiplied first at o a b) (factor_fine right) (λ b k. multiplied_part p (IsWhole p e) first at o a b h k))
+        (after (judge.factor e right) (λ b. judge.multiplied first at o a b) (factor_fine right) (λ b k. multiplied_part p e first at o a b h k))
         (λ b k. products_fine first b k xs)
 
     factor_fine : (x : Factor) → IsFine (judge.factor e x)
@@ -227,15 +263,15 @@ module _ (p : Inside) (e : Env) (good : GoodConstants e) where
         let j = judge.selectors e n.pos begun row in
         holds_bind (Spotted p e) (Part p e) (bind j (judge.spot_of_part e)) (desig.read e)
         (holds_bind Parted (Spotted p e) j (judge.spot_of_part e) (selectors_fine n.pos begun (plain_head p e n) row) spot_fine) (read_part p e)
-    factor_fine (f.Number q n) = number_part p (IsWhole p e) (if_within W64 n) (within_if W64 n) q
-    factor_fine (f.Char q n) = character_part p (IsWhole p e) (natural 256 n) (natural_below 256 n) q
-    factor_fine (f.Text t) = string_part p (IsWhole p e) (text_constant e t.start) (first_below e t.start) t.pos
-    factor_fine (f.Nil q) = as_part p (IsWhole p e) (kept (constant_answer literal.Nil)) (λ none. constant_part p (IsWhole p e) literal.Nil tt)
+    factor_fine (f.Number q n) = number_part p e (if_within W64 n) (within_if W64 n) q
+    factor_fine (f.Char q n) = character_part p e (natural 256 n) (natural_below 256 n) q
+    factor_fine (f.Text t) = string_part p e (text_constant e t.start) (first_below e t.start) t.pos
+    factor_fine (f.Nil q) = as_part p e (kept (constant_answer literal.Nil)) (λ none. constant_part p e literal.Nil tt)
     factor_fine (f.Set' q shape row) =
-        holds_bind (Elements p (IsWhole p e)) (Part p e) (judge.elements e q op.no_elements row) (λ a. judge.whole_set q a)
-        (elements_fine q op.no_elements (no_elements p (IsWhole p e)) row) (λ a h. whole_part p (IsWhole p e) q a h)
+        holds_bind (Elements p e) (Part p e) (judge.elements e q op.no_elements row) (λ a. judge.whole_set q a)
+        (elements_fine q op.no_elements (no_elements p e) row) (λ a h. whole_part p e q a h)
     factor_fine (f.Paren' q shape row) = held_fine row
-    factor_fine (f.Not' q shape row) = after (judge.held_factor e row) (λ a. judge.opposite q a) (held_factor_fine row) (λ a h. opposite_part p (IsWhole p e) q a h)
+    factor_fine (f.Not' q shape row) = after (judge.held_factor e row) (λ a. judge.opposite q a) (held_factor_fine row) (λ a h. opposite_part p e q a h)
 
     held_fine : {m : _} (r : Row_of-Expr m) → IsFine (judge.held e r)
     held_fine end_of-Expr = refused_answer 99 judge.no_place
@@ -245,18 +281,18 @@ module _ (p : Inside) (e : Env) (good : GoodConstants e) where
     held_factor_fine end_of-Factor = refused_answer 99 judge.no_place
     held_factor_fine (more_of-Factor x xs) = factor_fine x
 
-    elements_fine : {m : _} (at : Pos) (a : Answer) → Elements p (IsWhole p e) a → (r : Row_of-Elem m) → AreFine (judge.elements e at a r)
+    elements_fine : {m : _} (at : Pos) (a : Answer) → Elements p e a → (r : Row_of-Elem m) → AreFine (judge.elements e at a r)
     elements_fine at a h end_of-Elem = λ none. h
     elements_fine at a h (more_of-Elem x xs) =
-        holds_bind (Elements p (IsWhole p e)) (Elements p (IsWhole p e)) (judge.element e at a x) (λ b. judge.elements e at b xs)
+        holds_bind (Elements p e) (Elements p e) (judge.element e at a x) (λ b. judge.elements e at b xs)
         (element_fine at a h x) (λ b k. elements_fine at b k xs)
 
-    element_fine : (at : Pos) (a : Answer) → Elements p (IsWhole p e) a → (x : Elem) → AreFine (judge.element e at a x)
+    element_fine : (at : Pos) (a : Answer) → Elements p e a → (x : Elem) → AreFine (judge.element e at a x)
     element_fine at a h (Elem' x Elem-last-None') =
-        holds_bind (Part p e) (Elements p (IsWhole p e)) (judge.expr e x) (λ b. judge.with_element at a b) (expr_fine x) (λ b k. with_element_part p (IsWhole p e) at a b h k)
+        holds_bind (Part p e) (Elements p e) (judge.expr e x) (λ b. judge.with_element at a b) (expr_fine x) (λ b k. with_element_part p e at a b h k)
     element_fine at a h (Elem' x (Elem-last-Some' y)) =
-        holds_bind (Part p e) (Elements p (IsWhole p e)) (judge.expr e x) (λ b. bind (judge.expr e y) (λ c. judge.with_span at a b c)) (expr_fine x)
-        (λ b k. holds_bind (Part p e) (Elements p (IsWhole p e)) (judge.expr e y) (λ c. judge.with_span at a b c) (expr_fine y) (λ c l. with_span_part p (IsWhole p e) at a b c h k l))
+        holds_bind (Part p e) (Elements p e) (judge.expr e x) (λ b. bind (judge.expr e y) (λ c. judge.with_span at a b c)) (expr_fine x)
+        (λ b k. holds_bind (Part p e) (Elements p e) (judge.expr e y) (λ c. judge.with_span at a b c) (expr_fine y) (λ c l. with_span_part p e at a b c h k l))
 
     selectors_fine : {m : _} (first : Pos) (a : judge.Part) → Parted a → (r : Row_of-Selector m) → IsFinePart (judge.selectors e first a r)
     selectors_fine first a h end_of-Selector = λ none. h
@@ -360,3 +396,4 @@ constant_good e good x =
     by Variable g v = broken HasGood _ [] _
     by ReadOnly g v = broken HasGood _ [] _
     by Computed g v = broken HasGood _ [] _
+    by (Procedure m n) g v = broken HasGood _ [] _

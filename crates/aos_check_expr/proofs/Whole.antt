@@ -14,10 +14,12 @@ use Rattle.aos_types.specs.Sameness.{element_of}
 use Rattle.aos_typed.specs.Numbers.{id_of}
 use Rattle.aos_typed.specs.Open.{open_dimensions, open_element}
 use Rattle.aos_typed.specs.declared.tree.TType.{TType}
-use Rattle.aos_typed.specs.Program.{Place, ModuleVar, Of, Rows, Parameter, Procedure, ObjectType, Module, Program}
-use Rattle.aos_typed.specs.Methods.{method_in}
+use Rattle.aos_typed.specs.Program.{Place, ModuleVar, Of, Rows, Parameter, Procedure, Module}
+use Rattle.aos_typed.specs.declared.tree.TType.TheVariants as type
+use Rattle.aos_typed.specs.Formals.{pattern_of}
+use Rattle.aos_typed.specs.Methods.{method_in, initializer}
 use Rattle.aos_typed.specs.Routines.{self_type, result_of}
-use Rattle.aos_typed.specs.WellTyped.{HaveLengths, field_type, procedure_in}
+use Rattle.aos_typed.specs.WellTyped.{HaveLengths, IsPattern, field_type, procedure_in}
 use Rattle.aos_symbols.specs.declared.home.Parameter.{Parameter as Formal}
 use Rattle.aos_symbols.specs.declared.home.Gives.{Gives}
 use Rattle.aos_symbols.specs.declared.home.Gives.TheVariants as gives
@@ -64,12 +66,15 @@ GoodConstants e = (o : Open) (s : Scope) → env.scope e o ≡ Some s → Each (
 abbrev pub IsParameterType : Env → TypeId → Type 0
 IsParameterType e t = IsTold e.types t ⊎ (desig.is_opened e t ≡ true)
 
--- the parameters of the typed program are those of a signature
-abbrev pub AreParameters : Env → List Formal → List Parameter → Type 0
-AreParameters e [] as' = as' ≡ []
-AreParameters e (x ∷ xs) as' =
+-- the parameters of the typed program are those of a signature, whose types are all such
+abbrev pub AreFormalsOf : (Kind : TypeId → Type 0) → List Formal → List Parameter → Type 0
+AreFormalsOf Kind [] as' = as' ≡ []
+AreFormalsOf Kind (x ∷ xs) as' =
     (a : Parameter) × (rest : List Parameter) × (t : TypeId) × (as' ≡ a ∷ rest) × (x.of ≡ Some t) × (a.of ≡ type_as t)
-    × (a.by_reference ≡ x.by_reference) × IsParameterType e t × AreParameters e xs rest
+    × (a.by_reference ≡ x.by_reference) × Kind t × AreFormalsOf Kind xs rest
+
+abbrev pub AreParameters : Env → List Formal → List Parameter → Type 0
+AreParameters e xs as' = AreFormalsOf (IsParameterType e) xs as'
 
 abbrev pub IsResultOf : Gives → Option TType → Type 0
 IsResultOf gives.Nothing r = r ≡ None
@@ -146,14 +151,11 @@ NarrowsWell e x k a (v ∷ vs) =
     (desig.is_narrowed x k v ≡ true → desig.may_test e (desig.is_passed (desig.place_of a.held)) a.known.of (Some v.of) ≡ true)
     × NarrowsWell e x k (desig.narrowed_by e x k a v) vs
 
--- the objects of the type with this number have a body, which NEW of one starts
-abbrev pub HasBody : Program → ℕ → Type 0
-HasBody p t = option_map (λ (o : ObjectType). o.has_body) (slice_get p.objects t) ≡ Some true
-
 -- The environment is that of bodies: each variable in the scope of a module or of the procedure has its type, the table is the program's
 -- and begins with what is predeclared, the types behind the first ten are its object types, each procedure that a module's scope names is as its signature says,
--- a body without a signature gives nothing, SELF is of an object type, whose fields and methods are those of the program, objects of types
--- that have a body have one there, and each module's string constants are those of its text.
+-- a body without a signature gives nothing, SELF is of an object type, whose fields, methods and initializer are those of the program,
+-- beside each procedure type stands what has its formals, no type is that of procedures that are named, and each module's string
+-- constants are those of its text.
 pub record IsWhole (p : Inside) (e : Env) : Type 0 where
   pub variables : (o : Open) (s : Scope) (w : List ℕ) (x : Entry) (k : ℕ) → o.scope ≡ 0 → env.scope e o ≡ Some s → find s w ≡ Some x →
       x.means ≡ means.Variable k → IsTyped p e (ModuleVar o.home k) (env.variable_type e o k)
@@ -179,7 +181,12 @@ pub record IsWhole (p : Inside) (e : Env) : Type 0 where
       (u : TypeId) × (env.variable_type e o k ≡ Some u) × (field_type e.types t (env.field_number e b k) ≡ Some u) × IsTold e.types u
   pub methods : (t : TypeId) (n : Name) (m : Method) → env.method e t n ≡ Some m → is_object (row_of e.types t) ≡ true →
       (s : Signature) → env.signature e m.home m.number ≡ Some s → (q : Procedure) × (method_in p.program (object_number t) m.slot ≡ Some q) × IsSigned e s q
-  pub bodies : (t : TypeId) → env.body_of e t ≡ Some t → HasBody p.program (object_number t)
+  pub initials : (t : TypeId) → is_object (row_of e.types t) ≡ true → initializer p.program (object_number t) ≡ option_map (λ (m : Method). m.slot) (env.initializer e t)
+  pub initial : (t : TypeId) (m : Method) → env.initializer e t ≡ Some m → is_object (row_of e.types t) ≡ true →
+      (s : Signature) → env.signature e m.home m.number ≡ Some s → (q : Procedure) × (method_in p.program (object_number t) m.slot ≡ Some q) × (q.result ≡ None) × IsSigned e s q
+  pub patterns : (t : TypeId) (formals : List (Bool × TypeId)) (r : Option TypeId) → row_of e.types t ≡ Some (row.Procedure formals r) →
+      (q : Procedure) × (pattern_of p.program (type.Named (object_number t)) ≡ Some q) × IsPattern q formals r
+  pub unnamed : row_of e.types env.procedure ≡ None
   pub signatures : (m k : ℕ) (s : Scope) (w : List ℕ) (x : Entry) → env.scope e (env.own m) ≡ Some s → find s w ≡ Some x → x.means ≡ means.Procedure k →
       (g : Signature) → env.signature e m k ≡ Some g → (q : Procedure) × (procedure_in p.program m k ≡ Some q) × IsSigned e g q
   pub strings : (m : ℕ) (h : Home) → env.home e m ≡ Some h →

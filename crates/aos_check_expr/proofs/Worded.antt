@@ -46,10 +46,11 @@ use Rattle.aos_check_expr.specs.Expressions as judge
 use Rattle.aos_check_expr.proofs.Types.{same_type}
 use Rattle.aos_check_expr.proofs.Good.{IsGood, MayBe, IsKnownClass, natural_below, joint_good, class_of_known}
 use Rattle.aos_check_expr.proofs.Opens.{closed_row, closed_dimensions, closed_element, next_dimensions, next_element}
-use Rattle.aos_check_expr.proofs.Stored.{IsMade, made_of}
-use Rattle.aos_check_expr.proofs.Sound.{not_both, IsScalar, IsClosedPlace, IsOpenPlace, IsWholeRead, IsOther, IsObject, IsSound, plain_sound, answered_plain}
+use Rattle.aos_check_expr.proofs.Stored.{IsMade, not_stored, made_of}
+use Rattle.aos_check_expr.proofs.Naming.{naming_made}
+use Rattle.aos_check_expr.proofs.Sound.{not_both, IsScalar, IsClosedPlace, IsOpenPlace, IsWholeRead, IsOther, IsObject, IsRoutine, IsSound, basic_some, plain_sound, answered_plain}
 use Rattle.aos_check_expr.proofs.Parts.{class_answered, related_texts}
-use Rattle.aos_check_expr.proofs.Objects.{IsPartsRow, parts_no_reference}
+use Rattle.aos_check_expr.proofs.Objects.{routine_no_parts, IsPartsRow, parts_no_reference}
 use Rattle.aos_check_expr.proofs.Spots.{IsTyped, IsWhole, text_row, no_array, no_open, opened_row, held_place, Part, Valued}
 
 -- The first character of a string constant.
@@ -114,6 +115,14 @@ module _ (p : Inside) (e : Env) (whole : IsWhole p e) where
       by : IsArrayRow t has.0 (row_of e.types t) → ⊥
       by (inl n) = none (row.Array n.0 has.0) n.1 tt
       by (inr at) = none (row.Open has.0) at tt
+
+  -- nor a procedure
+  pub no_routine : (t : TypeId) (x : Expr) → HasArray t → IsRoutine p t x → ⊥
+  no_routine t x has o = by has.2
+    where
+      by : IsArrayRow t has.0 (row_of e.types t) → ⊥
+      by (inl n) = routine_no_parts p e whole t x o (row.Array n.0 has.0) n.1 tt
+      by (inr at) = routine_no_parts p e whole t x o (row.Open has.0) at tt
 
   -- Arrays of characters.
 
@@ -213,7 +222,8 @@ module _ (p : Inside) (e : Env) (whole : IsWhole p e) where
   pub lengths_read : (n : ℕ) (t : TypeId) (x : Expr) → IsScalar p t x ⊎ (IsWholeRead p t x ⊎ IsOther p t x) → HaveLengths (judge.array_rows e n (Some t) (place_in x))
   lengths_read n t x (inl s) = lengths_by n t (place_in x) (λ opening. absurd (not_both (sym s.0 ∙ (opened_row e t opening).1)))
   lengths_read n t x (inr (inl w)) = subst (λ y. HaveLengths (judge.array_rows e n (Some t) (place_in y))) (sym w.2) (lengths_held n t w.1 w.3)
-  lengths_read n t x (inr (inr (inr o))) = lengths_by n t (place_in x) (λ opening. let u = opened_row e t opening in absurd (no_object t x (u.0, u.1, inr u.2) o))
+  lengths_read n t x (inr (inr (inr (inl o)))) = lengths_by n t (place_in x) (λ opening. let u = opened_row e t opening in absurd (no_object t x (u.0, u.1, inr u.2) o))
+  lengths_read n t x (inr (inr (inr (inr r)))) = lengths_by n t (place_in x) (λ opening. let u = opened_row e t opening in absurd (no_routine t x (u.0, u.1, inr u.2) r))
   lengths_read n t x (inr (inr (inl q))) = lengths_by n t (place_in x) (λ opening. let u = opened_row e t opening in absurd (no_open u.0 (text_row p e whole t (row.Open u.0) q u.2)))
 
   -- an array of characters that is a variable has the length of its first dimension
@@ -306,7 +316,8 @@ module _ (p : Inside) (e : Env) (whole : IsWhole p e) where
           subst (λ x. AreRows p (judge.array_rows e 1 (Some sound.of) (place_in x)) 1 type.Char) (sym w.2)
           (rows_read sound.of a.known.class w.1 w.3 is)
       by (inr (inr (inl t))) is = absurd (no_text sound.of t (characters_row sound.of a.known.class is).0)
-      by (inr (inr (inr o))) is = absurd (no_object sound.of a.typed (characters_row sound.of a.known.class is).0 o)
+      by (inr (inr (inr (inl o)))) is = absurd (no_object sound.of a.typed (characters_row sound.of a.known.class is).0 o)
+      by (inr (inr (inr (inr r)))) is = absurd (no_routine sound.of a.typed (characters_row sound.of a.known.class is).0 r)
 
   pub text_rows_are : (a : Answer) → IsSound p a → judge.may_be_text e a.known ≡ true → AreRows p (judge.text_rows e a) 1 type.Char
   text_rows_are a sound may = by (judge.string_in e a.known.class) refl
@@ -386,7 +397,8 @@ module _ (p : Inside) (e : Env) (whole : IsWhole p e) where
           of_rows (rows_of (place_in a.typed)) (subst (λ x. HasRows t (rows_of (place_in x))) (sym w.2) (rows_held t w.1 w.3))
           (nat_lt d (open_dimensions e.types t)) refl
       by (inr (inr (inl q))) = absurd (no_text t q (array_row t array))
-      by (inr (inr (inr o))) = absurd (no_object t a.typed (array_row t array) o)
+      by (inr (inr (inr (inl o)))) = absurd (no_object t a.typed (array_row t array) o)
+      by (inr (inr (inr (inr r)))) = absurd (no_routine t a.typed (array_row t array) r)
 
 module _ (p : Inside) (e : Env) where
   -- Texts compared.
@@ -419,12 +431,12 @@ module _ (p : Inside) (e : Env) where
   texts_made r c d = by (judge.string_in e c) (judge.string_in e d) refl refl
     where
       by : (s t : Option TextConstant) → judge.string_in e c ≡ s → judge.string_in e d ≡ t → IsMade (judge.texts_class e r c d)
-      by (Some s) (Some t) i j = rw (i, j) (λ w. w)
+      by (Some s) (Some t) i j = rw (i, j) tt
       by (Some s) None i j = rw (i, j) (made_of joint.And c d)
       by None t i j = rw i (made_of joint.And c d)
 
   pub texts_part : (first : Pos) (o : RelationOp) (a b : Answer) → Part p e a → Part p e b → judge.compares_texts e o a.known b.known ≡ true →
-      Holds (Part p e) (related_texts p (IsWhole p e) e first o a b)
+      Holds (Part p e) (related_texts p e first o a b)
   texts_part first o a b x y are none =
       let r = judge.relation_in o in
       let whole = judge.texts_related e r a b in
@@ -432,12 +444,14 @@ module _ (p : Inside) (e : Env) where
       let known = texts_class_known r a.known.class b.known.class x.class y.class in
       let may = both_may o a.known b.known are in
       let compared = CompareTexts r (judge.text_rows e a) (judge.text_rows e b) in
+      let made : IsMade whole.known.class = class_answered IsMade c (Some boolean) compared (texts_made r a.known.class b.known.class) in
       record {
         class = class_answered (IsKnownClass IsGood) c (Some boolean) compared known;
         valued = test_is (not (is_lost whole.known.class)) 20 first none;
-        read = λ s. absurd (class_answered IsMade c (Some boolean) compared (texts_made r a.known.class b.known.class) s);
+        read = λ s. absurd (not_stored whole.known.class made s);
         sound = λ w. plain_sound p whole
-            (answered_plain p c boolean compared known refl (text_rows_are p e w a (x.sound w) may.0, text_rows_are p e w b (y.sound w) may.1, refl));
+            (answered_plain p c boolean compared known (texts_made r a.known.class b.known.class) refl (text_rows_are p e w a (x.sound w) may.0, text_rows_are p e w b (y.sound w) may.1, refl));
+        named = λ w. naming_made p e whole.known.class whole.typed made;
       }
 
   -- LEN.
@@ -453,8 +467,8 @@ module _ (p : Inside) (e : Env) where
   len_valued a d x array has = rw (array, len_computed a.known.class x.class) (record {
     class = tt;
     valued = refl;
-    made = λ s. s;
-    plain = λ w. record { of = longint; known = refl; typed = inl (refl, typed w) };
+    made = tt;
+    plain = λ w. record { of = longint; known = refl; none = basic_some p longint refl; typed = inl (refl, typed w) };
   })
     where
       typed : IsWhole p e → IsOf p (judge.len_typed e a.known.of (rows_of (place_in a.typed)) d) (type.Integer W32)

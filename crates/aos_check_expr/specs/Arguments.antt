@@ -25,10 +25,10 @@ use Rattle.aos_symbols.specs.Breaches.{breach}
 use Rattle.aos_symbols.specs.Judged.{Judged, judged, kept, bind}
 use Rattle.aos_symbols.specs.Env as env
 use Rattle.aos_check_expr.specs.declared.known.Class.{Class}
-use Rattle.aos_check_expr.specs.declared.known.Class.TheVariants.{Unknown, Constant, Variable, ReadOnly, Computed}
+use Rattle.aos_check_expr.specs.declared.known.Class.TheVariants.{Unknown, Constant, Variable, ReadOnly, Computed, Procedure}
 use Rattle.aos_check_expr.specs.declared.known.Known.{Known}
 use Rattle.aos_check_expr.specs.Known.{Answer, is, passes}
-use Rattle.aos_check_expr.specs.Designators.{has_parts, is_opened, is_record_type, is_value, is_compatible, with_type, place_in}
+use Rattle.aos_check_expr.specs.Designators.{has_parts, is_opened, is_record_type, is_value, is_assignable, typed_for, with_type, place_in}
 use Rattle.aos_check_expr.specs.Arrays.{is_array, is_characters, string_in, text_for, has_room, rows_in}
 
 -- An expression that is a designator.
@@ -83,6 +83,7 @@ variable_rule true Variable = None
 variable_rule true ReadOnly = Some 33
 variable_rule true (Constant v) = Some 32
 variable_rule true Computed = Some 32
+variable_rule true (Procedure m n) = Some 32
 
 -- the type of an array's elements, and the type behind so many dimensions
 abbrev pub element_in : Option TypeRow → Option TypeId
@@ -129,7 +130,7 @@ value_rule e t k = by (text_for e (variable_of t) k.class)
   where
     by : Option TextConstant → Option ℕ
     by (Some s) = Some (if has_room e (Some t) s then 99 else 35)
-    by None = or_else (broken_unless 35 (is_compatible e k.of (Some t))) (broken_unless 99 (is_value e t || has_parts e t))
+    by None = or_else (broken_unless 35 (is_assignable e k (Some t))) (broken_unless 99 (is_value e t || has_parts e t))
 
 -- by reference the types are the same, or are records of which the argument's extends the parameter's
 abbrev pub is_referable : Env → TypeId → Option TypeId → Bool
@@ -171,7 +172,7 @@ listed (g ∷ gs) = given_as g (listed gs)
 -- record's own type
 abbrev pub given_unopened : Env → (by_reference : Bool) → TypeId → Answer → Given
 given_unopened e true t a = Whole (with_type e a.known.of (place_in a.typed))
-given_unopened e false t a = if has_parts e t then Whole (place_in a.typed) else Scalar a.typed
+given_unopened e false t a = if has_parts e t then Whole (place_in a.typed) else Scalar (typed_for e (Some t) a)
 
 abbrev pub given : Env → Parameter → Answer → Given
 given e p a = by p.of

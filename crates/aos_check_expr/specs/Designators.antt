@@ -9,15 +9,16 @@ use Rattle.aos_types.specs.declared.row.TypeRow.{TypeRow}
 use Rattle.aos_types.specs.declared.row.TypeRow.TheVariants as row
 use Rattle.aos_typed.specs.declared.tree.Literal.{Literal}
 use Rattle.aos_typed.specs.declared.tree.Literal.TheVariants as literal
-use Rattle.aos_types.specs.Table.{is_open, is_record, is_pointer, is_object}
+use Rattle.aos_types.specs.Table.{is_open, is_record, is_pointer, is_object, is_procedure}
 use Rattle.aos_types.specs.Extension.{extends}
 use Rattle.aos_types.specs.Fit.{fits as fits_of}
-use Rattle.aos_typed.specs.Program.{Place, ModuleVar, Local, Passed, Index, Of, Deref, Typed, Guarded, Rows, Known, Opened, Row, Spread, Expr, SelfRef, Read, Guard}
+use Rattle.aos_typed.specs.Program.{Place, ModuleVar, Local, Passed, Index, Of, Deref, Typed, Guarded, Rows, Known, Opened, Row, Spread, Expr, SelfRef, Read, Guard, ProcedureOf}
 use Rattle.aos_typed.specs.Program.{Field as FieldOf}
 use Rattle.aos_typed.specs.WellTyped.{is_whole}
 use Rattle.aos_typed.specs.Open.{open_dimensions, open_element, first_same}
 use Rattle.aos_symbols.specs.declared.breach.Breach.{Breach}
 use Rattle.aos_symbols.specs.declared.home.Parameter.{Parameter}
+use Rattle.aos_symbols.specs.declared.home.Signature.{Signature}
 use Rattle.aos_symbols.specs.declared.scope.Meaning.{Meaning}
 use Rattle.aos_symbols.specs.declared.scope.Meaning.TheVariants as means
 use Rattle.aos_symbols.specs.declared.env.Open.{Open}
@@ -32,9 +33,11 @@ use Rattle.aos_symbols.specs.Judged.{Judged, judged, kept, bind}
 use Rattle.aos_symbols.specs.Spelling.{word, is_among, procedures_of_out}
 use Rattle.aos_symbols.specs.Env as env
 use Rattle.aos_check_expr.specs.declared.known.Class.{Class}
-use Rattle.aos_check_expr.specs.declared.known.Class.TheVariants.{Unknown, Constant, Variable, ReadOnly, Computed}
+use Rattle.aos_check_expr.specs.declared.known.Class.TheVariants.{Unknown, Constant, Variable, ReadOnly, Computed, Procedure}
+use Rattle.aos_check_expr.specs.declared.known.Known.{Known as KnownPart}
 use Rattle.aos_check_expr.specs.declared.designators.Head.{Head}
-use Rattle.aos_check_expr.specs.Known.{Answer, Spot, Held, Stands, Value, passes, is_basic, is_of_any, is_long_text, is_number, fits_type, object_number, type_as, unknown, some_value, constant_answer, answered, nothing, spot_of, read_from, known_as, value_class, lost}
+use Rattle.aos_check_expr.specs.Signatures.{type_signature, same_signature}
+use Rattle.aos_check_expr.specs.Known.{Answer, Spot, Held, Stands, Value, passes, is, is_basic, is_of_any, is_long_text, is_number, fits_type, object_number, type_as, unknown, some_value, constant_answer, answered, nothing, spot_of, read_from, known_as, value_class, lost, as_procedure}
 
 -- A head is what is found of a name, the name, and where the designator begins.
 
@@ -107,8 +110,9 @@ constant_of None at = judged (lost (Constant None) at) (answered (Constant None)
 constant_of (Some None) at = kept unknown
 constant_of (Some (Some v)) at = kept (constant_answer v)
 
--- Types: a basic type, that of string constants, one of records or arrays, which have parts, an open array, or one whose values are
--- objects: a pointer, an object type, ANY and that of NIL. What is of the others isn't built.
+-- Types: a basic type, that of string constants, one of records or arrays, which have parts, an open array, a procedure type, that of
+-- procedures that are named, or one whose values are objects: a pointer, an object type, ANY and that of NIL. What is of the others
+-- isn't built.
 
 abbrev pub has_parts : Env → TypeId → Bool
 has_parts e t = not (is_basic t) && is_whole (env.row_of e (Some t))
@@ -128,12 +132,15 @@ is_object_type e t = not (is_basic t) && is_object (env.row_of e (Some t))
 abbrev pub is_reference : Env → TypeId → Bool
 is_reference e t = is_of_any t || (is_pointer_type e t || is_object_type e t)
 
+abbrev pub is_procedural : Env → TypeId → Bool
+is_procedural e t = not (is_basic t) && is_procedure (env.row_of e (Some t))
+
 -- values of the type are scalars
 abbrev pub is_value : Env → TypeId → Bool
-is_value e t = is_basic t || is_reference e t
+is_value e t = is_basic t || (is_reference e t || is_procedural e t)
 
 abbrev pub is_built : Env → TypeId → Bool
-is_built e t = (is_value e t || is_long_text t) || (has_parts e t || is_opened e t)
+is_built e t = (is_value e t || (is_long_text t || is env.procedure t)) || (has_parts e t || is_opened e t)
 
 -- what a pointer leads to
 abbrev pub pointed_in : Option TypeRow → Option TypeId
@@ -161,6 +168,28 @@ is_compatible e (Some from) (Some to) =
     if is_basic from || is_basic to then fits_type from to else not (is_long_text from) && fits_of e.types from to
 is_compatible e _ _ = true
 
+-- a procedure that is named fits a procedure type whose signature is the same
+abbrev pub is_signed_as : Env → TypeId → (home number : ℕ) → Bool
+is_signed_as e t m n = by (env.signature e m n) (type_signature e t)
+  where
+    by : Option Signature → Option Signature → Bool
+    by (Some s) (Some r) = same_signature e.types s r
+    by s r = false
+
+-- what is known of a value lets it be assigned to a variable of a type
+abbrev pub is_assignable : Env → KnownPart → Option TypeId → Bool
+is_assignable e k None = true
+is_assignable e k (Some t) = by k.class
+  where
+    by : Class → Bool
+    by (Procedure m n) = is_signed_as e t m n
+    by c = is_compatible e k.of (Some t)
+
+-- and what it is there in the typed program
+abbrev pub typed_for : Env → Option TypeId → Answer → Expr
+typed_for e None a = a.typed
+typed_for e (Some t) a = if is_procedural e t then as_procedure a else a.typed
+
 -- the place of a variable, and that which an expression reads
 abbrev pub place_of : Held → Place
 place_of (Stands p) = p
@@ -183,6 +212,7 @@ part_class may Unknown = Unknown
 part_class may (Constant v) = Constant v
 part_class may ReadOnly = ReadOnly
 part_class may Computed = Computed
+part_class may (Procedure m n) = Procedure m n
 
 abbrev pub part_held : (Place → Place) → Held → Held
 part_held part (Stands p) = Stands (part p)
@@ -368,6 +398,23 @@ variable e x k at =
       at = at;
     }
 
+-- as the WITHs around it narrow it
+abbrev pub variable_spot : Env → Symbol → ℕ → Pos → Spot
+variable_spot e x k at = narrowed e x k (variable e x k at)
+
+-- the variable that a name stands for, where it stands for one
+abbrev pub variable_meant : Env → Symbol → Meaning → Pos → Option Spot
+variable_meant e x (means.Variable k) at = Some (variable_spot e x k at)
+variable_meant e x m at = None
+
+abbrev pub variable_named : Env → Head → Option Spot
+variable_named e h = by h.found
+  where
+    by : Lookup → Option Spot
+    by NoName = None
+    by NotExported = None
+    by (Found x) = variable_meant e x x.means h.name.pos
+
 -- SELF, which is a value in the methods and the body of an object type, and elsewhere may be anything
 abbrev pub self_spot : TypeId → Pos → Spot
 self_spot t at = record { known = known_as Computed (Some t); held = Value SelfRef; at = at }
@@ -379,7 +426,15 @@ self_of (Some t) at = kept (self_spot t at)
 abbrev pub itself : Env → Pos → Judged Spot
 itself e at = self_of e.self_type at
 
--- what a name stands for that is no call: the name of a type or a module is no value, nor is a procedure
+-- a procedure as a value: its signature has these numbers. Where its heading isn't met yet a constant is needed
+abbrev pub procedure_spot : Env → (home number : ℕ) → Expr → (first at : Pos) → Judged Spot
+procedure_spot e m k x first at = by (env.signature e m k)
+  where
+    by : Option Signature → Judged Spot
+    by None = spotted at (refused_value 20 first)
+    by (Some s) = kept (record { known = known_as (Procedure m k) None; held = Value x; at = at })
+
+-- what a name stands for that is no call: the name of a type or a module is no value, nor is a predeclared procedure
 abbrev pub meant_otherwise : Meaning → Head → Judged Spot
 meant_otherwise (means.Type of) h = spotted h.name.pos (refused 16 h.name.pos)
 meant_otherwise (means.Module m) h = spotted h.name.pos (refused 16 h.name.pos)
@@ -390,9 +445,15 @@ meant_otherwise (means.Routine r) h = spotted h.name.pos (refused_value 36 h.fir
 meant_otherwise means.Proper h = spotted h.name.pos (refused_value 36 h.first)
 meant_otherwise m h = spotted h.name.pos (refused_value 99 h.first)
 
+abbrev pub procedure_meant : Env → Symbol → ℕ → Head → Judged Spot
+procedure_meant e x k h =
+    if is_of_module x then procedure_spot e x.at.home k (ProcedureOf x.at.home k) h.first h.name.pos
+    else meant_otherwise (means.Procedure k) h
+
 abbrev pub meant : Env → Symbol → Meaning → Head → Judged Spot
-meant e x (means.Variable k) h = kept (narrowed e x k (variable e x k h.name.pos))
+meant e x (means.Variable k) h = kept (variable_spot e x k h.name.pos)
 meant e x (means.Constant k) h = spotted h.name.pos (constant_of (env.constant e x.at k h.first) h.name.pos)
+meant e x (means.Procedure k) h = procedure_meant e x k h
 meant e x means.Itself h = itself e h.name.pos
 meant e x m h = meant_otherwise m h
 
@@ -492,6 +553,7 @@ written Variable first = []
 written ReadOnly first = breach 33 first
 written (Constant v) first = breach 32 first
 written Computed first = breach 32 first
+written (Procedure m n) first = breach 32 first
 
 abbrev pub assigned : Env → Pos → Spot → Judged Spot
 assigned e first a = judged (written a.known.class first ++ breach_unless (passes (is_built e) a.known.of) 99 a.at) a

@@ -1,5 +1,6 @@
 -- Expressions: which rules they break, what is known of them and what they are in the typed program (Oberon-2 report, section
 -- 8).
+use Rattle.std.specs.Option.{option_or}
 use Rattle.std.specs.Prelude.{ℕ, ℤ, pos, List, [], ◌∷◌, ◌++◌, Bool, true, false, not, ◌&&◌, ◌||◌, Option, Some, None, is_some, option_map, option_and_then, if◌then◌else◌}
 use Rattle.aos_base.specs.declared.text.Pos.{Pos}
 use Rattle.aos_base.specs.declared.number.Width.TheVariants.{W64}
@@ -32,7 +33,8 @@ use Rattle.aos_types.specs.Table.{row_of, base_of}
 use Rattle.aos_typed.specs.declared.tree.Literal.{Literal}
 use Rattle.aos_typed.specs.declared.tree.Literal.TheVariants as literal
 use Rattle.aos_typed.specs.declared.tree.TextConstant.{TextConstant}
-use Rattle.aos_typed.specs.Program.{Callee as TypedCallee, Plain, Dispatched, Upper, Expr as Typed, SelfRef, CompareTexts, Function as Invoked, Is, IsRecord}
+use Rattle.aos_typed.specs.Program.{Callee as TypedCallee, Plain, Dispatched, Upper, Through, Expr as Typed, ProcedureOf, MethodOf, SelfRef, CompareTexts, Function as Invoked, Is, IsRecord}
+use Rattle.aos_symbols.specs.declared.home.Parameter.{Parameter}
 use Rattle.aos_symbols.specs.declared.home.Gives.{Gives}
 use Rattle.aos_symbols.specs.declared.home.Gives.TheVariants as gives
 use Rattle.aos_symbols.specs.declared.home.Signature.{Signature}
@@ -49,17 +51,22 @@ use Rattle.aos_symbols.specs.Breaches.{breach, breach_unless}
 use Rattle.aos_symbols.specs.Judged.{Judged, judged, kept, bind, walk}
 use Rattle.aos_symbols.specs.Env as env
 use Rattle.aos_check_expr.specs.declared.known.Class.{Class}
-use Rattle.aos_check_expr.specs.declared.known.Class.TheVariants.{Unknown, Constant, Variable, ReadOnly, Computed}
+use Rattle.aos_check_expr.specs.declared.known.Class.TheVariants.{Unknown, Constant, Variable, ReadOnly, Computed, Procedure}
 use Rattle.aos_check_expr.specs.declared.known.Known.{Known}
 use Rattle.aos_check_expr.specs.declared.designators.Head.{Head}
 use Rattle.aos_check_expr.specs.declared.operations.Joint.TheVariants as joint
 use Rattle.aos_check_expr.specs.declared.operations.Step.{Step}
 use Rattle.aos_check_expr.specs.declared.operations.Operation.{Operation}
+use Rattle.aos_check_expr.specs.declared.signatures.Heading.{Heading}
+use Rattle.aos_check_expr.specs.declared.signatures.Heading.TheVariants as heading
 use Rattle.aos_check_expr.specs.declared.calls.Limit.{Limit}
 use Rattle.aos_check_expr.specs.declared.calls.Limit.TheVariants as which
-use Rattle.aos_check_expr.specs.Known.{Answer, Spot, passes, is, is_of_any, is_number, is_boolean, is_integer, object_number, value_class, constant_answer, answered, nothing, read_from}
+use Rattle.aos_check_expr.specs.declared.calls.Taking.{Taking}
+use Rattle.aos_check_expr.specs.declared.calls.Taking.TheVariants as taking
+use Rattle.aos_check_expr.specs.Known.{Answer, Spot, passes, is, is_of_any, is_number, is_boolean, is_integer, object_number, value_class, constant_answer, answered, nothing, read_from, as_procedure}
 use Rattle.aos_check_expr.specs.Operations as op
 use Rattle.aos_check_expr.specs.Designators as desig
+pub use Rattle.aos_check_expr.specs.Signatures.{signature_of}
 pub use Rattle.aos_check_expr.specs.Arrays.{is_array, length_of, is_opening, array_in, lengths_from, open_rows, array_rows, length_behind, len_typed, len_answer, number_in, has_dimension, is_dimension, len_alone, len_in, is_characters, string_in, is_text, is_only_text, may_be_text, are_texts, string_rows, rows_in, text_rows, has_room, text_for}
 pub use Rattle.aos_check_expr.specs.Arguments.{is_factor, first_factor, desig_in, desig_alone, Handing, nothing_handed, listed, handed_from, arguments_for, is_factor_of, first_factor_of}
 pub use Rattle.aos_check_expr.specs.TypeNames.{named_type, known_type}
@@ -219,23 +226,28 @@ function_answer c of h =
 abbrev pub function_told : Env → (first : Pos) → TypedCallee → Option TypeId → Handing → Judged Answer
 function_told e first c of h = judged (breach_unless (passes (desig.is_value e) of) 99 first) (function_answer c of h)
 
-abbrev pub function_value : Env → (first : Pos) → TypedCallee → Signature → Option TypeId → List (Judged Answer) → List Expr → Judged Answer
-function_value e first c s of js xs = bind (arguments_for e first s.parameters js xs) (function_told e first c of)
+abbrev pub function_value : Env → (first : Pos) → TypedCallee → List Parameter → Option TypeId → List (Judged Answer) → List Expr → Judged Answer
+function_value e first c ps of js xs = bind (arguments_for e first ps js xs) (function_told e first c of)
+
+abbrev pub value_given : Env → (first : Pos) → TypedCallee → Gives → List Parameter → List (Judged Answer) → List Expr → Judged Answer
+value_given e first c gives.Nothing ps js xs = desig.refused_value 36 first
+value_given e first c (gives.Value of) ps js xs = function_value e first c ps of js xs
 
 abbrev pub value_of_procedure : Env → (first : Pos) → TypedCallee → Signature → List (Judged Answer) → List Expr → Judged Answer
-value_of_procedure e first c s js xs = by s.gives
-  where
-    by : Gives → Judged Answer
-    by gives.Nothing = desig.refused_value 36 first
-    by (gives.Value of) = function_value e first c s of js xs
+value_of_procedure e first c s js xs = value_given e first c s.gives s.parameters js xs
 
--- What is called has the signature with these numbers. Where its heading isn't met yet a constant is needed.
-abbrev pub invoked : Env → (first : Pos) → TypedCallee → (home number : ℕ) → List (Judged Answer) → List Expr → Judged Answer
-invoked e first c m k js xs = by (env.signature e m k)
+-- What is called has this heading. Where that isn't met yet a constant is needed.
+abbrev pub invoked : Env → (first : Pos) → TypedCallee → Heading → List (Judged Answer) → List Expr → Judged Answer
+invoked e first c h js xs = by (signature_of e h)
   where
     by : Option Signature → Judged Answer
     by None = desig.refused_value 20 first
     by (Some s) = value_of_procedure e first c s js xs
+
+-- what has one argument does this to one of a type
+abbrev pub step_in : Taking → Option TypeId → Step
+step_in (taking.By f) of = op.applied f of
+step_in (taking.Into t) of = op.converted t of
 
 -- a predeclared function's value
 abbrev pub function_called : Env → Function → (first : Pos) → List (Judged Answer) → List Expr → Judged Answer
@@ -243,25 +255,25 @@ function_called e function.Max first js xs = limit e op.greatest_value xs first
 function_called e function.Min first js xs = limit e op.least_value xs first
 function_called e function.Len first js xs = len_of e first js xs
 function_called e function.Ash first js xs = two_of first js xs
-function_called e f first js xs = one_of (λ of. op.applied f of) first js xs
+function_called e f first js xs = one_of (step_in (taking.By f)) first js xs
 
 abbrev pub called_by : Env → Callee → Head → Pos → List (Judged Answer) → List Expr → Judged Spot
 called_by e (Calls f) h at js xs = desig.spotted h.first (function_called e f h.first js xs)
-called_by e (Invokes m k) h at js xs = desig.spotted h.first (invoked e h.first (Plain m k) m k js xs)
-called_by e (Converts t) h at js xs = desig.spotted h.first (one_of (λ of. op.converted t of) h.first js xs)
+called_by e (Invokes m k) h at js xs = desig.spotted h.first (invoked e h.first (Plain m k) (heading.Declared m k) js xs)
+called_by e (Converts t) h at js xs = desig.spotted h.first (one_of (step_in (taking.Into t)) h.first js xs)
 called_by e Neither h at js xs = not_called e h at xs
 
 abbrev pub called : Env → Head → Pos → List (Judged Answer) → List Expr → Judged Spot
 called e h at js xs = called_by e (callee h.found) h at js xs
 
--- a method that waits for its bracket: what is called, the numbers of its signature, and where its designator begins
+-- a method, or what a value of a procedure type stands for, that waits for its bracket: what is called, its heading, and where its
+-- designator begins
 pub record Bound : Type 0 where
   pub callee : TypedCallee
-  pub home : ℕ
-  pub number : ℕ
+  pub heading : Heading
   pub first : Pos
 
--- what a designator is so far: a name, which a bracket may call, a variable or a value, or a method of an object
+-- what a designator is so far: a name, which a bracket may call, a variable or a value, or what waits for its bracket
 pub data Part : Type 0 where
   Begun : Head → Part
   Meant : Spot → Part
@@ -273,7 +285,7 @@ as_part j = bind j (λ a. kept (Meant a))
 -- Methods. One is called on an object, of which a type is known, and dispatched by the object's own type.
 abbrev pub dispatched : Pos → Typed → TypeId → Method → Bound
 dispatched first x t m =
-    record { callee = Dispatched x (object_number t) m.slot; home = m.home; number = m.number; first = first }
+    record { callee = Dispatched x (object_number t) m.slot; heading = heading.Declared m.home m.number; first = first }
 
 -- the method that a plain name stands for, which is called on SELF
 abbrev pub method_meant : Symbol → Meaning → Bool
@@ -293,7 +305,8 @@ own_method e h = if is_method h.found then option_and_then (λ t. method_on e t 
 
 -- `m^` is the method that a base of SELF's type has, where the type itself declares m
 abbrev pub upper_method : Pos → TypeId → Method → Bound
-upper_method first b m = record { callee = Upper (object_number b) m.slot; home = m.home; number = m.number; first = first }
+upper_method first b m =
+    record { callee = Upper (object_number b) m.slot; heading = heading.Declared m.home m.number; first = first }
 
 abbrev pub declares : TypeId → Option Method → Bool
 declares t None = false
@@ -315,24 +328,36 @@ raised_to (Some b) first p = kept (Waits b)
 abbrev pub raised : Env → Head → Pos → Judged Part
 raised e h p = raised_to (upper_here e h) h.first p
 
--- a method that isn't called is a procedure as a value, which isn't built, and `m^` is none
-abbrev pub unbound_rule : TypedCallee → ℕ
-unbound_rule (Upper t k) = 36
-unbound_rule (Plain m k) = 99
-unbound_rule (Dispatched x t k) = 99
+-- a method that isn't called is a procedure as a value, with its object, and `m^` is none
+abbrev pub value_called : TypedCallee → Option Typed
+value_called (Plain m k) = Some (ProcedureOf m k)
+value_called (Dispatched x t k) = Some (MethodOf x t k)
+value_called (Upper t k) = None
+value_called (Through x t) = None
 
-abbrev pub unbound : Bound → Judged Spot
-unbound b = desig.spotted b.first (desig.refused_value (unbound_rule b.callee) b.first)
+abbrev pub unbound : Env → Bound → Judged Spot
+unbound e b = by b.heading (value_called b.callee)
+  where
+    by : Heading → Option Typed → Judged Spot
+    by (heading.Declared m k) (Some x) = desig.procedure_spot e m k x b.first b.first
+    by h x = desig.spotted b.first (desig.refused_value 36 b.first)
 
 -- as a variable or a value
+abbrev pub named_or_bound : Env → Head → Option Bound → Judged Spot
+named_or_bound e h None = desig.named e h
+named_or_bound e h (Some b) = unbound e b
+
 abbrev pub spot_of_part : Env → Part → Judged Spot
-spot_of_part e (Begun h) = desig.named e h
+spot_of_part e (Begun h) = named_or_bound e h (own_method e h)
 spot_of_part e (Meant a) = kept a
-spot_of_part e (Waits b) = unbound b
+spot_of_part e (Waits b) = unbound e b
 
 -- the same, before a selector at a place that methods haven't
+abbrev pub selected_name : Env → Pos → Head → Judged Spot
+selected_name e p h = if is_method h.found then desig.spotted h.first (desig.refused 42 p) else desig.named e h
+
 abbrev pub selected : Env → Pos → Part → Judged Spot
-selected e p (Begun h) = desig.named e h
+selected e p (Begun h) = selected_name e p h
 selected e p (Meant a) = kept a
 selected e p (Waits b) = desig.spotted b.first (desig.refused 42 p)
 
@@ -357,7 +382,7 @@ abbrev pub pointed_spot : Env → (first : Pos) → Spot → Pos → Name → Ju
 pointed_spot e first a p n = pointed_as e first a p n a.known.of (method_of e a.known.of n)
 
 abbrev pub pointed_name : Env → (first : Pos) → Head → Pos → Name → Judged Part
-pointed_name e first h p n = bind (desig.named e h) (λ a. pointed_spot e first a p n)
+pointed_name e first h p n = bind (selected_name e p h) (λ a. pointed_spot e first a p n)
 
 -- a point behind what there is so far: a name of a module, a field, or a method
 abbrev pub pointed : Env → (first : Pos) → Part → Pos → Name → Judged Part
@@ -376,15 +401,29 @@ followed_part e (Begun h) p = if is_method h.found then raised e h p else follow
 followed_part e (Meant a) p = followed_spot e (Meant a) p
 followed_part e (Waits b) p = followed_spot e (Waits b) p
 
--- before a bracket: a plain name that stands for a method is that
-abbrev pub bound_head : Head → Option Bound → Part
-bound_head h None = Begun h
-bound_head h (Some b) = Waits b
+-- Before a bracket a plain name that stands for a method is that, and a value of a procedure type is what it stands for.
+abbrev pub through : (first : Pos) → Spot → TypeId → Bound
+through first a t =
+    record { callee = Through (read_from a.known.of a.held) (object_number t); heading = heading.OfType t; first = first }
 
-abbrev pub bound_part : Env → Part → Part
-bound_part e (Begun h) = bound_head h (own_method e h)
-bound_part e (Meant a) = Meant a
-bound_part e (Waits b) = Waits b
+abbrev pub bound_value : Env → (first : Pos) → Spot → Option Bound
+bound_value e first a = by a.known.of
+  where
+    by : Option TypeId → Option Bound
+    by None = None
+    by (Some t) = if desig.is_procedural e t then Some (through first a t) else None
+
+abbrev pub bound_head : Env → Head → Option Bound
+bound_head e h = option_or (own_method e h) (option_and_then (bound_value e h.first) (desig.variable_named e h))
+
+abbrev pub bound_or : Part → Option Bound → Part
+bound_or a None = a
+bound_or a (Some b) = Waits b
+
+abbrev pub bound_part : Env → (first : Pos) → Part → Part
+bound_part e first (Begun h) = bound_or (Begun h) (bound_head e h)
+bound_part e first (Meant a) = bound_or (Meant a) (bound_value e first a)
+bound_part e first (Waits b) = Waits b
 
 -- a bracket behind it, whose arguments are judged so: a call, or a guard
 abbrev pub bracketed_name : Env → Head → Pos → List (Judged Answer) → List Expr → Judged Part
@@ -394,7 +433,7 @@ bracketed_name e h p js xs =
     else as_part (called e h p js xs)
 
 abbrev pub bracketed_method : Env → Bound → List (Judged Answer) → List Expr → Judged Part
-bracketed_method e b js xs = as_part (desig.spotted b.first (invoked e b.first b.callee b.home b.number js xs))
+bracketed_method e b js xs = as_part (desig.spotted b.first (invoked e b.first b.callee b.heading js xs))
 
 abbrev pub bracketed_as : Env → Pos → Part → Pos → List (Judged Answer) → List Expr → Judged Part
 bracketed_as e first (Begun h) p js xs = bracketed_name e h p js xs
@@ -402,7 +441,7 @@ bracketed_as e first (Meant a) p js xs = as_part (desig.guarded e first p a (gua
 bracketed_as e first (Waits b) p js xs = bracketed_method e b js xs
 
 abbrev pub bracketed : Env → Pos → Part → Pos → List (Judged Answer) → List Expr → Judged Part
-bracketed e first a p js xs = bracketed_as e first (bound_part e a) p js xs
+bracketed e first a p js xs = bracketed_as e first (bound_part e first a) p js xs
 
 -- The tables at a place.
 
@@ -504,6 +543,26 @@ is_equality o = false
 abbrev pub compares_objects : Env → RelationOp → Option TypeId → Option TypeId → Bool
 compares_objects e o a b = is_equality o && (is_the_reference e a || is_the_reference e b)
 
+-- Procedure values are the same or differ, whatever the formals of their types: those of variables, procedures that are named, and NIL.
+
+abbrev pub is_the_procedure : Env → Option TypeId → Bool
+is_the_procedure e None = false
+is_the_procedure e (Some t) = is env.procedure t || desig.is_procedural e t
+
+abbrev pub may_be_procedure : Env → Option TypeId → Bool
+may_be_procedure e = passes (λ t. is env.nil t || (is env.procedure t || desig.is_procedural e t))
+
+abbrev pub compares_procedures : Env → RelationOp → Option TypeId → Option TypeId → Bool
+compares_procedures e o a b = is_equality o && (is_the_procedure e a || is_the_procedure e b)
+
+abbrev pub procedure_operand : Answer → Answer
+procedure_operand a = record { known = a.known; typed = as_procedure a }
+
+abbrev pub procedures_related : Env → Pos → Pos → RelationOp → Answer → Answer → Judged Answer
+procedures_related e first at o a b =
+    op.operands first at (op.matched (relation_in o) (may_be_procedure e a.known.of && may_be_procedure e b.known.of)) (procedure_operand a)
+    (procedure_operand b)
+
 abbrev pub operation_of : Env → RelationOp → Option TypeId → Option TypeId → Operation
 operation_of e o a b =
     if compares_objects e o a b then op.identified (relation_in o) (are_comparable e a b) else op.related o a b
@@ -511,6 +570,7 @@ operation_of e o a b =
 abbrev pub related_by : Env → Pos → Pos → RelationOp → Answer → Answer → Judged Answer
 related_by e first at o a b =
     if compares_texts e o a.known b.known then op.told first [] (texts_related e (relation_in o) a b)
+    else if compares_procedures e o a.known.of b.known.of then procedures_related e first at o a b
     else op.operands first at (operation_of e o a.known.of b.known.of) a b
 
 abbrev pub signed : Option Sign → Pos → Answer → Judged Answer
@@ -541,6 +601,7 @@ constant_class Unknown at = kept None
 constant_class Variable at = judged (breach 20 at) None
 constant_class ReadOnly at = judged (breach 20 at) None
 constant_class Computed at = judged (breach 20 at) None
+constant_class (Procedure m n) at = judged (breach 20 at) None
 
 -- a bracket or `~` has one part, so that nothing is refused here
 abbrev pub no_place : Pos

@@ -1,4 +1,4 @@
--- What is known of a part of an expression: its type, and whether it is a constant, a variable or something else. A part that
+-- What is known of a part of an expression: its type, and whether it is a constant, a variable, a procedure that is named, or something else. A part that
 -- breaks a rule may be anything, so that no further rule is broken by it.
 use Rattle.std.specs.Prelude.{ℕ, ◌-◌, ℤ, pos, negsuc, List, length, Bool, true, false, not, ◌&&◌, ◌||◌, ◌==◌, nat_lt, nat_le, Option, Some, None, is_some, if◌then◌else◌}
 use Rattle.aos_base.specs.declared.text.Pos.{Pos}
@@ -13,9 +13,9 @@ use Rattle.aos_typed.specs.declared.tree.TType.TheVariants as type
 use Rattle.aos_typed.specs.Program.{Place, Expr, Lit, Read}
 use Rattle.aos_symbols.specs.declared.breach.Breach.{Breach}
 use Rattle.aos_symbols.specs.Breaches.{breach_unless}
-use Rattle.aos_symbols.specs.Env.{shortint, integer, longint, hugeint, boolean, char, set, nil, any, text, basic_rows}
+use Rattle.aos_symbols.specs.Env.{shortint, integer, longint, hugeint, boolean, char, set, nil, any, text, procedure, basic_rows}
 use Rattle.aos_check_expr.specs.declared.known.Class.{Class}
-use Rattle.aos_check_expr.specs.declared.known.Class.TheVariants.{Unknown, Constant, Variable, ReadOnly, Computed}
+use Rattle.aos_check_expr.specs.declared.known.Class.TheVariants.{Unknown, Constant, Variable, ReadOnly, Computed, Procedure}
 use Rattle.aos_check_expr.specs.declared.known.Known.{Known}
 
 -- an expression, and what it is in the typed program
@@ -122,6 +122,7 @@ type_of_literal (literal.Char c) = char
 type_of_literal (literal.Set s) = set
 type_of_literal (literal.Text t) = if t.length == 1 then char else text
 type_of_literal literal.Nil = nil
+type_of_literal literal.NoProcedure = nil
 
 -- the number of an object type among those of the program
 abbrev pub object_number : TypeId → ℕ
@@ -149,6 +150,7 @@ is_unknown (Constant v) = false
 is_unknown Variable = false
 is_unknown ReadOnly = false
 is_unknown Computed = false
+is_unknown (Procedure m n) = false
 
 -- a constant expression whose computation has no value
 abbrev pub is_lost : Class → Bool
@@ -158,6 +160,12 @@ is_lost Unknown = false
 is_lost Variable = false
 is_lost ReadOnly = false
 is_lost Computed = false
+is_lost (Procedure m n) = false
+
+-- NIL
+abbrev pub is_nil : Class → Bool
+is_nil (Constant (Some literal.Nil)) = true
+is_nil c = false
 
 -- what is made of a part, and is no constant; of what may be anything it may be anything
 abbrev pub value_class : Class → Class
@@ -170,7 +178,8 @@ lost c first = breach_unless (not (is_lost c)) 20 first
 
 -- Parts that are known.
 
--- a constant is of the type of its value, which may be smaller than that of its parts
+-- a constant is of the type of its value, which may be smaller than that of its parts, and a procedure that is named of none that
+-- variables have
 abbrev pub known_as : Class → Option TypeId → Known
 known_as (Constant (Some v)) of = record { of = Some (type_of_literal v); class = Constant (Some v) }
 known_as (Constant None) of = record { of = of; class = Constant None }
@@ -178,6 +187,7 @@ known_as Unknown of = record { of = of; class = Unknown }
 known_as Variable of = record { of = of; class = Variable }
 known_as ReadOnly of = record { of = of; class = ReadOnly }
 known_as Computed of = record { of = of; class = Computed }
+known_as (Procedure m n) of = record { of = Some procedure; class = Procedure m n }
 
 -- and stands as a literal in the typed program
 abbrev pub typed_as : Class → Expr → Expr
@@ -187,12 +197,17 @@ typed_as Unknown e = e
 typed_as Variable e = e
 typed_as ReadOnly e = e
 typed_as Computed e = e
+typed_as (Procedure m n) e = e
 
 abbrev pub answered : Class → Option TypeId → Expr → Answer
 answered c of e = record { known = known_as c of; typed = typed_as c e }
 
 abbrev pub constant_answer : Literal → Answer
 constant_answer v = answered (Constant (Some v)) None (Lit v)
+
+-- NIL, beside a procedure or where one is asked for, is no procedure
+abbrev pub as_procedure : Answer → Expr
+as_procedure a = if is_nil a.known.class then Lit literal.NoProcedure else a.typed
 
 -- what stands for a part that breaks a rule; it is never looked at
 abbrev pub nothing : Expr

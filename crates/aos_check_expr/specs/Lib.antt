@@ -1,4 +1,5 @@
 pub mod Known
+pub mod Signatures
 pub mod Operations
 pub mod Designators
 pub mod Expressions

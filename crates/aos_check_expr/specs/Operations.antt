@@ -26,7 +26,7 @@ use Rattle.aos_tree.specs.declared.expr.Sign.TheVariants as sign
 use Rattle.aos_types.specs.declared.row.TypeId.{TypeId}
 use Rattle.aos_typed.specs.declared.tree.Literal.{Literal}
 use Rattle.aos_typed.specs.declared.tree.Literal.TheVariants as literal
-use Rattle.aos_typed.specs.Program.{Expr, Unary, Binary, And, Or, Same, Element, Ord, Chr}
+use Rattle.aos_typed.specs.Program.{Expr, Unary, Binary, And, Or, Same, SameProcedure, Element, Ord, Chr}
 use Rattle.aos_typed.specs.Value.{Sort, Integer, Boolean, Character, Elements, unary_sort, binary_sort, number_of, literal_value}
 use Rattle.aos_symbols.specs.declared.breach.Breach.{Breach}
 use Rattle.aos_symbols.specs.declared.scope.Function.{Function}
@@ -35,7 +35,7 @@ use Rattle.aos_symbols.specs.Breaches.{breach_unless}
 use Rattle.aos_symbols.specs.Judged.{Judged, judged}
 use Rattle.aos_symbols.specs.Env.{shortint, integer, longint, hugeint, boolean, char, set}
 use Rattle.aos_check_expr.specs.declared.known.Class.{Class}
-use Rattle.aos_check_expr.specs.declared.known.Class.TheVariants.{Unknown, Constant, Variable, ReadOnly, Computed}
+use Rattle.aos_check_expr.specs.declared.known.Class.TheVariants.{Unknown, Constant, Variable, ReadOnly, Computed, Procedure}
 use Rattle.aos_check_expr.specs.declared.operations.Single.{Single}
 use Rattle.aos_check_expr.specs.declared.operations.Single.TheVariants as single
 use Rattle.aos_check_expr.specs.declared.operations.Joint.{Joint}
@@ -123,6 +123,8 @@ joint_value joint.And a b = Some (literal.Bool (is_true a && is_true b))
 joint_value joint.Or a b = Some (literal.Bool (is_true a || is_true b))
 joint_value joint.Same a b = Some (literal.Bool true)  -- NIL is the one constant that is an object's, or none's
 joint_value joint.Differ a b = Some (literal.Bool false)
+joint_value joint.SameProcedure a b = Some (literal.Bool true)
+joint_value joint.OtherProcedure a b = Some (literal.Bool false)
 
 abbrev pub joint_typed : Joint → Expr → Expr → Expr
 joint_typed (joint.On op) e f = Binary op e f
@@ -130,6 +132,8 @@ joint_typed joint.And e f = And e f
 joint_typed joint.Or e f = Or e f
 joint_typed joint.Same e f = Same e f
 joint_typed joint.Differ e f = Unary one.Not (Same e f)
+joint_typed joint.SameProcedure e f = SameProcedure e f
+joint_typed joint.OtherProcedure e f = Unary one.Not (SameProcedure e f)
 
 -- what is made of constants is constant, of what is known computed
 abbrev pub class_of_one : Single → Class → Class
@@ -139,6 +143,7 @@ class_of_one s Unknown = Unknown
 class_of_one s Variable = Computed
 class_of_one s ReadOnly = Computed
 class_of_one s Computed = Computed
+class_of_one s (Procedure m n) = Computed
 
 -- of two constants, of which the first has a value
 abbrev pub class_with : Joint → Literal → Class → Class
@@ -148,6 +153,7 @@ class_with j a Unknown = Unknown
 class_with j a Variable = Computed
 class_with j a ReadOnly = Computed
 class_with j a Computed = Computed
+class_with j a (Procedure m n) = Computed
 
 -- of a second operand, where the first has no value
 abbrev pub class_behind : Class → Class → Class
@@ -156,6 +162,7 @@ class_behind of_constant (Constant v) = of_constant
 class_behind of_constant Variable = Computed
 class_behind of_constant ReadOnly = Computed
 class_behind of_constant Computed = Computed
+class_behind of_constant (Procedure m n) = Computed
 
 abbrev pub class_of : Joint → Class → Class → Class
 class_of j (Constant (Some a)) c = class_with j a c
@@ -164,6 +171,7 @@ class_of j Unknown c = Unknown
 class_of j Variable c = class_behind Computed c
 class_of j ReadOnly c = class_behind Computed c
 class_of j Computed c = class_behind Computed c
+class_of j (Procedure m n) c = class_behind Computed c
 
 -- what a step makes of its operand, where it takes it
 abbrev pub kept_class : Bool → Class → Class
@@ -256,6 +264,11 @@ related relation.Is a b = operation true (Some boolean) joint.And
 abbrev pub identified : Relation → (takes : Bool) → Operation
 identified rel.NotEqual takes = operation takes (Some boolean) joint.Differ
 identified r takes = operation takes (Some boolean) joint.Same
+
+-- whether two operands stand for one procedure, and for methods of one object, or are both NIL
+abbrev pub matched : Relation → (takes : Bool) → Operation
+matched rel.NotEqual takes = operation takes (Some boolean) joint.OtherProcedure
+matched r takes = operation takes (Some boolean) joint.SameProcedure
 
 abbrev pub signed : Sign → Option TypeId → Step
 signed sign.Plus a = step (is_number a) a single.Same

@@ -26,7 +26,7 @@ abbrev pub seen_spot : CodeSpot → Spot
 seen_spot a = record { known = a.known; held = seen_held a.held; at = a.at }
 
 abbrev pub seen_bound : CodeBound → Bound
-seen_bound b = record { callee = seen_callee b.callee; home = b.home; number = b.number; first = b.first }
+seen_bound b = record { callee = seen_callee b.callee; heading = b.heading; first = b.first }
 
 abbrev pub seen_part : CodePart → Part
 seen_part (code_part.Begun h) = Begun h

@@ -9,7 +9,8 @@ ghost use Rattle.aos_check_expr.specs.Seen.{seen_answer, seen_given, seen_handin
 use crate::designators::{has_parts, place_in};
 use crate::known::{Answer, Class, Known};
 use crate::lengths::is_array;
-use crate::references::{is_compatible, is_record_type, is_value, with_type};
+use crate::procedures::{is_assignable, typed_for};
+use crate::references::{is_record_type, is_value, with_type};
 use crate::texts::{has_room, is_characters, rows_in, string_in, text_for};
 use crate::variables::{is_opened, open_dimensions};
 use aos_base::Pos;
@@ -37,6 +38,7 @@ fn variable_rule(is_designator: bool, class: Class) -> Option<u16>
         Class::ReadOnly => Some(READ_ONLY),
         Class::Constant(_) => Some(NO_VARIABLE),
         Class::Computed => Some(NO_VARIABLE),
+        Class::Procedure(_, _) => Some(NO_VARIABLE),
     }
 }
 
@@ -130,24 +132,22 @@ fn open_rule(env: &Env<'_>, of: TypeId, known: Known) -> Result<Option<u16>, All
 }
 
 /// The rule that an argument by value breaks.
-fn value_rule(env: &Env<'_>, of: TypeId, known: Known) -> Option<u16>
-    ensures { result ≡ judge.value_rule env.now of known }
+fn value_rule(
+    alloc: Global,
+    env: &Env<'_>,
+    of: TypeId,
+    known: Known,
+) -> Result<Option<u16>, AllocError>
+    ensures { IfOk result (λ r. r ≡ judge.value_rule env.now of known) }
 {
-    match text_for(env, variable_of(of), known.class) {
-        Some(text) => {
-            if has_room(env, Some(of), text) {
-                Some(NOT_BUILT)
-            } else {
-                Some(ARGUMENT_TYPE)
-            }
-        }
-        None => {
-            if is_compatible(env, known.of, Some(of)) {
-                broken_unless(NOT_BUILT, is_value(env, of) || has_parts(env, of))
-            } else {
-                Some(ARGUMENT_TYPE)
-            }
-        }
+    if let Some(text) = text_for(env, variable_of(of), known.class) {
+        let has_room = has_room(env, Some(of), text);
+        return Ok(Some(if has_room { NOT_BUILT } else { ARGUMENT_TYPE }));
+    }
+    if is_assignable(alloc, env, known, Some(of))? {
+        Ok(broken_unless(NOT_BUILT, is_value(env, of) || has_parts(env, of)))
+    } else {
+        Ok(Some(ARGUMENT_TYPE))
     }
 }
 
@@ -166,7 +166,12 @@ fn is_referable(env: &Env<'_>, parameter: TypeId, of: Option<TypeId>) -> bool
 }
 
 /// The rule on types that an argument breaks.
-fn type_rule(env: &Env<'_>, parameter: Parameter, known: Known) -> Result<Option<u16>, AllocError>
+fn type_rule(
+    alloc: Global,
+    env: &Env<'_>,
+    parameter: Parameter,
+    known: Known,
+) -> Result<Option<u16>, AllocError>
     ensures { IfOk result (λ r. r ≡ judge.type_rule env.now parameter known) }
 {
     let Some(of) = parameter.of else {
@@ -178,11 +183,12 @@ fn type_rule(env: &Env<'_>, parameter: Parameter, known: Known) -> Result<Option
     if parameter.by_reference {
         return Ok(broken_unless(ARGUMENT_TYPE, is_referable(env, of, known.of)));
     }
-    Ok(value_rule(env, of, known))
+    value_rule(alloc, env, of, known)
 }
 
 /// The rule that an argument breaks, the smallest of them.
 fn argument_rule(
+    alloc: Global,
     env: &Env<'_>,
     parameter: Parameter,
     is_designator: bool,
@@ -196,7 +202,7 @@ fn argument_rule(
             return Ok(rule);
         }
     }
-    type_rule(env, parameter, known)
+    type_rule(alloc, env, parameter, known)
 }
 
 /// An argument for a parameter of this type that is no open array.
@@ -218,7 +224,7 @@ fn given_unopened(
     if has_parts(env, of) {
         return Ok(TArgument::Whole(place_in(argument.typed)));
     }
-    Ok(TArgument::Scalar(argument.typed))
+    Ok(TArgument::Scalar(typed_for(env, Some(of), argument)))
 }
 
 /// What an argument is in the typed program.
@@ -284,7 +290,7 @@ pub fn hand(
         (judge.handed env.now (seen_handing before) parameter is_designator at
         (seen_answer argument)).answer) }
 {
-    let rule = argument_rule(env, parameter, is_designator, argument.known)?;
+    let rule = argument_rule(alloc, env, parameter, is_designator, argument.known)?;
     note_rule(found, rule, at);
     let mut all = before;
     all.given.push(given(alloc, env, parameter, argument)?)?;

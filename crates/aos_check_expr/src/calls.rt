@@ -17,7 +17,7 @@ use crate::operations::{self, Step};
 use crate::references::{guarded, is_value};
 use aos_base::Pos;
 use aos_symbols::{
-    ARGUMENT_COUNT, ARGUMENT_TYPE, Breach, Env, Lookup, Meaning, NOT_BUILT, NOT_EXPORTED,
+    ARGUMENT_COUNT, ARGUMENT_TYPE, Breach, Env, Function, Lookup, Meaning, NOT_BUILT, NOT_EXPORTED,
     OTHER_KIND, UNKNOWN, WRONG_CALL, note,
 };
 use aos_tree::{Desig, Expr, Factor, Name, Qualident, Selector, Simple};
@@ -30,6 +30,23 @@ use std::alloc::{AllocError, Global};
 pub enum Limit {
     Greatest,
     Least,
+}
+
+/// What has one argument: a predeclared function, or a conversion into an integer type.
+#[derive(Clone, Copy)]
+pub enum Taking {
+    By(Function),
+    Into(TypeId),
+}
+
+/// What it does to an argument of a type.
+pub fn step_in(taking: Taking, of: Option<TypeId>) -> Step
+    ensures { result ≡ judge.step_in taking of }
+{
+    match taking {
+        Taking::By(function) => operations::applied(function, of),
+        Taking::Into(to) => operations::converted(to, of),
+    }
 }
 
 /// Whether a sum is its first factor.

@@ -11,13 +11,14 @@ use crate::known::{
     Answer, Class, Held, Known, Spot, answered, constant_answer, is_basic, is_long_text, known_as,
     nothing, read_from, some_value, spot_of, unknown,
 };
+use crate::procedures::procedure_spot;
 use crate::references::{guarded_spot, is_value};
-use crate::variables::{is_opened, place_of_variable};
+use crate::variables::{is_of_module, is_opened, place_of_variable};
 use aos_base::Pos;
 use aos_symbols::{
     Breach, Env, Lookup, Meaning, NO_VARIABLE, NOT_BUILT, NOT_CONSTANT, NOT_EXPORTED, Narrowed,
-    OTHER_KIND, Open, READ_ONLY, Symbol, UNKNOWN, WRONG_CALL, WRONG_SELF, is_procedure_of_out,
-    note, word,
+    OTHER_KIND, Open, PROCEDURE, READ_ONLY, Symbol, UNKNOWN, WRONG_CALL, WRONG_SELF,
+    is_procedure_of_out, note, word,
 };
 use aos_tree::{Export, Name};
 use aos_typed::{Literal, TExpr, TPlace};
@@ -244,6 +245,40 @@ pub fn refused_value_at(found: &mut Option<Breach>, rule: u16, first: Pos, at: P
     spot_of(at, refused_value(found, rule, first))
 }
 
+/// A variable, as the WITHs around it narrow it.
+pub fn variable_spot(
+    alloc: Global,
+    env: &Env<'_>,
+    symbol: Symbol,
+    number: u32,
+    at: Pos,
+) -> Result<Spot, AllocError>
+    ensures { IfOk result (λ r. seen_spot r ≡ judge.variable_spot env.now symbol number at) }
+{
+    let whole = variable(alloc, env, symbol, number, at)?;
+    narrowed(alloc, env, symbol, number, whole)
+}
+
+/// A procedure as a value.
+fn procedure_meant(
+    found: &mut Option<Breach>,
+    env: &Env<'_>,
+    symbol: Symbol,
+    number: u32,
+    head: Head,
+) -> Spot
+    ensures noted { found.new ≡
+        first_after found.old (judge.procedure_meant env.now symbol number head).breaches }
+    ensures answer { seen_spot result ≡ (judge.procedure_meant env.now symbol number head).answer }
+{
+    if !is_of_module(symbol) {
+        return meant_otherwise(found, Meaning::Procedure(number), head);
+    }
+    let home = symbol.at.home;
+    let value = TExpr::ProcedureOf(home, number);
+    procedure_spot(found, env, home, number, value, head.first, head.name.pos)
+}
+
 /// What a name stands for that is no call.
 fn meant(
     alloc: Global,
@@ -259,10 +294,8 @@ fn meant(
 {
     let at = head.name.pos;
     match means {
-        Meaning::Variable(number) => {
-            let whole = variable(alloc, env, symbol, number, at)?;
-            narrowed(alloc, env, symbol, number, whole)
-        }
+        Meaning::Variable(number) => variable_spot(alloc, env, symbol, number, at),
+        Meaning::Procedure(number) => Ok(procedure_meant(found, env, symbol, number, head)),
         Meaning::Constant(number) => {
             let value = env.constant(symbol.at, number, head.first);
             Ok(spot_of(at, constant_of(found, value, at)))
@@ -337,11 +370,15 @@ pub fn has_parts(env: &Env<'_>, of: TypeId) -> bool
     )
 }
 
-/// Whether a type is built: a basic type, that of string constants, one that has parts, an open array, or one of objects.
+/// Whether a type is built: a basic type, that of string constants, one that has parts, an open array, one of objects, or of procedures.
 pub fn is_built(env: &Env<'_>, of: TypeId) -> bool
     ensures { result ≡ judge.is_built env.now of }
 {
-    is_value(env, of) || is_long_text(of) || has_parts(env, of) || is_opened(env, of)
+    is_value(env, of)
+        || is_long_text(of)
+        || PROCEDURE.0 == of.0
+        || has_parts(env, of)
+        || is_opened(env, of)
 }
 
 fn refuse_others(found: &mut Option<Breach>, env: &Env<'_>, of: Option<TypeId>, at: Pos)
@@ -378,6 +415,7 @@ pub fn refuse_written(found: &mut Option<Breach>, class: Class, first: Pos)
         Class::ReadOnly => note(found, READ_ONLY, first),
         Class::Constant(_) => note(found, NO_VARIABLE, first),
         Class::Computed => note(found, NO_VARIABLE, first),
+        Class::Procedure(_, _) => note(found, NO_VARIABLE, first),
     }
 }
 

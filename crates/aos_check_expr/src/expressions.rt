@@ -10,8 +10,8 @@ ghost use Rattle.aos_check_expr.specs.Seen.{seen_answer, seen_bound, seen_handin
 
 use crate::arguments::{Handing, hand, nothing_handed};
 use crate::calls::{
-    Limit, desig_alone, function_value, guard_type, limit_called, not_called, qualident_in,
-    value_of_one, value_of_two,
+    Limit, Taking, desig_alone, function_value, guard_type, limit_called, not_called, qualident_in,
+    step_in, value_of_one, value_of_two,
 };
 use crate::designators::{Head, is_module, named, plain, read, refused, refused_value};
 use crate::forms::{
@@ -24,6 +24,7 @@ use crate::methods::{Bound, Part, bound_part, followed_part, pointed, selected, 
 use crate::operations;
 use crate::references::guarded;
 use crate::selectors::element as element_of;
+use crate::signatures::{Heading, signature_at};
 use crate::variables::is_of_module;
 use aos_base::Pos;
 use aos_symbols::{
@@ -32,7 +33,6 @@ use aos_symbols::{
 };
 use aos_tree::{Addition, Desig, Elem, Expr, Factor, Product, Relation, Selector, Simple, Term};
 use aos_typed::{Literal, TCallee};
-use aos_types::TypeId;
 use std::alloc::{AllocError, Global};
 
 /// An expression.
@@ -423,7 +423,7 @@ pub fn bracketed(
         (judge.bracketed env.now first (seen_part whole) at
         (map (judge.expr env.now) arguments.now) arguments.now).answer) }
 {
-    match bound_part(alloc, env, whole)? {
+    match bound_part(alloc, env, first, whole)? {
         Part::Begun(head) => bracketed_name(alloc, found, env, head, at, arguments),
         Part::Meant(spot) => {
             let of = guard_type(env, arguments);
@@ -532,15 +532,14 @@ fn called_as(
         Meaning::Procedure(number) if is_of_module(symbol) => {
             let bound = Bound {
                 callee: TCallee::Plain(symbol.at.home, number),
-                home: symbol.at.home,
-                number,
+                heading: Heading::Declared(symbol.at.home, number),
                 first,
             };
             let value = invoked(alloc, found, env, bound, arguments)?;
             Ok(spot_of(first, value))
         }
         Meaning::Type(Some(of)) if is_integer(of) => {
-            let value = converted(alloc, found, env, of, first, arguments)?;
+            let value = applied(alloc, found, env, Taking::Into(of), first, arguments)?;
             Ok(spot_of(first, value))
         }
         _ => not_called(alloc, found, env, head, at, arguments),
@@ -570,7 +569,7 @@ fn called_function(
         Function::Min => Ok(limit_called(found, env, Limit::Least, arguments, first)),
         Function::Len => measured(alloc, found, env, first, arguments),
         Function::Ash => shifted(alloc, found, env, first, arguments),
-        _ => applied(alloc, found, env, function, first, arguments),
+        _ => applied(alloc, found, env, Taking::By(function), first, arguments),
     }
 }
 
@@ -585,14 +584,14 @@ fn invoked(
     arguments: &[Expr],
 ) -> Result<Answer, AllocError>
     ensures noted { OnOk result (found.new ≡ first_after found.old
-        (judge.invoked env.now bound.first (seen_callee bound.callee) bound.home bound.number
+        (judge.invoked env.now bound.first (seen_callee bound.callee) bound.heading
         (map (judge.expr env.now) arguments.now) arguments.now).breaches) }
     ensures answer { IfOk result (λ r. seen_answer r ≡
-        (judge.invoked env.now bound.first (seen_callee bound.callee) bound.home bound.number
+        (judge.invoked env.now bound.first (seen_callee bound.callee) bound.heading
         (map (judge.expr env.now) arguments.now) arguments.now).answer) }
 {
     let first = bound.first;
-    let Some(signature) = env.signature(bound.home, bound.number) else {
+    let Some(signature) = signature_at(alloc, env, bound.heading)? else {
         return Ok(refused_value(found, NOT_CONSTANT, first));
     };
     let Gives::Value(of) = signature.gives else {
@@ -666,56 +665,28 @@ fn handed(
     Ok(all)
 }
 
-/// A predeclared function of one argument, in a call that begins here.
+/// A predeclared function of one argument or a conversion, in a call that begins here.
 #[cycle(exprs)]
 #[tactic(auto, using(aos_symbols::proofs::Keeping::after_more))]
 fn applied(
     alloc: Global,
     found: &mut Option<Breach>,
     env: &Env<'_>,
-    function: Function,
+    taking: Taking,
     first: Pos,
     arguments: &[Expr],
 ) -> Result<Answer, AllocError>
     ensures noted { OnOk result (found.new ≡ first_after found.old
-        (judge.one_of (λ of. operations.applied function of) first
+        (judge.one_of (judge.step_in taking) first
         (map (judge.expr env.now) arguments.now) arguments.now).breaches) }
     ensures answer { IfOk result (λ r. seen_answer r ≡
-        (judge.one_of (λ of. operations.applied function of) first
+        (judge.one_of (judge.step_in taking) first
         (map (judge.expr env.now) arguments.now) arguments.now).answer) }
 {
     match arguments {
         [argument] => {
             let value = expr(alloc, found, env, argument)?;
-            let step = operations::applied(function, value.known.of);
-            value_of_one(alloc, found, first, argument.pos, step, value)
-        }
-        _ => Ok(refused(found, ARGUMENT_COUNT, first)),
-    }
-}
-
-/// A conversion into an integer type, which begins here.
-#[cycle(exprs)]
-#[tactic(auto, using(aos_symbols::proofs::Keeping::after_more))]
-fn converted(
-    alloc: Global,
-    found: &mut Option<Breach>,
-    env: &Env<'_>,
-    of: TypeId,
-    first: Pos,
-    arguments: &[Expr],
-) -> Result<Answer, AllocError>
-    ensures noted { OnOk result (found.new ≡ first_after found.old
-        (judge.one_of (λ t. operations.converted of t) first
-        (map (judge.expr env.now) arguments.now) arguments.now).breaches) }
-    ensures answer { IfOk result (λ r. seen_answer r ≡
-        (judge.one_of (λ t. operations.converted of t) first
-        (map (judge.expr env.now) arguments.now) arguments.now).answer) }
-{
-    match arguments {
-        [argument] => {
-            let value = expr(alloc, found, env, argument)?;
-            let step = operations::converted(of, value.known.of);
+            let step = step_in(taking, value.known.of);
             value_of_one(alloc, found, first, argument.pos, step, value)
         }
         _ => Ok(refused(found, ARGUMENT_COUNT, first)),

@@ -16,6 +16,7 @@ use crate::known::{
     Answer, answered, constant_answer, is_of_any, nothing, object_number, value_class,
 };
 use crate::operations::{self, Operation};
+use crate::procedures::{compares_procedures, procedures_related};
 use crate::references::{
     is_object_type, is_pointer_type, is_record_type, is_reference, made_number, may_test,
     reads_passed,
@@ -255,6 +256,9 @@ pub fn related(
         let whole = texts_related(alloc, env, relation_in(op), a, b)?;
         operations::told(found, first, &whole);
         return Ok(whole);
+    }
+    if compares_procedures(env, op, a.known.of, b.known.of) {
+        return procedures_related(alloc, found, env, first, at, op, a, b);
     }
     let relation = operation_of(env, op, a.known.of, b.known.of);
     operations::operands(alloc, found, first, at, relation, a, b)

@@ -9,14 +9,15 @@ ghost use Rattle.aos_check_expr.specs.Seen.{seen_answer, seen_held, seen_spot};
 
 use aos_base::{Pos, Width};
 use aos_symbols::{
-    ANY, BASIC_TYPES, BOOLEAN, Breach, CHAR, HUGEINT, INTEGER, LONGINT, NIL, NOT_CONSTANT, SET,
-    SHORTINT, TEXT, note,
+    ANY, BASIC_TYPES, BOOLEAN, Breach, CHAR, HUGEINT, INTEGER, LONGINT, NIL, NOT_CONSTANT,
+    PROCEDURE, SET, SHORTINT, TEXT, note,
 };
 use aos_typed::{Literal, TExpr, TPlace, TType};
 use aos_types::TypeId;
 
 /// What an expression is: unknown where a part of it breaks a rule, a constant, which has no value where its computation would
-/// trap or where it is declared later, a variable, one that may only be read, or another value.
+/// trap or where it is declared later, a variable, one that may only be read, another value, or a procedure that is named, by the
+/// number of the module that declares it and its own among that module's signatures.
 #[derive(Clone, Copy, PartialEq, Eq, Debug)]
 pub enum Class {
     Unknown,
@@ -24,6 +25,7 @@ pub enum Class {
     Variable,
     ReadOnly,
     Computed,
+    Procedure(u32, u32),
 }
 
 /// What is known of a part of an expression: its type, none where it may be any, and its class.
@@ -276,6 +278,7 @@ pub fn type_of_literal(value: Literal) -> TypeId
         Literal::Set(_) => SET,
         Literal::Text(text) => { if text.length == 1 { CHAR } else { TEXT } }
         Literal::Nil => NIL,
+        Literal::NoProcedure => NIL,
     }
 }
 
@@ -332,6 +335,13 @@ fn is_lost(class: Class) -> bool
     matches!(class, Class::Constant(None))
 }
 
+/// Whether a part is NIL.
+fn is_nil(class: Class) -> bool
+    ensures { result ≡ known.is_nil class }
+{
+    matches!(class, Class::Constant(Some(Literal::Nil)))
+}
+
 /// Refuses a constant whose computation has no value, at its first token.
 pub fn lost(found: &mut Option<Breach>, class: Class, first: Pos)
     ensures { found.new ≡ first_after found.old (known.lost class first) }
@@ -341,13 +351,18 @@ pub fn lost(found: &mut Option<Breach>, class: Class, first: Pos)
     }
 }
 
-/// What is known of a part of this class and type; a constant is of the type of its value.
+/// What is known of a part of this class and type; a constant is of the type of its value, and a procedure that is named of none that
+/// variables have.
 pub fn known_as(class: Class, of: Option<TypeId>) -> Known
     ensures { result ≡ known.known_as class of }
 {
     match class {
         Class::Constant(Some(value)) => Known {
             of: Some(type_of_literal(value)),
+            class,
+        },
+        Class::Procedure(_, _) => Known {
+            of: Some(PROCEDURE),
             class,
         },
         _ => Known { of, class },
@@ -379,6 +394,17 @@ pub fn constant_answer(value: Literal) -> Answer
     ensures { seen_answer result ≡ known.constant_answer value }
 {
     answered(Class::Constant(Some(value)), None, TExpr::Lit(value))
+}
+
+/// NIL, beside a procedure or where one is asked for, is no procedure.
+pub fn as_procedure(answer: Answer) -> TExpr
+    ensures { seen_expr result ≡ known.as_procedure (seen_answer answer) }
+{
+    if is_nil(answer.known.class) {
+        TExpr::Lit(Literal::NoProcedure)
+    } else {
+        answer.typed
+    }
 }
 
 /// What stands for a part that breaks a rule; it is never looked at.

@@ -10,9 +10,11 @@ pub mod known;
 mod lengths;
 pub mod methods;
 pub mod operations;
+mod procedures;
 mod references;
 mod required;
 pub mod selectors;
+pub mod signatures;
 mod texts;
 mod type_names;
 mod variables;
@@ -31,10 +33,12 @@ pub use known::{
 pub use lengths::{array_rows, is_opening};
 pub use methods::{Bound, Part, bound_part, spot_of_part};
 pub use operations::{Joint, Operation, Single, Step, number};
+pub use procedures::{is_assignable, typed_for};
 pub use references::{
     guard, is_compatible, is_object_type, is_pointer_type, made_number, target_of,
 };
 pub use required::{char_argument, condition, constant, constant_class, number_argument};
+pub use signatures::{Heading, same_signature, signature_at};
 pub use texts::{has_room, is_characters, may_be_text, text_for, text_rows};
 pub use type_names::{known_type, named_type, no_type};
 pub use variables::{is_of_module, place_of_variable};

@@ -1,6 +1,6 @@
 // What a designator is so far: a name, a variable or a value, or a method that waits for its bracket.
 
-ghost use Rattle.std.specs.Prelude.{◌≡◌, OnOk, IfOk, option_map};
+ghost use Rattle.std.specs.Prelude.{◌≡◌, OnOk, IfOk, option_and_then, option_map};
 ghost use Rattle.aos_typed.specs.Seen.{seen_callee, seen_expr};
 ghost use Rattle.aos_symbols.specs.Breaches.{first_after};
 ghost use Rattle.aos_symbols.specs.Judged.{bind};
@@ -8,31 +8,34 @@ ghost use Rattle.aos_check_expr.specs.Designators as designators;
 ghost use Rattle.aos_check_expr.specs.Expressions as judge;
 ghost use Rattle.aos_check_expr.specs.Seen.{seen_bound, seen_part, seen_spot};
 
-use crate::designators::{Head, is_module, member_behind, named, refused_at, refused_value_at};
+use crate::designators::{
+    Head, is_module, member_behind, named, refused_at, refused_value_at, variable_spot,
+};
 use crate::known::{Spot, object_number, read_from};
-use crate::references::is_object_type;
+use crate::procedures::procedure_spot;
+use crate::references::{is_object_type, is_procedural};
 use crate::selectors::{field, followed};
+use crate::signatures::Heading;
 use crate::variables::is_of_module;
 use aos_base::Pos;
 use aos_symbols::{
-    Breach, Env, Lookup, Meaning, Method, NOT_BUILT, NOT_EXPORTED, WRONG_CALL, WRONG_SELECTOR,
-    WRONG_SELF,
+    Breach, Env, Lookup, Meaning, Method, NOT_EXPORTED, WRONG_CALL, WRONG_SELECTOR, WRONG_SELF,
 };
 use aos_tree::Name;
 use aos_typed::{TCallee, TExpr};
 use aos_types::TypeId;
 use std::alloc::{AllocError, Global};
 
-/// A method that waits for its bracket: what is called, the numbers of its signature, and where its designator begins.
+/// A method, or what a value of a procedure type stands for, that waits for its bracket: what is called, its heading, and where its
+/// designator begins.
 #[derive(Drop, Debug)]
 pub struct Bound {
     pub callee: TCallee,
-    pub home: u32,
-    pub number: u32,
+    pub heading: Heading,
     pub first: Pos,
 }
 
-/// What a designator is so far: a name, which a bracket may call, a variable or a value, or a method of an object.
+/// What a designator is so far: a name, which a bracket may call, a variable or a value, or what waits for its bracket.
 #[derive(Drop, Debug)]
 pub enum Part {
     Begun(Head),
@@ -54,8 +57,7 @@ fn dispatched(
     let object = Box::new(alloc, object)?;
     Ok(Bound {
         callee: TCallee::Dispatched(object, object_number(of), method.slot),
-        home: method.home,
-        number: method.number,
+        heading: Heading::Declared(method.home, method.number),
         first,
     })
 }
@@ -102,16 +104,72 @@ fn own_method(alloc: Global, env: &Env<'_>, head: Head) -> Result<Option<Bound>,
     }
 }
 
-/// What a designator is so far: a method, where a plain name stands for one.
-pub fn bound_part(alloc: Global, env: &Env<'_>, part: Part) -> Result<Part, AllocError>
-    ensures { IfOk result (λ r. seen_part r ≡ judge.bound_part env.now (seen_part part)) }
+/// What a value of a procedure type stands for, in a designator that begins here.
+fn through(alloc: Global, first: Pos, value: Spot, of: TypeId) -> Result<Bound, AllocError>
+    ensures { IfOk result (λ r. seen_bound r ≡ judge.through first (seen_spot value) of) }
+{
+    let value = Box::new(alloc, read_from(value.known.of, value.held))?;
+    Ok(Bound {
+        callee: TCallee::Through(value, object_number(of)),
+        heading: Heading::OfType(of),
+        first,
+    })
+}
+
+/// A variable or a value before a bracket: one of a procedure type is what it stands for.
+fn bound_spot(alloc: Global, env: &Env<'_>, first: Pos, value: Spot) -> Result<Part, AllocError>
+    ensures { IfOk result (λ r. seen_part r ≡
+        judge.bound_or (judge.Meant (seen_spot value))
+        (judge.bound_value env.now first (seen_spot value))) }
+{
+    match value.known.of {
+        Some(of) if is_procedural(env, of) => {
+            Ok(Part::Waits(through(alloc, first, value, of)?))
+        },
+        _ => Ok(Part::Meant(value)),
+    }
+}
+
+/// What a variable of a procedure type stands for that a name stands for.
+fn variable_bound(alloc: Global, env: &Env<'_>, head: Head) -> Result<Option<Bound>, AllocError>
+    ensures { IfOk result (λ r. option_map seen_bound r ≡
+        option_and_then (judge.bound_value env.now head.first)
+        (designators.variable_named env.now head)) }
+{
+    let Lookup::Found(symbol) = head.found else {
+        return Ok(None);
+    };
+    let Meaning::Variable(number) = symbol.means else {
+        return Ok(None);
+    };
+    let value = variable_spot(alloc, env, symbol, number, head.name.pos)?;
+    match value.known.of {
+        Some(of) if is_procedural(env, of) => { Ok(Some(through(alloc, head.first, value, of)?)) },
+        _ => Ok(None),
+    }
+}
+
+/// A name before a bracket.
+fn bound_head(alloc: Global, env: &Env<'_>, head: Head) -> Result<Option<Bound>, AllocError>
+    ensures { IfOk result (λ r. option_map seen_bound r ≡ judge.bound_head env.now head) }
+{
+    match own_method(alloc, env, head)? {
+        Some(bound) => Ok(Some(bound)),
+        None => variable_bound(alloc, env, head),
+    }
+}
+
+/// What a designator that begins here is so far, before a bracket: a plain name that stands for a method is that, and a value of a
+/// procedure type is what it stands for.
+pub fn bound_part(alloc: Global, env: &Env<'_>, first: Pos, part: Part) -> Result<Part, AllocError>
+    ensures { IfOk result (λ r. seen_part r ≡ judge.bound_part env.now first (seen_part part)) }
 {
     match part {
-        Part::Begun(head) => match own_method(alloc, env, head)? {
+        Part::Begun(head) => match bound_head(alloc, env, head)? {
             Some(bound) => Ok(Part::Waits(bound)),
             None => Ok(Part::Begun(head)),
         },
-        Part::Meant(spot) => Ok(Part::Meant(spot)),
+        Part::Meant(value) => bound_spot(alloc, env, first, value),
         Part::Waits(bound) => Ok(Part::Waits(bound)),
     }
 }
@@ -138,8 +196,7 @@ fn upper_of(env: &Env<'_>, head: Head, of: TypeId) -> Result<Option<Bound>, Allo
     match env.method(base, head.name)? {
         Some(method) => Ok(Some(Bound {
             callee: TCallee::Upper(object_number(base), method.slot),
-            home: method.home,
-            number: method.number,
+            heading: Heading::Declared(method.home, method.number),
             first: head.first,
         })),
         None => Ok(None),
@@ -172,12 +229,48 @@ fn raised(
     }
 }
 
-fn unbound_rule(callee: &TCallee) -> u16
-    ensures { result ≡ judge.unbound_rule (seen_callee callee.now) }
+/// What is called, as a value.
+fn value_called(callee: TCallee) -> Option<TExpr>
+    ensures { option_map seen_expr result ≡ judge.value_called (seen_callee callee) }
 {
     match callee {
-        TCallee::Upper(_, _) => WRONG_CALL,
-        _ => NOT_BUILT,
+        TCallee::Plain(home, number) => Some(TExpr::ProcedureOf(home, number)),
+        TCallee::Dispatched(object, of, slot) => Some(TExpr::MethodOf(object, of, slot)),
+        TCallee::Upper(_, _) => None,
+        TCallee::Through(_, _) => None,
+    }
+}
+
+/// A method that isn't called: a procedure as a value, with its object.
+fn unbound(found: &mut Option<Breach>, env: &Env<'_>, bound: Bound) -> Spot
+    ensures noted { found.new ≡ first_after found.old
+        (judge.unbound env.now (seen_bound bound)).breaches }
+    ensures answer { seen_spot result ≡ (judge.unbound env.now (seen_bound bound)).answer }
+{
+    let first = bound.first;
+    match (bound.heading, value_called(bound.callee)) {
+        (Heading::Declared(home, number), Some(value)) => {
+            procedure_spot(found, env, home, number, value, first, first)
+        },
+        _ => refused_value_at(found, WRONG_CALL, first, first),
+    }
+}
+
+/// What a name is, as a variable or a value: that of a method is a procedure.
+fn named_spot(
+    alloc: Global,
+    found: &mut Option<Breach>,
+    env: &Env<'_>,
+    head: Head,
+) -> Result<Spot, AllocError>
+    ensures noted { OnOk result (found.new ≡ first_after found.old
+        (judge.spot_of_part env.now (judge.Begun head)).breaches) }
+    ensures answer { IfOk result (λ r. seen_spot r ≡
+        (judge.spot_of_part env.now (judge.Begun head)).answer) }
+{
+    match own_method(alloc, env, head)? {
+        Some(bound) => Ok(unbound(found, env, bound)),
+        None => named(alloc, found, env, head),
     }
 }
 
@@ -194,12 +287,29 @@ pub fn spot_of_part(
         (judge.spot_of_part env.now (seen_part part)).answer) }
 {
     match part {
-        Part::Begun(head) => named(alloc, found, env, head),
+        Part::Begun(head) => named_spot(alloc, found, env, head),
         Part::Meant(spot) => Ok(spot),
-        Part::Waits(bound) => {
-            let rule = unbound_rule(&bound.callee);
-            Ok(refused_value_at(found, rule, bound.first, bound.first))
-        },
+        Part::Waits(bound) => Ok(unbound(found, env, bound)),
+    }
+}
+
+/// A name before a selector here that methods haven't.
+fn selected_name(
+    alloc: Global,
+    found: &mut Option<Breach>,
+    env: &Env<'_>,
+    at: Pos,
+    head: Head,
+) -> Result<Spot, AllocError>
+    ensures noted { OnOk result (found.new ≡ first_after found.old
+        (judge.selected_name env.now at head).breaches) }
+    ensures answer { IfOk result (λ r. seen_spot r ≡
+        (judge.selected_name env.now at head).answer) }
+{
+    if is_method(head.found) {
+        Ok(refused_at(found, WRONG_SELECTOR, head.first, at))
+    } else {
+        named(alloc, found, env, head)
     }
 }
 
@@ -217,7 +327,7 @@ pub fn selected(
         (judge.selected env.now at (seen_part part)).answer) }
 {
     match part {
-        Part::Begun(head) => named(alloc, found, env, head),
+        Part::Begun(head) => selected_name(alloc, found, env, at, head),
         Part::Meant(spot) => Ok(spot),
         Part::Waits(bound) => Ok(refused_at(found, WRONG_SELECTOR, bound.first, at)),
     }
@@ -305,7 +415,7 @@ fn pointed_name(
     ensures answer { IfOk result (λ r. seen_part r ≡
         (judge.pointed_name env.now first head at name).answer) }
 {
-    let whole = named(alloc, found, env, head)?;
+    let whole = selected_name(alloc, found, env, at, head)?;
     pointed_spot(alloc, found, env, first, whole, at, name)
 }
 

@@ -48,6 +48,10 @@ pub enum Joint {
     Same,
     /// Whether they aren't.
     Differ,
+    /// Whether both stand for one procedure, and for methods of one object, or are NIL.
+    SameProcedure,
+    /// Whether they don't.
+    OtherProcedure,
 }
 
 /// What an operator or function does to an operand of a type: whether it takes that, the type that it gives, and how.
@@ -97,6 +101,7 @@ pub fn number(literal: Literal) -> i64
         Literal::Set(elements) => i64::from(elements),
         Literal::Text(text) => i64::from(text.first),
         Literal::Nil => 0,
+        Literal::NoProcedure => 0,
     }
 }
 
@@ -261,6 +266,8 @@ fn joint_value(joint: Joint, a: Literal, b: Literal) -> Option<Literal>
         Joint::Or => Some(Literal::Bool(is_true(a) || is_true(b))),
         Joint::Same => Some(Literal::Bool(true)),
         Joint::Differ => Some(Literal::Bool(false)),
+        Joint::SameProcedure => Some(Literal::Bool(true)),
+        Joint::OtherProcedure => Some(Literal::Bool(false)),
     }
 }
 
@@ -291,6 +298,11 @@ fn joint_typed(alloc: Global, joint: Joint, left: TExpr, right: TExpr) -> Result
             let same = Box::new(alloc, TExpr::Same(left, right))?;
             Ok(TExpr::Unary(Unary::Not, same))
         }
+        Joint::SameProcedure => Ok(TExpr::SameProcedure(left, right)),
+        Joint::OtherProcedure => {
+            let same = Box::new(alloc, TExpr::SameProcedure(left, right))?;
+            Ok(TExpr::Unary(Unary::Not, same))
+        }
     }
 }
 
@@ -305,6 +317,7 @@ fn class_of_one(single: Single, class: Class) -> Class
         Class::Variable => Class::Computed,
         Class::ReadOnly => Class::Computed,
         Class::Computed => Class::Computed,
+        Class::Procedure(_, _) => Class::Computed,
     }
 }
 
@@ -318,6 +331,7 @@ fn class_with(joint: Joint, a: Literal, class: Class) -> Class
         Class::Variable => Class::Computed,
         Class::ReadOnly => Class::Computed,
         Class::Computed => Class::Computed,
+        Class::Procedure(_, _) => Class::Computed,
     }
 }
 
@@ -330,6 +344,7 @@ fn class_behind(of_constant: Class, class: Class) -> Class
         Class::Variable => Class::Computed,
         Class::ReadOnly => Class::Computed,
         Class::Computed => Class::Computed,
+        Class::Procedure(_, _) => Class::Computed,
     }
 }
 
@@ -344,6 +359,7 @@ pub fn class_of(joint: Joint, left: Class, right: Class) -> Class
         Class::Variable => class_behind(Class::Computed, right),
         Class::ReadOnly => class_behind(Class::Computed, right),
         Class::Computed => class_behind(Class::Computed, right),
+        Class::Procedure(_, _) => class_behind(Class::Computed, right),
     }
 }
 
@@ -600,6 +616,16 @@ pub fn identified(relation: Relation, takes: bool) -> Operation
     match relation {
         Relation::NotEqual => Operation::new(takes, Some(BOOLEAN), Joint::Differ),
         _ => Operation::new(takes, Some(BOOLEAN), Joint::Same),
+    }
+}
+
+/// Whether two operands stand for one procedure, or are both NIL, or for `#` whether they don't.
+pub fn matched(relation: Relation, takes: bool) -> Operation
+    ensures { result ≡ judge.matched relation takes }
+{
+    match relation {
+        Relation::NotEqual => Operation::new(takes, Some(BOOLEAN), Joint::OtherProcedure),
+        _ => Operation::new(takes, Some(BOOLEAN), Joint::SameProcedure),
     }
 }
 

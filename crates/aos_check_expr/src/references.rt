@@ -49,11 +49,18 @@ pub fn is_reference(env: &Env<'_>, of: TypeId) -> bool
     is_of_any(of) || is_pointer_type(env, of) || is_object_type(env, of)
 }
 
-/// Whether the values of a type are scalars that are built.
+/// Whether a type is a procedure type.
+pub fn is_procedural(env: &Env<'_>, of: TypeId) -> bool
+    ensures { result ≡ judge.is_procedural env.now of }
+{
+    !is_basic(of) && matches!(env.row(Some(of)), Some(TypeRow::Procedure(_, _)))
+}
+
+/// Whether the values of a type are scalars.
 pub fn is_value(env: &Env<'_>, of: TypeId) -> bool
     ensures { result ≡ judge.is_value env.now of }
 {
-    is_basic(of) || is_reference(env, of)
+    is_basic(of) || is_reference(env, of) || is_procedural(env, of)
 }
 
 /// What a pointer leads to.

@@ -113,9 +113,13 @@ module _ (p : Inside) (e : Env) (whole : IsWhole p e) where
   not_nil : (n : ℤ) → literal.Int n ≡ literal.Nil → ⊥
   not_nil n e = cc
 
+  not_none : (n : ℤ) → literal.Int n ≡ literal.NoProcedure → ⊥
+  not_none n e = cc
+
   literal_within : (n : ℤ) (w : Width) → IsOf p (Lit (literal.Int n)) (type.Integer w) → IsWithin w n
   literal_within n w (inl h) = h
-  literal_within n w (inr h) = absurd (not_nil n h.0)
+  literal_within n w (inr (inl h)) = absurd (not_nil n h.0)
+  literal_within n w (inr (inr h)) = absurd (not_none n h.0)
 
   -- a step is of the variable's width
   step_within : (t : TypeId) → is_number (Some t) ≡ true → (c : Class) → ((l : Literal) → c ≡ Constant (Some l) → IsGood l) → is_step (Some t) c ≡ true →

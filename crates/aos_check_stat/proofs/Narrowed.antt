@@ -19,12 +19,13 @@ use Rattle.aos_symbols.specs.declared.scope.Meaning.{Meaning}
 use Rattle.aos_symbols.specs.declared.scope.Meaning.TheVariants as means
 use Rattle.aos_symbols.specs.declared.env.Open.{Open}
 use Rattle.aos_symbols.specs.declared.env.Symbol.{Symbol}
+use Rattle.aos_symbols.specs.declared.env.Method.{Method}
 use Rattle.aos_symbols.specs.declared.env.Narrowed.{Narrowed}
 use Rattle.aos_symbols.specs.declared.env.Env.{Env}
 use Rattle.aos_symbols.specs.Spelling.{word}
 use Rattle.aos_symbols.specs.Env as env
 use Rattle.aos_check_expr.specs.declared.known.Class.{Class}
-use Rattle.aos_check_expr.specs.declared.known.Class.TheVariants.{Unknown, Constant, Variable, ReadOnly, Computed}
+use Rattle.aos_check_expr.specs.declared.known.Class.TheVariants.{Unknown, Constant, Variable, ReadOnly, Computed, Procedure as ClassOf}
 use Rattle.aos_check_expr.specs.declared.known.Known.{Known}
 use Rattle.aos_check_expr.specs.Known.{Spot, Held, Stands, Value, known_as, value_class, read_from, object_number, type_as}
 use Rattle.aos_check_expr.specs.Designators as desig
@@ -95,6 +96,21 @@ module _ (e : Env) (ns : List Narrowed) where
 
   method_within : (t : TypeId) (n : Name) → env.method within t n ≡ env.method e t n
   method_within t n = along_within (word e.here.text n) (env.chain e.types t)
+
+  -- initializers
+  own_initializer_within : (t : TypeId) → env.own_initializer within t ≡ env.own_initializer e t
+  own_initializer_within t = by (env.object e t)
+    where
+      by : (o : Option ObjectScope) → env.initial_at within t o ≡ env.initial_at e t o
+      by None = refl
+      by (Some o) = refl
+
+  initial_along_within : (ts : List TypeId) → env.initializer_along within ts ≡ env.initializer_along e ts
+  initial_along_within [] = refl
+  initial_along_within (t ∷ ts) = ap₂ option_or (own_initializer_within t) (initial_along_within ts)
+
+  initializer_within : (t : TypeId) → env.initializer within t ≡ env.initializer e t
+  initializer_within t = initial_along_within (env.chain e.types t)
 
   -- places
   parameter_within : (k : ℕ) (b : Bool) (of : Option TypeId) →
@@ -177,7 +193,10 @@ module _ (e : Env) (ns : List Narrowed) where
     itself = whole.itself;
     own_fields = whole.own_fields;
     methods = λ t n m found object s is. let q = whole.methods t n m (sym (method_within t n) ∙ found) object s is in (q.0, q.1, signed_within s q.0 q.2);
-    bodies = whole.bodies;
+    initials = λ t object. whole.initials t object ∙ ap (option_map (λ (m : Method). m.slot)) (sym (initializer_within t));
+    initial = λ t m found object s is. let q = whole.initial t m (sym (initializer_within t) ∙ found) object s is in (q.0, q.1, q.2, signed_within s q.0 q.3);
+    patterns = whole.patterns;
+    unnamed = whole.unnamed;
     signatures = λ m k s w x there found means g is. let q = whole.signatures m k s w x there found means g is in (q.0, q.1, signed_within g q.0 q.2);
     strings = whole.strings;
   }
@@ -199,6 +218,7 @@ module _ (e : Env) where
   IsOfVariable Computed = Unit {0}
   IsOfVariable Unknown = ⊥
   IsOfVariable (Constant v) = ⊥
+  IsOfVariable (ClassOf m n) = ⊥
 
   known_of : (c : Class) (of : Option TypeId) → IsOfVariable c → (known_as c of).of ≡ of
   known_of Variable of is = refl
@@ -206,6 +226,7 @@ module _ (e : Env) where
   known_of Computed of is = refl
   known_of Unknown of is = absurd is
   known_of (Constant v) of is = absurd is
+  known_of (ClassOf m n) of is = absurd is
 
   known_class : (c : Class) (of : Option TypeId) → IsOfVariable c → IsOfVariable (known_as c of).class
   known_class Variable of is = tt
@@ -213,6 +234,7 @@ module _ (e : Env) where
   known_class Computed of is = tt
   known_class Unknown of is = absurd is
   known_class (Constant v) of is = absurd is
+  known_class (ClassOf m n) of is = absurd is
 
   value_of : (c : Class) → IsOfVariable c → IsOfVariable (value_class c)
   value_of Variable is = tt
@@ -220,6 +242,7 @@ module _ (e : Env) where
   value_of Computed is = tt
   value_of Unknown is = absurd is
   value_of (Constant v) is = absurd is
+  value_of (ClassOf m n) is = absurd is
 
   access_of : (here : Bool) (mark : Option Export) → IsOfVariable (desig.access here mark)
   access_of here None = tt

@@ -1,6 +1,6 @@
 -- Variables that are assigned, those in which COPY puts a text, and those of which NEW makes an object, have the types that their
 -- statements ask for.
-use Rattle.std.proofs.Common.{◌≡◌, ℕ, ◌<◌, ◌==◌, ◌⊎◌, inl, inr, List, [], ◌∷◌, ◌++◌, length, Bool, true, false, not, ◌&&◌, ◌||◌, Option, Some, None, is_some, refl, sym, ap, ◌∙◌, subst, eqb-true, ne_eqb, arith, if◌then◌else◌}
+use Rattle.std.proofs.Common.{◌≡◌, ℕ, ◌<◌, ◌==◌, List, [], ◌∷◌, ◌++◌, length, Bool, true, false, not, ◌&&◌, ◌||◌, Option, Some, None, is_some, slice_get, refl, sym, ap, ◌∙◌, subst, eqb-true, ne_eqb, arith, if◌then◌else◌}
 use Rattle.std.proofs.lemmas.Bool.{and_parts}
 use Rattle.std.specs.Option.{is_none}
 use Rattle.std.proofs.lemmas.Option.{none-some, same_Some}
@@ -11,42 +11,39 @@ use Rattle.aos_types.specs.declared.row.TypeRow.{TypeRow}
 use Rattle.aos_types.specs.declared.row.TypeRow.TheVariants as row
 use Rattle.aos_types.specs.Table.{row_of, is_pointer as is_pointer_row, is_object as is_object_row}
 use Rattle.aos_types.specs.Extension.{comes_to}
-use Rattle.aos_types.specs.Sameness.{element_of}
 use Rattle.aos_typed.specs.declared.tree.TextConstant.{TextConstant}
 use Rattle.aos_typed.specs.declared.tree.TType.{TType}
 use Rattle.aos_typed.specs.declared.tree.TType.TheVariants as type
 use Rattle.aos_typed.specs.Open.{open_dimensions}
 use Rattle.aos_typed.specs.Numbers.{id_of}
 use Rattle.aos_typed.specs.Program.{Place, Stat}
-use Rattle.aos_typed.specs.WellTyped.{is_whole, is_variable, target}
+use Rattle.aos_typed.specs.WellTyped.{is_whole, target}
 use Rattle.aos_symbols.specs.declared.env.Env.{Env}
 use Rattle.aos_symbols.specs.Env as env
-use Rattle.aos_symbols.specs.Env.{text, nil}
+use Rattle.aos_symbols.specs.Env.{nil}
 use Rattle.aos_symbols.specs.declared.breach.Breach.{Breach}
 use Rattle.aos_symbols.specs.Breaches.{breach_unless}
 use Rattle.aos_symbols.proofs.Holds.{Holds, none_left, none_right, test_is}
 use Rattle.aos_symbols.proofs.Told.{IsTold, basic, of_any, defined}
 use Rattle.aos_check_expr.specs.declared.known.Class.{Class}
-use Rattle.aos_check_expr.specs.declared.known.Class.TheVariants.{Unknown, Constant, Variable, ReadOnly, Computed}
+use Rattle.aos_check_expr.specs.declared.known.Class.TheVariants.{Unknown, Constant, Variable, ReadOnly, Computed, Procedure}
 use Rattle.aos_check_expr.specs.declared.known.Known.{Known}
-use Rattle.aos_check_expr.specs.Known.{Answer, Spot, Held, Stands, Value, passes, is_basic, is_long_text, fits, fits_type, object_number, type_as}
+use Rattle.aos_check_expr.specs.Known.{Answer, Spot, Held, Stands, Value, passes, is as is_the, is_basic, is_long_text, fits, fits_type, object_number, type_as}
 use Rattle.aos_check_expr.specs.Designators as desig
-use Rattle.aos_check_expr.specs.Designators.{has_parts, is_opened, is_built, is_pointer_type, is_object_type, is_compatible, assigned, written, place_of, place_in}
+use Rattle.aos_check_expr.specs.Designators.{has_parts, is_opened, is_built, is_pointer_type, is_object_type, is_assignable, assigned, written, place_of, place_in}
 use Rattle.aos_check_expr.specs.Expressions.{is_characters, string_in, designator}
 use Rattle.aos_check_expr.proofs.Inside.{Inside, IsPlaceOf, IsOf, IsStatement}
 use Rattle.aos_check_expr.proofs.Good.{IsGood, IsKnownClass}
-use Rattle.aos_check_expr.proofs.Stored.{IsMade as IsMadeClass}
-use Rattle.aos_check_expr.proofs.Types.{same_type, id_as, id_above, as_named, wider, fits_includes}
-use Rattle.aos_check_expr.proofs.Opens.{closed_dimensions}
-use Rattle.aos_check_expr.proofs.Called.{if_some}
+use Rattle.aos_check_expr.proofs.Stored.{IsStored}
+use Rattle.aos_check_expr.proofs.Types.{id_as, id_above, as_named, wider, fits_includes}
 use Rattle.aos_check_expr.proofs.Sound.{IsSound, scalar_of}
 use Rattle.aos_check_expr.proofs.Objects.{IsMadeAs, pointer_kind, object_kind}
 use Rattle.aos_check_expr.proofs.Pointed.{made_there, made_pointed, number_back}
 use Rattle.aos_check_expr.proofs.Passed.{basic_fit, whole_place}
-use Rattle.aos_check_expr.proofs.Spots.{IsTyped, closed, opened, HasBody, IsStoredHeld, opened_row}
+use Rattle.aos_check_expr.proofs.Spots.{IsTyped, closed, opened, IsStoredHeld, opened_row}
 use Rattle.aos_check_expr.proofs.Worded.{room_kept}
 use Rattle.aos_check_expr.proofs.Typing.{IsWhole, IsSoundSpot, IsTextAt, characters_are, text_rows_are, designator_sound, designator_known, designator_stored}
-use Rattle.aos_check_stat.specs.Bodies.{is_made, started, is_built_body, is_built_there, starts_body, made_type, lengths_wanted, new_breaches, count_breaches, put_text}
+use Rattle.aos_check_stat.specs.Bodies.{is_made, made_type, lengths_wanted, new_breaches, count_breaches, put_text}
 use Rattle.aos_check_stat.specs.Bodies as judge
 
 not_both : false ≡ true → ⊥
@@ -76,13 +73,23 @@ not_nil types t told is = by told
     by (of_any any) = let m = n in omega (arith, any, m)
     by (defined r from there shut) = let m = n in omega (arith, from, m)
 
+-- nor of that of procedures that are named
+pub not_named : (types : List TypeRow) → row_of types env.procedure ≡ None → (t : TypeId) → IsTold types t → is_the env.procedure t ≡ false
+not_named types none t told = ne_eqb 4294967295 t.0 (by told)
+  where
+    by : IsTold types t → 4294967295 ≡ t.0 → ⊥
+    by (basic below) h = omega (arith, below, h)
+    by (of_any any) h = omega (arith, any, h)
+    by (defined r from there shut) h = none-some r (sym none ∙ ap (slice_get types) h ∙ there)
+
 -- a value is nothing that is assigned
-no_value : (c : Class) (first : Pos) → IsKnownClass IsGood c → IsMadeClass c → written c first ≡ [] → ⊥
+no_value : (c : Class) (first : Pos) → IsKnownClass IsGood c → (IsStored c → ⊥) → written c first ≡ [] → ⊥
 no_value (Constant v) first known is e = cc
 no_value Computed first known is e = cc
 no_value Unknown first known is e = known
 no_value Variable first known is e = is tt
 no_value ReadOnly first known is e = is tt
+no_value (Procedure m n) first known is e = cc
 
 -- what breaks a rule is no statement
 abbrev pub MayBe : Inside → Option Stat → Type 0
@@ -152,9 +159,9 @@ module _ (p : Inside) (e : Env) (whole : IsWhole p e) where
   has_row t told parts =
       ap (λ u. is_whole (row_of p.program.types u)) (id_as e.types t told) ∙ ap (λ rows. is_whole (row_of rows t)) whole.rows ∙ (and_parts _ _ parts).1
 
-  pub copying : (a : Spot) (v : Answer) (is : IsAssigned a) → IsTold e.types is.of → has_parts e is.of ≡ true → IsSound p v → is_compatible e v.known.of a.known.of ≡ true → IsCopied a v is.of
+  pub copying : (a : Spot) (v : Answer) (is : IsAssigned a) → IsTold e.types is.of → has_parts e is.of ≡ true → IsSound p v → is_assignable e v.known a.known.of ≡ true → IsCopied a v is.of
   copying a v is told parts sound h =
-      let place = whole_place p e whole is.of parts v sound (ap (is_compatible e v.known.of) (sym is.known) ∙ h) in
+      let place = whole_place p e whole is.of parts v sound (ap (is_assignable e v.known) (sym is.known) ∙ h) in
       record {
         from = (
           type_as sound.of,
@@ -212,18 +219,13 @@ module _ (p : Inside) (e : Env) (whole : IsWhole p e) where
 
   -- an object of an object type
   abbrev pub IsMade : Option TypeId → Place → Type 0
-  IsMade of place =
-      (is_variable place ≡ true) × IsPlaceOf p place (type.Named (made_type e of)) × (is_object_row (row_of p.program.types (Made of)) ≡ true)
-      × HasBody p.program (made_type e of)
+  IsMade of place = IsPlaceOf p place (type.Named (made_type e of)) × (is_object_row (row_of p.program.types (Made of)) ≡ true)
 
   -- what a pointer leads to, an array with so many lengths
   abbrev pub IsLed : Option TypeId → Place → ℕ → Type 0
   IsLed of place n =
       ((u : TType) × IsPlaceOf p place u × (target p.program.types u ≡ Some (Made of))) × (made_type e of < length p.program.objects)
-      × (n ≡ open_dimensions p.program.types (Made of))
-
-  abbrev pub Makes : Option TypeId → Place → ℕ → Type 0
-  Makes of place n = ((starts_body e of ≡ true) × IsMade of place) ⊎ ((starts_body e of ≡ false) × IsLed of place n)
+      × (is_object_row (row_of p.program.types (Made of)) ≡ false) × (n ≡ open_dimensions p.program.types (Made of))
 
   -- by the number of the type as which objects are made
   made_number_few : (t : TypeId) → IsMadeAs p e whole t →
@@ -235,83 +237,45 @@ module _ (p : Inside) (e : Env) (whole : IsWhole p e) where
       let high = at.1 in
       (number_back p e whole (desig.made_as e t) low, omega (arith, objects, low, high))
 
-  object_made : (t : TypeId) (place : Place) → is_object_type e t ≡ true → HasBody p.program (object_number t) → is_variable place ≡ true → IsPlaceOf p place (type_as t) →
-      (is_variable place ≡ true) × IsPlaceOf p place (type.Named (desig.made_number e t))
-      × (is_object_row (row_of p.program.types (id_of (type.Named (desig.made_number e t)))) ≡ true) × HasBody p.program (desig.made_number e t)
-  object_made t place is body part typed = by (row_of e.types t) refl two.1
+  low : (b : Bool) → not b ≡ true → b ≡ false
+  low true h = absurd (not_both h)
+  low false h = refl
+
+  -- an object type is made as itself
+  pub object_itself : (t : TypeId) → is_object_type e t ≡ true → (is_object_row (row_of e.types t) ≡ true) × (desig.made_number e t ≡ object_number t)
+  object_itself t is = by (row_of e.types t) refl two.1
     where
       two : (not (is_basic t) ≡ true) × (is_object_row (row_of e.types t) ≡ true)
       two = and_parts (not (is_basic t)) _ is
 
-      low : (b : Bool) → not b ≡ true → b ≡ false
-      low true h = absurd (not_both h)
-      low false h = refl
-
-      by : (o : Option TypeRow) → row_of e.types t ≡ o → is_object_row o ≡ true → (is_variable place ≡ true) × IsPlaceOf p place (type.Named (desig.made_number e t))
-          × (is_object_row (row_of p.program.types (id_of (type.Named (desig.made_number e t)))) ≡ true) × HasBody p.program (desig.made_number e t)
-      by (Some (row.Object base fs)) there object =
-          let high = low (is_basic t) two.0 in
-          let made = object_kind p e whole t base fs high there in
-          let itself : desig.made_as e t ≡ t = rw (high, there) refl in
-          let few = made_number_few t made in
-          let kind : is_object_row (row_of p.program.types (id_of (type.Named (desig.made_number e t)))) ≡ true =
-          ap (λ u. is_object_row (row_of p.program.types u)) (few.0 ∙ itself) ∙ ap (λ rows. is_object_row (row_of rows t)) whole.rows ∙ ap is_object_row there in
-          let above = made.0 in (
-            part,
-            subst (IsPlaceOf p place) (as_named t (omega (arith, above)) ∙ ap (λ u. type.Named (object_number u)) (sym itself)) typed,
-            kind,
-            subst (λ u. HasBody p.program (object_number u)) (sym itself) body,
-          )
+      by : (o : Option TypeRow) → row_of e.types t ≡ o → is_object_row o ≡ true → (is_object_row (row_of e.types t) ≡ true) × (desig.made_number e t ≡ object_number t)
+      by (Some (row.Object base fs)) there object = (two.1, rw (low (is_basic t) two.0, there) refl)
       by o there object = absurd (not_both object)
 
-  -- an object without a body
-  object_led : (t : TypeId) (place : Place) (n : ℕ) → is_object_type e t ≡ true → IsPlaceOf p place (type_as t) → (lengths_wanted e t == n) ≡ true →
-      ((u : TType) × IsPlaceOf p place u × (target p.program.types u ≡ Some (id_of (type.Named (desig.made_number e t)))))
-      × (desig.made_number e t < length p.program.objects)
-      × (n ≡ open_dimensions p.program.types (id_of (type.Named (desig.made_number e t))))
-  object_led t place n is typed many = by (row_of e.types t) refl two.1
+  pub object_made : (t : TypeId) (place : Place) → is_object_type e t ≡ true → IsPlaceOf p place (type_as t) → IsMade (Some t) place
+  object_made t place is typed = by (row_of e.types t) refl two.1
     where
       two : (not (is_basic t) ≡ true) × (is_object_row (row_of e.types t) ≡ true)
       two = and_parts (not (is_basic t)) _ is
 
-      low : (b : Bool) → not b ≡ true → b ≡ false
-      low true h = absurd (not_both h)
-      low false h = refl
-
-      by : (o : Option TypeRow) → row_of e.types t ≡ o → is_object_row o ≡ true →
-          ((u : TType) × IsPlaceOf p place u × (target p.program.types u ≡ Some (id_of (type.Named (desig.made_number e t)))))
-          × (desig.made_number e t < length p.program.objects)
-          × (n ≡ open_dimensions p.program.types (id_of (type.Named (desig.made_number e t))))
+      by : (o : Option TypeRow) → row_of e.types t ≡ o → is_object_row o ≡ true → IsMade (Some t) place
       by (Some (row.Object base fs)) there object =
-          let high = low (is_basic t) two.0 in
-          let made = object_kind p e whole t base fs high there in
-          let itself : desig.made_as e t ≡ t = rw (high, there) refl in
-          let few = made_number_few t made in
-          let none : lengths_wanted e t ≡ 0 = rw (high, there) refl in
-          let shut : element_of (row_of p.program.types t) ≡ None = ap (λ rows. element_of (row_of rows t)) whole.rows ∙ ap element_of there in (
-            (type_as t, typed, made.1 ∙ ap (λ v. Some v) (sym few.0)),
-            few.1,
-            sym (eqb-true (lengths_wanted e t) n many) ∙ none ∙ sym (ap (open_dimensions p.program.types) (few.0 ∙ itself) ∙ closed_dimensions p.program.types t shut),
+          let made = object_kind p e whole t base fs (low (is_basic t) two.0) there in
+          let above = made.0 in
+          let number = (object_itself t is).1 in (
+            subst (IsPlaceOf p place) (as_named t (omega (arith, above)) ∙ ap type.Named (sym number)) typed,
+            ap (λ k. is_object_row (row_of p.program.types (id_of (type.Named k)))) number ∙ ap (λ u. is_object_row (row_of p.program.types u)) (number_back p e whole t above)
+                ∙ ap (λ rows. is_object_row (row_of rows t)) whole.rows ∙ two.1,
           )
       by o there object = absurd (not_both object)
 
-  pointer_made : (t : TypeId) (place : Place) (n : ℕ) → is_pointer_type e t ≡ true → IsPlaceOf p place (type_as t) → (lengths_wanted e t == n) ≡ true →
-      ((u : TType) × IsPlaceOf p place u × (target p.program.types u ≡ Some (id_of (type.Named (desig.made_number e t)))))
-      × (desig.made_number e t < length p.program.objects)
-      × (n ≡ open_dimensions p.program.types (id_of (type.Named (desig.made_number e t))))
+  pub pointer_made : (t : TypeId) (place : Place) (n : ℕ) → is_pointer_type e t ≡ true → IsPlaceOf p place (type_as t) → (lengths_wanted e t == n) ≡ true → IsLed (Some t) place n
   pointer_made t place n is typed many = by (row_of e.types t) refl two.1
     where
       two : (not (is_basic t) ≡ true) × (is_pointer_row (row_of e.types t) ≡ true)
       two = and_parts (not (is_basic t)) _ is
 
-      low : (b : Bool) → not b ≡ true → b ≡ false
-      low true h = absurd (not_both h)
-      low false h = refl
-
-      by : (o : Option TypeRow) → row_of e.types t ≡ o → is_pointer_row o ≡ true →
-          ((u : TType) × IsPlaceOf p place u × (target p.program.types u ≡ Some (id_of (type.Named (desig.made_number e t)))))
-          × (desig.made_number e t < length p.program.objects)
-          × (n ≡ open_dimensions p.program.types (id_of (type.Named (desig.made_number e t))))
+      by : (o : Option TypeRow) → row_of e.types t ≡ o → is_pointer_row o ≡ true → IsLed (Some t) place n
       by (Some (row.Pointer u)) there pointer =
           let high = low (is_basic t) two.0 in
           let made = pointer_kind p e whole t u high there in
@@ -321,19 +285,21 @@ module _ (p : Inside) (e : Env) (whole : IsWhole p e) where
           let wanted : lengths_wanted e t ≡ open_dimensions e.types u = rw led refl in (
             (type_as t, typed, made.1 ∙ ap (λ v. Some v) (sym few.0)),
             few.1,
+            ap (λ v. is_object_row (row_of p.program.types v)) few.0 ∙ ap (λ rows. is_object_row (row_of rows (desig.made_as e t))) whole.rows ∙ own.0,
             sym (eqb-true (lengths_wanted e t) n many) ∙ wanted ∙ sym own.1 ∙ ap (λ rows. open_dimensions rows (desig.made_as e t)) (sym whole.rows)
                 ∙ ap (open_dimensions p.program.types) (sym few.0),
           )
       by o there pointer = absurd (not_both pointer)
 
   -- a value isn't made
-  no_class : (a b c : List Breach) (x : Breach) → (a ++ (x ∷ b)) ++ c ≡ [] → ⊥
-  no_class a b c x none = some_breach (none_right a (x ∷ b) (none_left (a ++ (x ∷ b)) c none))
+  no_class : (a : List Breach) (x : Breach) (b : List Breach) → a ++ (x ∷ b) ≡ [] → ⊥
+  no_class a x b none = some_breach (none_right a (x ∷ b) none)
 
-  no_object : (c : Class) (of : Option TypeId) (h : Held) (there at first : Pos) → IsKnownClass IsGood c → IsMadeClass c →
+  no_object : (c : Class) (of : Option TypeId) (h : Held) (there at first : Pos) → IsKnownClass IsGood c → (IsStored c → ⊥) →
       new_breaches e at first (record { known = record { of = of; class = c }; held = h; at = there }) ≡ [] → ⊥
-  no_object (Constant v) of h there at first known value none = no_class (breach_unless (is_made e of) 47 at) [] _ _ none
-  no_object Computed of h there at first known value none = no_class (breach_unless (is_made e of) 47 at) [] _ _ none
+  no_object (Constant v) of h there at first known value none = no_class (breach_unless (is_made e of) 47 at) _ [] none
+  no_object Computed of h there at first known value none = no_class (breach_unless (is_made e of) 47 at) _ [] none
+  no_object (Procedure m n) of h there at first known value none = no_class (breach_unless (is_made e of) 47 at) _ [] none
   no_object Unknown of h there at first known value none = known
   no_object Variable of h there at first known value none = value tt
   no_object ReadOnly of h there at first known value none = value tt
@@ -345,68 +311,43 @@ module _ (p : Inside) (e : Env) (whole : IsWhole p e) where
       by (Stands place) same held sound = subst (λ h. IsTyped p e (place_of h) a.known.of) same sound
       by (Value x) same held sound = absurd (no_object a.known.class a.known.of a.held a.at at first is.class held none)
 
-  pub made_sound : (at first : Pos) (a : Spot) (n : ℕ) → IsRead a → new_breaches e at first a ++ count_breaches e at a.known.of n ≡ [] →
-      Makes a.known.of (place_of a.held) n
-  made_sound at first a n is none = by a.known.of refl (typed_made a at first is own)
+  -- what NEW makes something for is of a pointer type, or of an object type
+  pub record IsTarget (a : Spot) : Type 0 where
+    pub of : TypeId
+    pub known : a.known.of ≡ Some of
+    pub kind : (is_pointer_type e of || is_object_type e of) ≡ true
+    pub typed : IsPlaceOf p (place_of a.held) (type_as of)
+
+  pub target_sound : (at first : Pos) (a : Spot) → IsRead a → new_breaches e at first a ≡ [] → IsTarget a
+  target_sound at first a is none = by a.known.of refl (typed_made a at first is none)
     where
-      own : new_breaches e at first a ≡ []
-      own = none_left (new_breaches e at first a) (count_breaches e at a.known.of n) none
-
       kind : is_made e a.known.of ≡ true
-      kind = test_is (is_made e a.known.of) 47 at (none_left (breach_unless (is_made e a.known.of) 47 at) _ (none_left (breach_unless (is_made e a.known.of) 47 at ++ _) _ own))
-
-      there : is_built_there e a.known.of (place_of a.held) ≡ true
-      there = test_is (is_built_there e a.known.of (place_of a.held)) 99 at (none_right (breach_unless (is_made e a.known.of) 47 at ++ _) _ own)
-
-      counted : count_breaches e at a.known.of n ≡ []
-      counted = none_right (new_breaches e at first a) (count_breaches e at a.known.of n) none
+      kind = test_is (is_made e a.known.of) 47 at (none_left (breach_unless (is_made e a.known.of) 47 at) _ none)
 
       not_open : (t : TypeId) → (is_pointer_type e t || is_object_type e t) ≡ true → is_opened e t ≡ true → ⊥
       not_open t kind opening =
           let u = opened_row e t opening in not_both (sym (ap (λ b. (not b && is_pointer_row (row_of e.types t)) || (not b && is_object_row (row_of e.types t))) u.1 ∙ ap (λ o. is_pointer_row o || is_object_row o) u.2) ∙ kind)
 
-      object_or : (b c : Bool) → (b || c) ≡ true → c ≡ false → b ≡ true
-      object_or true c is other = refl
-      object_or false c is other = sym other ∙ is
+      none_typed : (of : Option TypeId) → of ≡ None → IsTyped p e (place_of a.held) of → ⊥
+      none_typed None is (closed typed known) = known
+      none_typed None is (opened t r same also opening rows lengths) = none-some t same
+      none_typed (Some t) is held = none-some t (sym is)
 
-      counted_lengths : (t : TypeId) → a.known.of ≡ Some t → (is_pointer_type e t || is_object_type e t) ≡ true → (lengths_wanted e t == n) ≡ true
-      counted_lengths t known kind =
-          let test = not (is_pointer_type e t || is_object_type e t) || lengths_wanted e t == n in
-          let many : test ≡ true = test_is test 34 at (sym (ap (λ o. count_breaches e at o n) known) ∙ counted) in
-          sym (ap (λ c. not c || lengths_wanted e t == n) kind) ∙ many
-
-      -- an object's own body
-      own_body : (t b : TypeId) → a.known.of ≡ Some t → started e t ≡ Some b → ((t.0 == b.0) ≡ true) × (is_variable (place_of a.held) ≡ true)
-      own_body t b known body =
-          and_parts (t.0 == b.0) (is_variable (place_of a.held))
-          (sym (ap (is_built_body t (place_of a.held)) body) ∙ sym (ap (λ o. is_built_there e o (place_of a.held)) known) ∙ there)
-
-      led : (t : TypeId) → a.known.of ≡ Some t → (is_pointer_type e t || is_object_type e t) ≡ true → IsPlaceOf p (place_of a.held) (type_as t) → (b : Bool) → is_object_type e t ≡ b →
-          IsLed (Some t) (place_of a.held) n
-      led t known kind held true object = object_led t (place_of a.held) n object held (counted_lengths t known kind)
-      led t known kind held false other =
-          pointer_made t (place_of a.held) n (object_or (is_pointer_type e t) (is_object_type e t) kind other) held (counted_lengths t known kind)
-
-      typed : (t : TypeId) → a.known.of ≡ Some t → (is_pointer_type e t || is_object_type e t) ≡ true → IsPlaceOf p (place_of a.held) (type_as t) →
-          (o : Option TypeId) → started e t ≡ o → Makes (Some t) (place_of a.held) n
-      typed t known kind held None none = inr (ap is_some none, led t known kind held (is_object_type e t) refl)
-      typed t known kind held (Some b) body =
-          let two = own_body t b known body in
-          let one = if_some (is_object_type e t) (env.body_of e t) b body in
-          let own : env.body_of e t ≡ Some t = one.1 ∙ ap (λ u. Some u) (sym (same_type t b two.0)) in
-          inl (ap is_some body, object_made t (place_of a.held) one.0 (whole.bodies t own) two.1 held)
-
-      by : (of : Option TypeId) → a.known.of ≡ of → IsTyped p e (place_of a.held) a.known.of → Makes of (place_of a.held) n
+      by : (of : Option TypeId) → a.known.of ≡ of → IsTyped p e (place_of a.held) a.known.of → IsTarget a
       by None known held = absurd (none_typed a.known.of known held)
-        where
-          none_typed : (of : Option TypeId) → of ≡ None → IsTyped p e (place_of a.held) of → ⊥
-          none_typed None is (closed typed known) = known
-          none_typed None is (opened t r same also opening rows lengths) = none-some t same
-          none_typed (Some t) is held = none-some t (sym is)
       by (Some t) known held =
-          let one = sym (ap (is_made e) known) ∙ kind in
-          typed t known one (told_typed (place_of a.held) t (shut (is_opened e t) refl one) (subst (IsTyped p e (place_of a.held)) known held)).1 (started e t) refl
+          let one = sym (ap (is_made e) known) ∙ kind in record {
+            of = t;
+            known = known;
+            kind = one;
+            typed = (told_typed (place_of a.held) t (shut (is_opened e t) refl one) (subst (IsTyped p e (place_of a.held)) known held)).1;
+          }
         where
           shut : (b : Bool) → is_opened e t ≡ b → (is_pointer_type e t || is_object_type e t) ≡ true → is_opened e t ≡ false
           shut true opening one = absurd (not_open t one opening)
           shut false other one = other
+
+  -- there are as many lengths as open dimensions
+  pub lengths_counted : (at : Pos) (t : TypeId) (n : ℕ) → (is_pointer_type e t || is_object_type e t) ≡ true → count_breaches e at (Some t) n ≡ [] → (lengths_wanted e t == n) ≡ true
+  lengths_counted at t n kind none =
+      sym (ap (λ c. not c || lengths_wanted e t == n) kind) ∙ test_is (not (is_pointer_type e t || is_object_type e t) || lengths_wanted e t == n) 34 at none

@@ -1,5 +1,5 @@
 -- Statements that break no rule are well typed, where the types of all variables are known.
-use Rattle.std.proofs.Common.{◌≡◌, ℤ, ◌⊎◌, inl, inr, arith, length-append, ◌+◌, List, [], ◌∷◌, ◌++◌, drop, length, ◌-◌, slice_get, Bool, true, false, ◌&&◌, ◌||◌, codes, map, ℕ, not, Option, Some, None, is_some, refl, sym, ap, ◌∙◌, subst, if◌then◌else◌}
+use Rattle.std.proofs.Common.{◌≡◌, ℤ, ◌⊎◌, arith, length-append, ◌+◌, List, [], ◌∷◌, ◌++◌, drop, length, ◌-◌, slice_get, ◌==◌, Bool, true, false, ◌&&◌, ◌||◌, codes, map, ℕ, not, Option, Some, None, is_some, refl, sym, ap, ◌∙◌, subst, if◌then◌else◌}
 use Rattle.aos_base.specs.declared.text.Pos.{Pos}
 use Rattle.std.specs.Prelude.{All}
 use Rattle.std.proofs.lemmas.Bool.{and_parts}
@@ -18,11 +18,13 @@ use Rattle.aos_tree.specs.declared.stat.Case.TheVariants as case
 use Rattle.aos_tree.specs.declared.stat.Stat.{Stat as TreeStat, Row_of-Stat, end_of-Stat, more_of-Stat, Row_of-Elsif, end_of-Elsif, more_of-Elsif, Row_of-Case, end_of-Case, more_of-Case, Held-Stat-If-4, None', Some'}
 use Rattle.aos_tree.specs.declared.stat.Stat.TheVariants as stat
 use Rattle.aos_typed.specs.declared.tree.TType.TheVariants as type
+use Rattle.aos_typed.specs.Methods.{initializer}
 use Rattle.aos_typed.specs.Routines.{result_of}
-use Rattle.aos_typed.specs.Program.{Expr, Call, Open as OutOpen, Char, Int, String, Ln, Stat, Assign, Copy, If, Case as CaseOf, While, Repeat, Loop, For, Block as BlockOf, Callee, Plain, Perform, Return, Out, Parameter, Procedure, Arms, Otherwise, Arm, Cases, Else, OfLabels}
+use Rattle.aos_typed.specs.Program.{Expr, Call, Open as OutOpen, Char, Int, String, Ln, Stat, Assign, Copy, If, Case as CaseOf, While, Repeat, Loop, For, Block as BlockOf, Arguments, NoMore, Callee, Plain, Perform, Return, New, Make, Out, Parameter, Procedure, Arms, Otherwise, Arm, Cases, Else, OfLabels}
 use Rattle.aos_typed.specs.WellTyped.{AreLabels, AreApart, labels_of}
 use Rattle.aos_typed.specs.WellTyped as typed
 use Rattle.aos_types.specs.declared.row.TypeId.{TypeId}
+use Rattle.aos_types.specs.Table.{row_of, is_object}
 use Rattle.aos_symbols.specs.declared.scope.Meaning.{Meaning}
 use Rattle.aos_symbols.specs.declared.scope.Meaning.TheVariants as means
 use Rattle.aos_symbols.specs.declared.scope.Routine.{Routine}
@@ -32,6 +34,7 @@ use Rattle.aos_symbols.specs.declared.home.Gives.TheVariants as gives
 use Rattle.aos_symbols.specs.declared.home.Signature.{Signature}
 use Rattle.aos_tree.specs.declared.decl.Export.{Export}
 use Rattle.aos_symbols.specs.declared.env.Open.{Open}
+use Rattle.aos_symbols.specs.declared.env.Method.{Method}
 use Rattle.aos_symbols.specs.declared.env.Symbol.{Symbol}
 use Rattle.aos_symbols.specs.declared.env.Lookup.{Lookup}
 use Rattle.aos_symbols.specs.declared.env.Lookup.TheVariants.{Unknown as NoName, NotExported, Found}
@@ -44,24 +47,27 @@ use Rattle.aos_symbols.specs.Env as env
 use Rattle.aos_symbols.proofs.Each.{Each}
 use Rattle.aos_symbols.proofs.Holds.{Holds, holds_bind, holds_walk, none_left, none_right, test_is, broken}
 use Rattle.aos_check_expr.specs.declared.known.Class.{Class}
-use Rattle.aos_check_expr.specs.declared.known.Class.TheVariants.{Unknown, Constant, Variable, ReadOnly, Computed}
+use Rattle.aos_check_expr.specs.declared.known.Class.TheVariants.{Unknown, Constant, Variable, ReadOnly, Computed, Procedure as ClassOf}
+use Rattle.aos_check_expr.specs.declared.signatures.Heading.{Heading}
+use Rattle.aos_check_expr.specs.declared.signatures.Heading.TheVariants as heading
 use Rattle.aos_check_expr.specs.declared.designators.Head.{Head}
-use Rattle.aos_check_expr.specs.Known.{Answer, Spot, passes, type_as, is_long_text, is_number, is_char, width_of}
+use Rattle.aos_check_expr.specs.Known.{Answer, Spot, passes, is as is_the, object_number, type_as, is_long_text, is_number, is_char, width_of}
 use Rattle.aos_check_expr.specs.Designators as desig
-use Rattle.aos_check_expr.specs.Designators.{has_parts, is_opened, assigned, place_of, place_in}
+use Rattle.aos_check_expr.specs.Designators.{has_parts, is_opened, is_pointer_type, is_object_type, assigned, place_of, place_in}
 use Rattle.aos_check_expr.specs.Arguments.{Handing, arguments_for, listed as listed_arguments}
 use Rattle.aos_check_expr.specs.Expressions as judge_expr
-use Rattle.aos_check_expr.specs.Expressions.{is_opening, text_rows, known_type, expr, condition, argument, designator, desig_alone}
-use Rattle.aos_check_expr.proofs.Inside.{Inside, IsOf, AreArguments, IsCalled, IsCall, IsStatement, AreStatements, AreArms, AreCases}
+use Rattle.aos_check_expr.specs.Expressions.{is_opening, signature_of, text_rows, known_type, expr, condition, argument, designator, desig_alone}
+use Rattle.aos_check_expr.proofs.Inside.{Inside, IsPlaceOf, IsOf, AreArguments, IsCalled, IsInitialized, IsCall, IsStatement, AreStatements, AreArms, AreCases}
 use Rattle.aos_check_expr.proofs.Sound.{sound_number}
 use Rattle.aos_check_expr.proofs.Passed.{scalar_fits}
 use Rattle.aos_check_expr.proofs.Tested.{known_some}
 use Rattle.aos_check_expr.proofs.Spots.{AreParameters, IsResultOf, IsSigned, IsSpot, Part, IsProcedure, MayFind, plain_head, behind_head, behind_of_module, named_spot, spotted, refused_part}
 use Rattle.aos_check_expr.proofs.Typing.{IsWhole, IsSound, IsTextAt, expr_sound, expr_part, condition_sound, argument_sound, text_argument, arguments_part, Parted, spot_fine, bound_fine, bracketed_fine, parts_sound}
 use Rattle.aos_check_expr.proofs.Called.{IsCalling, IsBound}
+use Rattle.aos_check_expr.proofs.Initials.{initialized, none_initialized}
 use Rattle.aos_check_stat.specs.Bodies as judge
-use Rattle.aos_check_stat.specs.Bodies.{listed, put, made, new_breaches, count_breaches, outs, ended, arguments, behind_arguments, goes_on, modifier_breaches}
-use Rattle.aos_check_stat.proofs.Places.{MayBe as MayBeOf, some_breach, not_long, not_nil, IsRead, read_sound, IsAssigned, assigned_sound, told_typed, copying, putting, copied_text, Makes, made_sound}
+use Rattle.aos_check_stat.specs.Bodies.{listed, put, lengths_wanted, new_breaches, count_breaches, outs, ended, arguments, behind_arguments, goes_on, modifier_breaches}
+use Rattle.aos_check_stat.proofs.Places.{MayBe as MayBeOf, some_breach, not_long, not_nil, not_named, IsRead, read_sound, IsAssigned, assigned_sound, told_typed, copying, putting, copied_text, object_itself, object_made, pointer_made, IsTarget, target_sound, lengths_counted}
 use Rattle.aos_check_stat.proofs.Changed.{place_changed, change_call_sound, assert_sound, halt_sound}
 use Rattle.aos_check_stat.proofs.Apart.{between}
 use Rattle.aos_check_stat.proofs.Narrowed.{whole_within, narrows_on, with_typed}
@@ -97,37 +103,39 @@ module _ (p : Inside) (e : Env) (whole : IsWhole p e) where
   none_of (Some x) h = absurd (cc)
 
   -- an assigned value fits
-  stat_sound_of : (first : Pos) (a : Spot) (v : Answer) → IsAssigned p e whole a → IsSound p v → judge.value_fits e a v (judge.text_to e a v) ≡ true →
+  stat_sound_of : (first : Pos) (a : Spot) (v : Answer) → IsAssigned p e whole a → Part p e v → judge.value_fits e a v (judge.text_to e a v) ≡ true →
       IsStatement p (judge.assigned_stat e first a v)
-  stat_sound_of first a v is sound h =
+  stat_sound_of first a v is part h =
       either_stat (is_some (judge.text_to e a v)) (judge.put_text e first true v a) _
-      (λ some. let t = some_of (judge.text_to e a v) some in putting p e whole first a v t.0 is sound t.1)
+      (λ some. let t = some_of (judge.text_to e a v) some in putting p e whole first a v t.0 is (part.sound whole) t.1)
       (λ none. let fit = fitted (none_of (judge.text_to e a v) none) in rw is.known (by fit.0 fit.1 (has_parts e is.of) refl))
     where
       not_true : (b : Bool) → not b ≡ true → b ≡ false
       not_true true e = absurd (cc)
       not_true false e = refl
 
-      fitted : judge.text_to e a v ≡ None → (desig.is_compatible e v.known.of a.known.of ≡ true) × (is_opened e is.of ≡ false)
+      fitted : judge.text_to e a v ≡ None → (desig.is_assignable e v.known a.known.of ≡ true) × (is_opened e is.of ≡ false)
       fitted none =
-          let two = and_parts (desig.is_compatible e v.known.of a.known.of) (not (is_opening e a.known.of)) (ap (judge.value_fits e a v) (sym none) ∙ h) in
+          let two = and_parts (desig.is_assignable e v.known a.known.of) (not (is_opening e a.known.of)) (ap (judge.value_fits e a v) (sym none) ∙ h) in
           (two.0, not_true (is_opened e is.of) (ap (λ o. not (is_opening e o)) (sym is.known) ∙ two.1))
 
       without : (b c : Bool) → (b || c) ≡ true → c ≡ false → b ≡ true
       without true c e n = refl
       without false c e n = sym n ∙ e
 
-      by : desig.is_compatible e v.known.of a.known.of ≡ true → is_opened e is.of ≡ false → (parts : Bool) → has_parts e is.of ≡ parts →
-          IsStatement p (if parts then Copy first (type_as is.of) (place_of a.held) (place_in v.typed) else Assign first (type_as is.of) (place_of a.held) v.typed)
+      by : desig.is_assignable e v.known a.known.of ≡ true → is_opened e is.of ≡ false → (parts : Bool) → has_parts e is.of ≡ parts →
+          IsStatement p (if parts then Copy first (type_as is.of) (place_of a.held) (place_in v.typed)
+          else Assign first (type_as is.of) (place_of a.held) (desig.typed_for e (Some is.of) v))
       by h isnt true parts =
           let held = told_typed p e whole (place_of a.held) is.of isnt is.typed in
-          let c = copying p e whole a v is held.0 parts sound h in (held.1, c.from, c.row)
+          let c = copying p e whole a v is held.0 parts (part.sound whole) h in (held.1, c.from, c.row)
       by h isnt false parts =
           let held = told_typed p e whole (place_of a.held) is.of isnt is.typed in
           let none : (has_parts e is.of || is_opened e is.of) ≡ false = rw (parts, isnt) refl in
-          let short = without (desig.is_value e is.of || is_long_text is.of) (has_parts e is.of || is_opened e is.of) is.built none in
-          let value = without (desig.is_value e is.of) (is_long_text is.of) short (not_long e.types is.of held.0) in
-          let fit = scalar_fits p e whole is.of (not_nil e.types is.of held.0) value v sound (ap (desig.is_compatible e v.known.of) (sym is.known) ∙ h) in
+          let short = without (desig.is_value e is.of || (is_long_text is.of || is_the env.procedure is.of)) (has_parts e is.of || is_opened e is.of) is.built none in
+          let other : (is_long_text is.of || is_the env.procedure is.of) ≡ false = rw (not_long e.types is.of held.0, not_named e.types whole.unnamed is.of held.0) refl in
+          let value = without (desig.is_value e is.of) (is_long_text is.of || is_the env.procedure is.of) short other in
+          let fit = scalar_fits p e whole is.of (not_nil e.types is.of held.0) value v part (ap (desig.is_assignable e v.known) (sym is.known) ∙ h) in
           (held.1, fit.0, fit.1)
 
   assign_sound : (d : Desig) (at : Pos) (x : TreeExpr) → Holds MayBe (judge.assign e d at x)
@@ -135,8 +143,8 @@ module _ (p : Inside) (e : Env) (whole : IsWhole p e) where
       let last = λ (a : Spot) (v : Answer). judged (judge.assign_breaches e at a v) (Some (judge.assigned_stat e d.name.pos a v)) in
       holds_bind (IsAssigned p e whole) MayBe (bind (designator e d) (λ a. assigned e d.name.pos a)) (λ a. bind (expr e x) (λ v. last a v))
       (holds_bind (IsRead p e whole) (IsAssigned p e whole) (designator e d) (λ a. assigned e d.name.pos a) (read_sound p e whole d) (λ a is. assigned_sound p e whole a d.name.pos is))
-      (λ a is. holds_bind (IsSound p) MayBe (expr e x) (λ v. last a v) (expr_sound p e whole x)
-      (λ v sound h. stat_sound_of d.name.pos a v is sound (test_is (judge.value_fits e a v (judge.text_to e a v)) 31 at h)))
+      (λ a is. holds_bind (Part p e) MayBe (expr e x) (λ v. last a v) (expr_part p e whole x)
+      (λ v part h. stat_sound_of d.name.pos a v is part (test_is (judge.value_fits e a v (judge.text_to e a v)) 31 at h)))
 
   -- The procedures of Out.
 
@@ -198,42 +206,109 @@ module _ (p : Inside) (e : Env) (whole : IsWhole p e) where
   out_selectors_sound at (s.Index' q shape row ∷ more) = λ h. tt
   out_selectors_sound at (s.Follow q ∷ more) = λ h. tt
 
+  -- Arguments.
+
+  parts_of : (xs : List TreeExpr) → Each (Holds (Part p e)) (map (expr e) xs)
+  parts_of [] = tt
+  parts_of (x ∷ xs) = (expr_part p e whole x, parts_of xs)
+
+  abbrev IsHanded : Signature → Handing → Type 0
+  IsHanded sig g =
+      (g.are_kept ≡ true)
+      × (IsWhole p e → (as' : List Parameter) → AreParameters e sig.parameters as' → AreArguments p (listed_arguments g.given) as')
+
   -- NEW.
 
   behind_lengths : (ns : List Expr) (x : Expr) → typed.AreLengthsOf p.program p.own ns → IsOf p x (type.Integer W64) → typed.AreLengthsOf p.program p.own (ns ++ x ∷ [])
   behind_lengths [] x are is = (is, tt)
   behind_lengths (n ∷ ns) x are is = (are.0, behind_lengths ns x are.1 is)
 
-  length_sound : (at : Pos) (ns : List Expr) (x : TreeExpr) → typed.AreLengthsOf p.program p.own ns → Holds (typed.AreLengthsOf p.program p.own) (judge.with_length e at ns x)
-  length_sound at ns x are =
+  length_sound : (at : Pos) (t : TypeId) (ns : List Expr) (x : TreeExpr) → typed.AreLengthsOf p.program p.own ns → Holds (typed.AreLengthsOf p.program p.own) (judge.with_length e at (Some t) ns x)
+  length_sound at t ns x are =
       holds_bind (IsSound p) (typed.AreLengthsOf p.program p.own) (expr e x) (λ v. judged (breach_unless (is_number v.known.of) 47 at) (ns ++ v.typed ∷ [])) (expr_sound p e whole x)
       (λ v sound h. behind_lengths ns v.typed are (sound_number p v sound (test_is (is_number v.known.of) 47 at h)))
 
-  many_lengths : (at : Pos) (xs : List TreeExpr) (ns : List Expr) → length (walk (judge.with_length e at) ns xs).answer ≡ length ns + length xs
-  many_lengths at [] ns = omega arith
-  many_lengths at (x ∷ xs) ns =
+  many_lengths : (at : Pos) (of : Option TypeId) (xs : List TreeExpr) (ns : List Expr) → length (walk (judge.with_length e at of) ns xs).answer ≡ length ns + length xs
+  many_lengths at of [] ns = omega arith
+  many_lengths at of (x ∷ xs) ns =
       let v = (expr e x).answer.typed in
-      let more = many_lengths at xs (ns ++ v ∷ []) in
+      let more = many_lengths at of xs (ns ++ v ∷ []) in
       let one = length-append ns (v ∷ []) in
       omega (arith, more, one)
 
-  lengths_sound : (at : Pos) (xs : List TreeExpr) → Holds (λ ns. typed.AreLengthsOf p.program p.own ns × (length ns ≡ length xs)) (walk (judge.with_length e at) [] xs)
-  lengths_sound at xs none = (
-    holds_walk (typed.AreLengthsOf p.program p.own) (judge.with_length e at) (λ ns x are. length_sound at ns x are) xs [] tt none,
-    many_lengths at xs [] ∙ (let same : 0 + length xs ≡ length xs = omega arith in same),
+  abbrev AreLengths : List TreeExpr → List Expr → Type 0
+  AreLengths xs ns = typed.AreLengthsOf p.program p.own ns × (length ns ≡ length xs)
+
+  lengths_sound : (at : Pos) (t : TypeId) (xs : List TreeExpr) → Holds (AreLengths xs) (walk (judge.with_length e at (Some t)) [] xs)
+  lengths_sound at t xs none = (
+    holds_walk (typed.AreLengthsOf p.program p.own) (judge.with_length e at (Some t)) (λ ns x are. length_sound at t ns x are) xs [] tt none,
+    many_lengths at (Some t) xs [] ∙ (let same : 0 + length xs ≡ length xs = omega arith in same),
   )
 
-  made_statement : (at : Pos) (a : Spot) (ns : List Expr) → Makes p e whole a.known.of (place_of a.held) (length ns) → typed.AreLengthsOf p.program p.own ns → MayBe (judge.made e at a ns)
-  made_statement at a ns (inl is) are = rw is.0 is.1
-  made_statement at a ns (inr is) are = rw is.0 (is.1.0, is.1.1, are, is.1.2)
+  -- of what a pointer leads to
+  led_sound : (at : Pos) (a : Spot) (t : TypeId) → a.known.of ≡ Some t → is_pointer_type e t ≡ true → IsPlaceOf p (place_of a.held) (type_as t) → (xs : List TreeExpr) →
+      Holds MayBe (judge.new_lengths e at a xs)
+  led_sound at a t known pointer held xs =
+      let made = λ (ns : List Expr). kept (Some (Make at (place_of a.held) (judge.made_type e (Some t)) ns)) in
+      rw known
+      (holds_bind (λ (ns : List Expr). (ns ≡ []) × ((lengths_wanted e t == length xs) ≡ true)) MayBe (judged (count_breaches e at (Some t) (length xs)) [])
+      (λ none. bind (walk (judge.with_length e at (Some t)) none xs) made)
+      (λ h. (refl, lengths_counted p e whole at t (length xs) (first (is_pointer_type e t) pointer (is_object_type e t)) h))
+      (λ none many. subst (λ ns. Holds MayBe (bind (walk (judge.with_length e at (Some t)) ns xs) made)) (sym many.0)
+      (holds_bind (AreLengths xs) MayBe (walk (judge.with_length e at (Some t)) [] xs) made (lengths_sound at t xs)
+      (λ ns are h. let led = pointer_made p e whole t (place_of a.held) (length xs) pointer held many.1 in (led.0, led.1, led.2, are.0, are.1 ∙ led.3)))))
+    where
+      first : (b : Bool) → b ≡ true → (c : Bool) → (b || c) ≡ true
+      first true is c = refl
+      first false is c = absurd (cc)
+
+  -- What an initializer is handed.
+
+  abbrev IsInitializedBy : TypeId → Arguments → Type 0
+  IsInitializedBy t more = IsInitialized p (initializer p.program (object_number t)) (object_number t) more
+
+  initialized_by_sound : (at : Pos) (t : TypeId) → is_object (row_of e.types t) ≡ true → (m : Method) → env.initializer e t ≡ Some m → (xs : List TreeExpr) →
+      Holds (IsInitializedBy t) (judge.initialized_by e at (env.signature e m.home m.number) xs)
+  initialized_by_sound at t object m found xs = by (env.signature e m.home m.number) refl
+    where
+      by : (o : Option Signature) → env.signature e m.home m.number ≡ o → Holds (IsInitializedBy t) (judge.initialized_by e at o xs)
+      by None is = broken (IsInitializedBy t) (record { rule = 99; pos = at }) [] NoMore
+      by (Some sig) is =
+          holds_bind (IsHanded sig) (IsInitializedBy t) (arguments_for e at sig.parameters (map (expr e) xs) xs) (λ h. kept (listed_arguments h.given))
+          (arguments_part p e at sig.parameters (map (expr e) xs) (parts_of xs) xs (length-map xs (expr e)))
+          (λ g handed h. initialized p e whole t object m found sig is (listed_arguments g.given) (handed.1 whole))
+
+  initialized_sound : (at : Pos) (t : TypeId) → is_object (row_of e.types t) ≡ true → (o : Option Method) → env.initializer e t ≡ o → (xs : List TreeExpr) →
+      Holds (IsInitializedBy t) (judge.initialized e at o xs)
+  initialized_sound at t object None found xs = λ h. none_initialized p e whole t object found
+  initialized_sound at t object (Some m) found xs = initialized_by_sound at t object m found xs
+
+  object_sound : (at : Pos) (a : Spot) (t : TypeId) → a.known.of ≡ Some t → is_object_type e t ≡ true → IsPlaceOf p (place_of a.held) (type_as t) → (xs : List TreeExpr) →
+      Holds MayBe (judge.new_object e at a xs)
+  object_sound at a t known is held xs =
+      let own = object_itself p e whole t is in
+      rw known
+      (holds_bind (IsInitializedBy t) MayBe (judge.initialized e at (env.initializer e t) xs) (λ more. kept (Some (New at (place_of a.held) (judge.made_type e (Some t)) more)))
+      (initialized_sound at t own.0 (env.initializer e t) refl xs)
+      (λ more handed h. let made = object_made p e whole t (place_of a.held) is held in
+      (made.0, made.1, subst (λ k. IsInitialized p (initializer p.program k) k more) (sym own.1) handed)))
 
   new_with_sound : (at first : Pos) (a : Spot) → IsRead p e whole a → (xs : List TreeExpr) → Holds MayBe (judge.new_with e at first a xs)
   new_with_sound at first a is xs =
-      holds_bind (λ b. Makes p e whole b.known.of (place_of b.held) (length xs)) MayBe (judged (new_breaches e at first a ++ count_breaches e at a.known.of (length xs)) a)
-      (λ b. bind (walk (judge.with_length e at) [] xs) (λ ns. kept (made e at b ns)))
-      (λ h. made_sound p e whole at first a (length xs) is h)
-      (λ b makes. holds_bind (λ ns. typed.AreLengthsOf p.program p.own ns × (length ns ≡ length xs)) MayBe (walk (judge.with_length e at) [] xs) (λ ns. kept (made e at b ns)) (lengths_sound at xs)
-      (λ ns are h. made_statement at b ns (subst (Makes p e whole b.known.of (place_of b.held)) (sym are.1) makes) are.0))
+      holds_bind (IsTarget p e whole) MayBe (judged (new_breaches e at first a) a) (λ b. if judge.makes_object e b.known.of then judge.new_object e at b xs else judge.new_lengths e at b xs)
+      (target_sound p e whole at first a is)
+      (λ b to. by b to (is_object_type e to.of) refl)
+    where
+      object_or : (b c : Bool) → (b || c) ≡ true → c ≡ false → b ≡ true
+      object_or true c is other = refl
+      object_or false c is other = sym other ∙ is
+
+      by : (b : Spot) (to : IsTarget p e whole b) (c : Bool) → is_object_type e to.of ≡ c →
+          Holds MayBe (if judge.makes_object e b.known.of then judge.new_object e at b xs else judge.new_lengths e at b xs)
+      by b to true kind = rw (ap (judge.makes_object e) to.known ∙ kind) (object_sound at b to.of to.known kind to.typed xs)
+      by b to false kind =
+          rw (ap (judge.makes_object e) to.known ∙ kind)
+          (led_sound at b to.of to.known (object_or (is_pointer_type e to.of) (is_object_type e to.of) to.kind kind) to.typed xs)
 
   new_of_sound : (at first : Pos) (o : Option Desig) (xs : List TreeExpr) → Holds MayBe (judge.new_of e at first o xs)
   new_of_sound at first None xs = λ h. tt
@@ -280,17 +355,9 @@ module _ (p : Inside) (e : Env) (whole : IsWhole p e) where
   no_call_sound at Variable = λ h. tt
   no_call_sound at ReadOnly = λ h. tt
   no_call_sound at Computed = λ h. tt
+  no_call_sound at (ClassOf m n) = λ h. tt
 
   -- Procedures that modules declare.
-
-  parts_of : (xs : List TreeExpr) → Each (Holds (Part p e)) (map (expr e) xs)
-  parts_of [] = tt
-  parts_of (x ∷ xs) = (expr_part p e whole x, parts_of xs)
-
-  abbrev IsHanded : Signature → Handing → Type 0
-  IsHanded sig g =
-      (g.are_kept ≡ true)
-      × (IsWhole p e → (as' : List Parameter) → AreParameters e sig.parameters as' → AreArguments p (listed_arguments g.given) as')
 
   perform_with_sound : (at : Pos) (c : Callee) (sig : Signature) → (q : Procedure) × IsCalled p c q × IsSigned e sig q → sig.gives ≡ gives.Nothing → (xs : List TreeExpr) →
       Holds MayBe (judge.perform_with e at c sig xs)
@@ -306,17 +373,17 @@ module _ (p : Inside) (e : Env) (whole : IsWhole p e) where
       by gives.Nothing same = rw same (perform_with_sound at c sig q same xs)
       by (gives.Value of) same = rw same (λ h. tt)
 
-  perform_sound : (at : Pos) (c : Callee) (m k : ℕ) → IsCalling p e c m k → (xs : List TreeExpr) → Holds MayBe (judge.perform e at c m k xs)
-  perform_sound at c m k called xs = by (env.signature e m k) refl
+  perform_sound : (at : Pos) (c : Callee) (g : Heading) → IsCalling p e c g → (xs : List TreeExpr) → Holds MayBe (judge.perform e at c g xs)
+  perform_sound at c g called xs = by (signature_of e g) refl
     where
-      by : (o : Option Signature) → env.signature e m k ≡ o → Holds MayBe (judge.perform e at c m k xs)
+      by : (o : Option Signature) → signature_of e g ≡ o → Holds MayBe (judge.perform e at c g xs)
       by (Some sig) is = rw is (perform_signed_sound at c sig (called sig is) xs)
       by None is = rw is (λ h. tt)
 
-  performed_sound : (at : Pos) (x : Symbol) (k : ℕ) → IsCalling p e (Plain x.at.home k) x.at.home k → (more : List Selector) → Holds MayBe (judge.performed e at x k more)
+  performed_sound : (at : Pos) (x : Symbol) (k : ℕ) → IsCalling p e (Plain x.at.home k) (heading.Declared x.at.home k) → (more : List Selector) → Holds MayBe (judge.performed e at x k more)
   performed_sound at x k called more =
-      ended_sound at (behind_arguments more) (judge.perform e at (Plain x.at.home k) x.at.home k (arguments more))
-      (perform_sound at (Plain x.at.home k) x.at.home k called (arguments more))
+      ended_sound at (behind_arguments more) (judge.perform e at (Plain x.at.home k) (heading.Declared x.at.home k) (arguments more))
+      (perform_sound at (Plain x.at.home k) (heading.Declared x.at.home k) called (arguments more))
 
   -- What a designator is.
 
@@ -328,11 +395,11 @@ module _ (p : Inside) (e : Env) (whole : IsWhole p e) where
       holds_bind (IsSpot p e) MayBe (bind j (judge_expr.spot_of_part e)) (λ a. judge.no_call first a.known.class)
       (holds_bind IsPart (IsSpot p e) j (judge_expr.spot_of_part e) is (spot_fine p e whole.constants)) (λ a x. no_call_sound first a.known.class)
 
-  method_sound : (first : Pos) (b : judge_expr.Bound) → IsBound p e b → (xs : List TreeExpr) → Holds MayBe (judge.perform_method e first b xs)
-  method_sound first b is xs = perform_sound first b.callee b.home b.number (is whole) xs
+  bound_sound : (first : Pos) (b : judge_expr.Bound) → IsBound p e b → (xs : List TreeExpr) → Holds MayBe (judge.perform_bound e first b xs)
+  bound_sound first b is xs = perform_sound first b.callee b.heading (is whole) xs
 
   alone_sound : (first : Pos) (a : judge_expr.Part) → IsPart a → Holds MayBe (judge.called_as e first a)
-  alone_sound first (judge_expr.Waits b) is = method_sound first b is []
+  alone_sound first (judge_expr.Waits b) is = bound_sound first b is []
   alone_sound first (judge_expr.Begun h) is = spot_sound first (kept (judge_expr.Begun h)) (λ none. is)
   alone_sound first (judge_expr.Meant a) is = spot_sound first (kept (judge_expr.Meant a)) (λ none. is)
 
@@ -342,19 +409,19 @@ module _ (p : Inside) (e : Env) (whole : IsWhole p e) where
       (bracketed_fine p e whole.constants first a is at (map (expr e) xs) (parts_of xs) xs (length-map xs (expr e)))
 
   with_sound : (first : Pos) (a : judge_expr.Part) → IsPart a → (at : Pos) (xs : List TreeExpr) → Holds MayBe (judge.bracketed_as e first a at xs)
-  with_sound first (judge_expr.Waits b) is at xs = method_sound first b is xs
+  with_sound first (judge_expr.Waits b) is at xs = bound_sound first b is xs
   with_sound first (judge_expr.Begun h) is at xs = bracket_sound first (judge_expr.Begun h) is at xs
   with_sound first (judge_expr.Meant a) is at xs = bracket_sound first (judge_expr.Meant a) is at xs
 
   whole_sound : (d : Desig) → Holds MayBe (judge.called_whole e d)
   whole_sound d =
       holds_bind IsPart MayBe (judge.part_of e d d.selectors) (λ a. judge.called_alone e d.name.pos a) (parts_sound p e whole d.name d.selectors)
-      (λ a is. alone_sound d.name.pos (judge_expr.bound_part e a) (bound_fine p e whole.constants a is))
+      (λ a is. alone_sound d.name.pos (judge_expr.bound_part e d.name.pos a) (bound_fine p e whole.constants d.name.pos a is))
 
   before_sound : (d : Desig) (at : Pos) (xs : List TreeExpr) → Holds MayBe (judge.called_before e d at xs)
   before_sound d at xs =
       holds_bind IsPart MayBe (judge.part_of e d (judge.before_last d.selectors)) (λ a. judge.called_with e d.name.pos a at xs) (parts_sound p e whole d.name (judge.before_last d.selectors))
-      (λ a is. with_sound d.name.pos (judge_expr.bound_part e a) (bound_fine p e whole.constants a is) at xs)
+      (λ a is. with_sound d.name.pos (judge_expr.bound_part e d.name.pos a) (bound_fine p e whole.constants d.name.pos a is) at xs)
 
   value_sound : (d : Desig) → Holds MayBe (judge.called_value e d)
   value_sound d = by (slice_get d.selectors (length d.selectors - 1))
@@ -366,7 +433,7 @@ module _ (p : Inside) (e : Env) (whole : IsWhole p e) where
       by (Some (s.Follow q)) = whole_sound d
       by None = whole_sound d
 
-  member_meant_sound : (m : Meaning) (o : Open) (mark : Option Export) → ((k : ℕ) → m ≡ means.Procedure k → IsCalling p e (Plain o.home k) o.home k) → (more : List Selector) (d : Desig) →
+  member_meant_sound : (m : Meaning) (o : Open) (mark : Option Export) → ((k : ℕ) → m ≡ means.Procedure k → IsCalling p e (Plain o.home k) (heading.Declared o.home k)) → (more : List Selector) (d : Desig) →
       Holds MayBe (judge.called_member e (Found (record { at = o; mark = mark; means = m })) more d)
   member_meant_sound (means.Procedure k) o mark called more d = by (goes_on more)
     where
@@ -421,13 +488,15 @@ module _ (p : Inside) (e : Env) (whole : IsWhole p e) where
   return_sound at gives.Nothing is (Some x) = holds_bind (IsSound p) MayBe (expr e x) (λ _. judge.refused 40 at) (expr_sound p e whole x) (λ _ sound h. tt)
   return_sound at (gives.Value of) is None = λ h. tt
   return_sound at (gives.Value of) is (Some x) =
-      holds_bind (IsSound p) MayBe (expr e x)
-      (λ v. judged (breach_unless (desig.is_compatible e v.known.of of) 40 at ++ breach_unless (passes (desig.is_value e) of) 99 at) (Some (Return at (Some v.typed)))) (expr_sound p e whole x)
-      (λ v sound h. let fit = breach_unless (desig.is_compatible e v.known.of of) 40 at in
-      let low = breach_unless (passes (desig.is_value e) of) 99 at in
-      subst (λ r. typed.IsReturn p.program p.own (Some v.typed) r) (sym is.2)
-      (scalar_fits p e whole is.0 is.3 (subst (λ o. passes (desig.is_value e) o ≡ true) is.1 (test_is (passes (desig.is_value e) of) 99 at (none_right fit low h))) v sound
-      (subst (λ o. desig.is_compatible e v.known.of o ≡ true) is.1 (test_is (desig.is_compatible e v.known.of of) 40 at (none_left fit low h)))).1)
+      let given = λ (o : Option TypeId) (v : Answer).
+      judged (breach_unless (desig.is_assignable e v.known o) 40 at ++ breach_unless (passes (desig.is_value e) o) 99 at) (Some (Return at (Some (desig.typed_for e o v)))) in
+      subst (λ o. Holds MayBe (bind (expr e x) (given o))) (sym is.1)
+      (holds_bind (Part p e) MayBe (expr e x) (given (Some is.0)) (expr_part p e whole x)
+      (λ v part h. let fit = breach_unless (desig.is_assignable e v.known (Some is.0)) 40 at in
+      let low = breach_unless (desig.is_value e is.0) 99 at in
+      subst (λ r. typed.IsReturn p.program p.own (Some (desig.typed_for e (Some is.0) v)) r) (sym is.2)
+      (scalar_fits p e whole is.0 is.3 (test_is (desig.is_value e is.0) 99 at (none_right fit low h)) v part
+      (test_is (desig.is_assignable e v.known (Some is.0)) 40 at (none_left fit low h))).1))
 
   exit_sound : (in_loop : Bool) (at : Pos) → Holds MayBe (judge.exit_of in_loop at)
   exit_sound true at = λ h. tt

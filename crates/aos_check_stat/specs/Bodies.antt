@@ -1,6 +1,6 @@
 -- The third pass: bodies. Built are assignments, calls of procedures and methods, all other statements but AWAIT, the predeclared
--- procedures, of which NEW takes a pointer or an object variable, which is no part of another where the object has a body, the calls of Out, and of the modifiers ACTIVE on an
--- object's body.
+-- procedures, of which NEW takes a pointer or an object variable, with the arguments of the object's initializer, the calls of Out, and of
+-- the modifiers ACTIVE on an object's body.
 -- A statement that isn't built is refused at its first token, a modifier at itself.
 use Rattle.std.specs.Prelude.{ℕ, ◌-◌, ℤ, pos, ◌||◌, slice_get, take, drop, List, [], ◌∷◌, ◌++◌, length, codes, map, Bool, true, false, not, ◌&&◌, Option, Some, None, is_some, if◌then◌else◌, ◌==◌}
 use Rattle.std.specs.Option.{is_none, unwrap_or, option_map}
@@ -20,7 +20,7 @@ use Rattle.aos_tree.specs.declared.stat.Label.{Label}
 use Rattle.aos_tree.specs.declared.stat.Case.TheVariants as case
 use Rattle.aos_tree.specs.declared.stat.Stat.{Stat as TreeStat, Row_of-Stat, end_of-Stat, more_of-Stat, Row_of-Elsif, end_of-Elsif, more_of-Elsif, Row_of-Case, end_of-Case, more_of-Case, Held-Stat-If-4, None', Some'}
 use Rattle.aos_tree.specs.declared.stat.Stat.TheVariants as stat
-use Rattle.aos_typed.specs.Program.{Callee, Plain, Call, Open, Char, Int, String, Ln, Place, ModuleVar, Expr as Typed, Lit, Stat, Assign, Copy, PutText, If, Case, While, Repeat, Loop, Exit, For, Block, Assert, Halt, Change, Perform, Return, New, Make, With, WithRecord, Out, Stats, Nothing, Then, Arms, Otherwise, Arm, Cases, NoElse, Else, OfLabels}
+use Rattle.aos_typed.specs.Program.{Arguments, NoMore, Callee, Plain, Call, Open, Char, Int, String, Ln, Place, ModuleVar, Expr as Typed, Lit, Stat, Assign, Copy, PutText, If, Case, While, Repeat, Loop, Exit, For, Block, Assert, Halt, Change, Perform, Return, New, Make, With, WithRecord, Out, Stats, Nothing, Then, Arms, Otherwise, Arm, Cases, NoElse, Else, OfLabels}
 use Rattle.aos_typed.specs.declared.tree.TextConstant.{TextConstant}
 use Rattle.aos_typed.specs.declared.tree.Literal.{Literal}
 use Rattle.aos_typed.specs.declared.tree.Literal.TheVariants as literal
@@ -39,6 +39,7 @@ use Rattle.aos_symbols.specs.declared.home.Signature.{Signature}
 use Rattle.aos_symbols.specs.declared.env.Symbol.{Symbol}
 use Rattle.aos_symbols.specs.declared.env.Lookup.{Lookup}
 use Rattle.aos_symbols.specs.declared.env.Lookup.TheVariants.{Unknown as NoName, NotExported, Found}
+use Rattle.aos_symbols.specs.declared.env.Method.{Method}
 use Rattle.aos_symbols.specs.declared.env.Narrowed.{Narrowed}
 use Rattle.aos_symbols.specs.declared.env.Env.{Env}
 use Rattle.aos_symbols.specs.Breaches.{breach, breach_unless}
@@ -48,14 +49,16 @@ use Rattle.aos_symbols.specs.Env as env
 use Rattle.aos_types.specs.declared.row.TypeId.{TypeId}
 use Rattle.aos_typed.specs.Open.{open_dimensions}
 use Rattle.aos_check_expr.specs.declared.known.Class.{Class}
-use Rattle.aos_check_expr.specs.declared.known.Class.TheVariants.{Unknown, Constant, Variable, ReadOnly, Computed}
-use Rattle.aos_check_expr.specs.Known.{Answer, Spot, Held, Stands, Value, passes, is, is_number, is_char, is_set, fits, width_of, type_of, type_of_literal}
+use Rattle.aos_check_expr.specs.declared.known.Class.TheVariants.{Unknown, Constant, Variable, ReadOnly, Computed, Procedure}
+use Rattle.aos_check_expr.specs.declared.signatures.Heading.{Heading}
+use Rattle.aos_check_expr.specs.declared.signatures.Heading.TheVariants as heading
+use Rattle.aos_check_expr.specs.Known.{Answer, Spot, Held, Stands, Value, passes, is_number, is_char, is_set, fits, width_of, type_of, type_of_literal}
 use Rattle.aos_check_expr.specs.Operations.{number}
 use Rattle.aos_check_expr.specs.declared.designators.Head.{Head}
 use Rattle.aos_check_expr.specs.Designators as desig
 use Rattle.aos_check_expr.specs.Designators.{has_parts, assigned, written, place_of, place_in}
 use Rattle.aos_check_expr.specs.Arguments.{arguments_for, listed as listed_arguments}
-use Rattle.aos_check_expr.specs.Expressions.{constant_class, is_characters, is_opening, may_be_text, text_rows, array_rows, text_for, has_room, known_type, Bound, Part, Begun, Meant, Waits, spot_of_part, bound_part, bracketed, expr, condition, argument, designator, desig_alone}
+use Rattle.aos_check_expr.specs.Expressions.{constant_class, is_characters, is_opening, may_be_text, text_rows, array_rows, text_for, has_room, known_type, Bound, Part, Begun, Meant, Waits, spot_of_part, bound_part, bracketed, signature_of, expr, condition, argument, designator, desig_alone}
 use Rattle.aos_check_expr.specs.Expressions.{selector as selector_of}
 
 -- statements as a sequence of the typed program
@@ -117,23 +120,9 @@ before_last xs = take (length xs - 1) xs
 abbrev pub is_made : Env → Option TypeId → Bool
 is_made e = passes (λ t. desig.is_pointer_type e t || desig.is_object_type e t)
 
--- the type whose body an object of this one carries out, where it carries out one
-abbrev pub started : Env → TypeId → Option TypeId
-started e t = if desig.is_object_type e t then env.body_of e t else None
-
--- the body of a base isn't built, nor is one of an object that is a part of another variable
-abbrev pub is_built_body : TypeId → Place → Option TypeId → Bool
-is_built_body t p None = true
-is_built_body t p (Some b) = is t b && is_variable p
-
-abbrev pub is_built_there : Env → Option TypeId → Place → Bool
-is_built_there e None p = true
-is_built_there e (Some t) p = is_built_body t p (started e t)
-
 abbrev pub new_breaches : Env → Pos → Pos → Spot → List Breach
 new_breaches e at first a =
     breach_unless (is_made e a.known.of) 47 at ++ new_class_at a.known.class
-    ++ breach_unless (is_built_there e a.known.of (place_of a.held)) 99 at
   where
     new_class_at : Class → List Breach
     new_class_at ReadOnly = breach 33 first
@@ -141,6 +130,7 @@ new_breaches e at first a =
     new_class_at Variable = []
     new_class_at (Constant v) = breach 47 at
     new_class_at Computed = breach 47 at
+    new_class_at (Procedure m n) = breach 47 at
 
 -- there is a length for each open dimension of the array that a pointer leads to, and none elsewhere
 abbrev pub lengths_wanted : Env → TypeId → ℕ
@@ -158,17 +148,20 @@ abbrev pub made_type : Env → Option TypeId → ℕ
 made_type e None = 0
 made_type e (Some t) = desig.made_number e t
 
--- an object is made whose body is carried out
-abbrev pub starts_body : Env → Option TypeId → Bool
-starts_body e None = false
-starts_body e (Some t) = is_some (started e t)
+-- it makes an object, and not what a pointer leads to
+abbrev pub makes_object : Env → Option TypeId → Bool
+makes_object e None = false
+makes_object e (Some t) = desig.is_object_type e t
 
-abbrev pub made : Env → Pos → Spot → List Typed → Option Stat
-made e at a ns =
-    Some (
-    if starts_body e a.known.of
-    then New at (place_of a.held) (made_type e a.known.of)
-    else Make at (place_of a.held) (made_type e a.known.of) ns)
+-- the initializer of a type, where it has one
+abbrev pub initializer_of : Env → Option TypeId → Option Method
+initializer_of e None = None
+initializer_of e (Some t) = env.initializer e t
+
+-- a length is an integer; in NEW of what isn't known it may be something else
+abbrev pub may_be_length : (made length : Option TypeId) → Bool
+may_be_length None length = true
+may_be_length (Some t) length = is_number length
 
 -- what is no procedure isn't called
 abbrev pub no_call : Pos → Class → Judged (Option Stat)
@@ -177,13 +170,22 @@ no_call at (Constant v) = refused 36 at
 no_call at Variable = refused 36 at
 no_call at ReadOnly = refused 36 at
 no_call at Computed = refused 36 at
+no_call at (Procedure m n) = refused 36 at
 
--- the modifiers of a body: none is built but one ACTIVE, without a value, on an object's body
+-- Modifiers: those that aren't built, and of the others one ACTIVE, without a value, on an object's body.
+abbrev pub is_later : List ℕ → Modifier → Bool
+is_later text m =
+    is_word text (codes "EXCLUSIVE") m.name || (is_word text (codes "PRIORITY") m.name || is_word text (codes "SAFE") m.name)
+
+abbrev pub modifier_breach : List ℕ → Bool → Modifier → List Breach
+modifier_breach text may_be_active m =
+    if is_later text m then breach 99 m.name.pos
+    else breach_unless (may_be_active && (is_active text m && is_none m.value)) 45 m.name.pos
+
 abbrev pub modifier_breaches : List ℕ → Bool → List Modifier → List Breach
 modifier_breaches text may_be_active [] = []
 modifier_breaches text may_be_active (m ∷ ms) =
-    breach_unless (may_be_active && (is_active text m && is_none m.value)) 99 m.name.pos
-    ++ modifier_breaches text (may_be_active && not (is_active text m)) ms
+    modifier_breach text may_be_active m ++ modifier_breaches text (may_be_active && not (is_active text m)) ms
 
 -- INC, DEC, INCL and EXCL of a variable, by a value or by 1: the variable is of an integer type, or a set
 abbrev pub changing : Routine → Option TypeId → Changing
@@ -308,7 +310,7 @@ module _ (e : Env) where
   -- a string constant fits where there is room for its 0X; no other value fits an open array
   abbrev pub value_fits : Spot → Answer → Option TextConstant → Bool
   value_fits a v (Some t) = has_room e a.known.of t
-  value_fits a v None = desig.is_compatible e v.known.of a.known.of && not (is_opening e a.known.of)
+  value_fits a v None = desig.is_assignable e v.known a.known.of && not (is_opening e a.known.of)
 
   -- the value must fit the variable, or else `:=` is refused
   abbrev pub assign_breaches : Pos → Spot → Answer → List Breach
@@ -324,7 +326,7 @@ module _ (e : Env) where
       if is_some (text_to a v) then put_text first true v a
       else if passes_parts a.known.of
       then Copy first (type_of a.known.of) (place_of a.held) (place_in v.typed)
-      else Assign first (type_of a.known.of) (place_of a.held) v.typed
+      else Assign first (type_of a.known.of) (place_of a.held) (desig.typed_for e a.known.of v)
     where
       passes_parts : Option TypeId → Bool
       passes_parts None = false
@@ -368,14 +370,33 @@ module _ (e : Env) where
   out_selectors at (s.Field p n ∷ more) = ended at (behind_arguments more) (out_call at n (arguments more))
   out_selectors at more = refused 16 at
 
-  -- one more length, which is an integer
-  abbrev pub with_length : Pos → List Typed → TreeExpr → Judged (List Typed)
-  with_length at ns x = bind (expr e x) (λ v. judged (breach_unless (is_number v.known.of) 47 at) (ns ++ v.typed ∷ []))
+  -- one more length, in NEW of a variable of this type
+  abbrev pub with_length : Pos → Option TypeId → List Typed → TreeExpr → Judged (List Typed)
+  with_length at of ns x = bind (expr e x) (λ v. judged (breach_unless (may_be_length of v.known.of) 47 at) (ns ++ v.typed ∷ []))
+
+  -- NEW of what a pointer leads to, with these lengths
+  abbrev pub new_lengths : Pos → Spot → List TreeExpr → Judged (Option Stat)
+  new_lengths at a xs =
+      bind (judged (count_breaches e at a.known.of (length xs)) []) (λ none. bind (walk (with_length at a.known.of) none xs) (λ ns.
+      kept (Some (Make at (place_of a.held) (made_type e a.known.of) ns))))
+
+  -- what the initializer is handed; without one there are no arguments
+  abbrev pub initialized_by : Pos → Option Signature → List TreeExpr → Judged Arguments
+  initialized_by at None xs = judged (breach 99 at) NoMore
+  initialized_by at (Some s) xs = bind (arguments_for e at s.parameters (map (expr e) xs) xs) (λ h. kept (listed_arguments h.given))
+
+  abbrev pub initialized : Pos → Option Method → List TreeExpr → Judged Arguments
+  initialized at None xs = judged (breach_unless (length xs == 0) 34 at) NoMore
+  initialized at (Some m) xs = initialized_by at (env.signature e m.home m.number) xs
+
+  -- NEW of an object
+  abbrev pub new_object : Pos → Spot → List TreeExpr → Judged (Option Stat)
+  new_object at a xs =
+      bind (initialized at (initializer_of e a.known.of) xs) (λ more. kept (Some (New at (place_of a.held) (made_type e a.known.of) more)))
 
   abbrev pub new_with : Pos → Pos → Spot → List TreeExpr → Judged (Option Stat)
   new_with at first a xs =
-      bind (judged (new_breaches e at first a ++ count_breaches e at a.known.of (length xs)) a) (λ b.
-      bind (walk (with_length at) [] xs) (λ ns. kept (made e at b ns)))
+      bind (judged (new_breaches e at first a) a) (λ b. if makes_object e b.known.of then new_object at b xs else new_lengths at b xs)
 
   abbrev pub new_of : Pos → Pos → Option Desig → List TreeExpr → Judged (Option Stat)
   new_of at first None xs = refused 47 at
@@ -455,9 +476,9 @@ module _ (e : Env) where
       by gives.Nothing = perform_with at c s xs
       by (gives.Value of) = refused 36 at
 
-  -- of what has the signature with these numbers
-  abbrev pub perform : (at : Pos) → Callee → (home number : ℕ) → List TreeExpr → Judged (Option Stat)
-  perform at c m k xs = by (env.signature e m k)
+  -- of what has this heading
+  abbrev pub perform : (at : Pos) → Callee → Heading → List TreeExpr → Judged (Option Stat)
+  perform at c h xs = by (signature_of e h)
     where
       by : Option Signature → Judged (Option Stat)
       by (Some s) = perform_signed at c s xs
@@ -465,36 +486,37 @@ module _ (e : Env) where
 
   abbrev pub performed : (at : Pos) → Symbol → ℕ → List Selector → Judged (Option Stat)
   performed at x k more =
-      ended at (behind_arguments more) (perform at (Plain x.at.home k) x.at.home k (arguments more))
+      ended at (behind_arguments more) (perform at (Plain x.at.home k) (heading.Declared x.at.home k) (arguments more))
 
-  -- Calls of what a designator is: of a method, with the bracket that stands last, or of what is no procedure.
+  -- Calls of what a designator is: of a method or of what a value of a procedure type stands for, with the bracket that stands last, or of
+  -- what is no procedure.
 
   -- of a variable or a value
   abbrev pub called_spot : (first : Pos) → Judged Part → Judged (Option Stat)
   called_spot first j = bind (bind j (spot_of_part e)) (λ a. no_call first a.known.class)
 
-  abbrev pub perform_method : (first : Pos) → Bound → List TreeExpr → Judged (Option Stat)
-  perform_method first b xs = perform first b.callee b.home b.number xs
+  abbrev pub perform_bound : (first : Pos) → Bound → List TreeExpr → Judged (Option Stat)
+  perform_bound first b xs = perform first b.callee b.heading xs
 
   -- without a bracket, and with one
   abbrev pub called_as : (first : Pos) → Part → Judged (Option Stat)
-  called_as first (Waits b) = perform_method first b []
+  called_as first (Waits b) = perform_bound first b []
   called_as first (Begun h) = called_spot first (kept (Begun h))
   called_as first (Meant a) = called_spot first (kept (Meant a))
 
   abbrev pub called_alone : (first : Pos) → Part → Judged (Option Stat)
-  called_alone first a = called_as first (bound_part e a)
+  called_alone first a = called_as first (bound_part e first a)
 
   abbrev pub bracketed_spot : (first : Pos) → Part → Pos → List TreeExpr → Judged (Option Stat)
   bracketed_spot first a p xs = called_spot first (bracketed e first a p (map (expr e) xs) xs)
 
   abbrev pub bracketed_as : (first : Pos) → Part → Pos → List TreeExpr → Judged (Option Stat)
-  bracketed_as first (Waits b) p xs = perform_method first b xs
+  bracketed_as first (Waits b) p xs = perform_bound first b xs
   bracketed_as first (Begun h) p xs = bracketed_spot first (Begun h) p xs
   bracketed_as first (Meant a) p xs = bracketed_spot first (Meant a) p xs
 
   abbrev pub called_with : (first : Pos) → Part → Pos → List TreeExpr → Judged (Option Stat)
-  called_with first a p xs = bracketed_as first (bound_part e a) p xs
+  called_with first a p xs = bracketed_as first (bound_part e first a) p xs
 
   -- what a designator is behind these of its selectors
   abbrev pub part_of : Desig → List Selector → Judged Part
@@ -554,12 +576,12 @@ module _ (e : Env) where
       by None = gives.Nothing
       by (Some s) = s.gives
 
-  -- a function gives a value that fits its result; a result that isn't of a basic type and no object isn't built
+  -- a function gives a value that fits its result; a result that is no scalar isn't built
   abbrev pub return_value : Pos → Option TypeId → TreeExpr → Judged (Option Stat)
   return_value at of x =
       bind (expr e x) (λ v.
-      judged (breach_unless (desig.is_compatible e v.known.of of) 40 at ++ breach_unless (passes (desig.is_value e) of) 99 at)
-      (Some (Return at (Some v.typed))))
+      judged (breach_unless (desig.is_assignable e v.known of) 40 at ++ breach_unless (passes (desig.is_value e) of) 99 at)
+      (Some (Return at (Some (desig.typed_for e of v)))))
 
   abbrev pub return_of : Pos → Gives → Option TreeExpr → Judged (Option Stat)
   return_of at gives.Nothing None = kept (Some (Return at None))

@@ -1,4 +1,4 @@
-// Calls of what a designator is: of a method, or of what is no procedure.
+// Calls of what a designator is: of a method, of what a value of a procedure type stands for, or of what is no procedure.
 
 ghost use Rattle.std.specs.Prelude.{◌≡◌, OnOk, IfOk, option_map};
 ghost use Rattle.aos_typed.specs.Seen.{seen_stat};
@@ -29,6 +29,7 @@ fn no_call(found: &mut Option<Breach>, at: Pos, class: Class) -> Option<TStat>
         Class::Variable => refused(found, WRONG_CALL, at),
         Class::ReadOnly => refused(found, WRONG_CALL, at),
         Class::Computed => refused(found, WRONG_CALL, at),
+        Class::Procedure(_, _) => refused(found, WRONG_CALL, at),
     }
 }
 
@@ -50,8 +51,8 @@ fn called_spot(
     Ok(no_call(found, first, spot.known.class))
 }
 
-/// A call of a method, with these arguments.
-fn perform_method(
+/// A call of a method, or of what a value of a procedure type stands for, with these arguments.
+fn perform_bound(
     alloc: Global,
     found: &mut Option<Breach>,
     env: &Env<'_>,
@@ -60,22 +61,12 @@ fn perform_method(
     arguments: &[Expr],
 ) -> Result<Option<TStat>, AllocError>
     ensures noted { OnOk result (found.new ≡ first_after found.old
-        (judge.perform_method env.now first (seen_bound bound) arguments.now).breaches) }
+        (judge.perform_bound env.now first (seen_bound bound) arguments.now).breaches) }
     ensures answer { IfOk result (λ s. option_map seen_stat s ≡
-        (judge.perform_method env.now first (seen_bound bound) arguments.now).answer) }
+        (judge.perform_bound env.now first (seen_bound bound) arguments.now).answer) }
 {
-    let home = bound.home;
-    let number = bound.number;
-    perform(
-        alloc,
-        found,
-        env,
-        first,
-        bound.callee,
-        home,
-        number,
-        arguments,
-    )
+    let heading = bound.heading;
+    perform(alloc, found, env, first, bound.callee, heading, arguments)
 }
 
 /// A call, without a bracket, of what a designator is that begins at a place.
@@ -91,14 +82,14 @@ fn called_alone(
     ensures answer { IfOk result (λ s. option_map seen_stat s ≡
         (judge.called_alone env.now first (seen_part part)).answer) }
 {
-    match bound_part(alloc, env, part)? {
-        Part::Waits(bound) => perform_method(alloc, found, env, first, bound, &[]),
+    match bound_part(alloc, env, first, part)? {
+        Part::Waits(bound) => perform_bound(alloc, found, env, first, bound, &[]),
         Part::Begun(head) => called_spot(alloc, found, env, first, Part::Begun(head)),
         Part::Meant(spot) => called_spot(alloc, found, env, first, Part::Meant(spot)),
     }
 }
 
-/// A bracket, which stands here, behind what is no method.
+/// A bracket, which stands here, behind what it doesn't call.
 #[tactic(auto, using(aos_symbols::proofs::Keeping::after_more))]
 fn bracketed_spot(
     alloc: Global,
@@ -133,8 +124,8 @@ fn called_with(
     ensures answer { IfOk result (λ s. option_map seen_stat s ≡
         (judge.called_with env.now first (seen_part part) at arguments.now).answer) }
 {
-    match bound_part(alloc, env, part)? {
-        Part::Waits(bound) => perform_method(alloc, found, env, first, bound, arguments),
+    match bound_part(alloc, env, first, part)? {
+        Part::Waits(bound) => perform_bound(alloc, found, env, first, bound, arguments),
         Part::Begun(head) => {
             bracketed_spot(alloc, found, env, first, Part::Begun(head), at, arguments)
         },
@@ -193,7 +184,7 @@ fn called_before(
     called_with(alloc, found, env, first, part, at, arguments)
 }
 
-/// A call of what a designator is: of a method, or of what is no procedure.
+/// A call of what a designator is: of a method, of what a value of a procedure type stands for, or of what is no procedure.
 #[tactic(auto, using(crate::proofs::Rows::called_bracket))]
 pub fn called_value(
     alloc: Global,

@@ -1,24 +1,24 @@
 // NEW.
 
-ghost use Rattle.std.specs.Prelude.{◌≡◌, ◌++◌, [], length, map, OnOk, IfOk, option_map};
+ghost use Rattle.std.specs.Prelude.{◌≡◌, [], map, OnOk, IfOk, option_map};
 ghost use Rattle.std.specs.Option.{option_copied};
-ghost use Rattle.aos_typed.specs.Seen.{seen_expr, seen_stat};
-ghost use Rattle.aos_typed.specs.WellTyped.{is_variable as is_variable_place};
+ghost use Rattle.aos_typed.specs.Seen.{seen_expr, seen_list, seen_stat};
 ghost use Rattle.aos_symbols.specs.Breaches.{first_after};
 ghost use Rattle.aos_symbols.specs.Judged.{walk};
-ghost use Rattle.aos_check_expr.specs.Seen.{seen_held, seen_spot};
-ghost use Rattle.aos_check_expr.specs.Designators.{place_of as place_held};
+ghost use Rattle.aos_check_expr.specs.Seen.{seen_spot};
 ghost use Rattle.aos_check_stat.specs.Bodies as judge;
 
-use crate::refusals::{is_variable, refused};
+use crate::refusals::refused;
 use aos_base::Pos;
 use aos_check_expr::{
-    Class, Held, Spot, desig_alone, designator, expr, is_number, is_object_type, is_pointer_type,
-    made_number, place_of, target_of,
+    Class, Spot, arguments_for, desig_alone, designator, expr, is_number, is_object_type,
+    is_pointer_type, made_number, place_of, target_of,
 };
-use aos_symbols::{ARGUMENT_COUNT, Breach, Env, NOT_BUILT, READ_ONLY, WRONG_NEW, note};
+use aos_symbols::{
+    ARGUMENT_COUNT, Breach, Env, Method, NOT_BUILT, READ_ONLY, Signature, WRONG_NEW, note,
+};
 use aos_tree::{Desig, Expr};
-use aos_typed::{TExpr, TStat, open_array};
+use aos_typed::{TArgument, TExpr, TStat, open_array};
 use aos_types::TypeId;
 use std::alloc::{AllocError, Global};
 
@@ -28,51 +28,6 @@ fn is_made(env: &Env<'_>, of: Option<TypeId>) -> bool
 {
     match of {
         Some(of) => is_pointer_type(env, of) || is_object_type(env, of),
-        None => true,
-    }
-}
-
-/// Whether what a designator stands for is no part of another variable.
-fn holds_variable(held: &Held) -> bool
-    ensures { result ≡ is_variable_place (place_held (seen_held held.now)) }
-{
-    match held {
-        Held::Value(_) => true,
-        Held::Stands(place) => is_variable(place),
-    }
-}
-
-/// The type whose body an object of this one carries out, where it carries out one.
-fn started(env: &Env<'_>, of: TypeId) -> Option<TypeId>
-    ensures { result ≡ judge.started env.now of }
-{
-    if is_object_type(env, of) {
-        env.body_of(of)
-    } else {
-        None
-    }
-}
-
-/// Whether the object that NEW makes for a variable has a body, which is carried out.
-fn starts_body(env: &Env<'_>, of: Option<TypeId>) -> bool
-    ensures { result ≡ judge.starts_body env.now of }
-{
-    match of {
-        Some(of) => started(env, of).is_some(),
-        None => false,
-    }
-}
-
-/// Whether what NEW makes for a variable there is built: the body of a base isn't, nor is one of an object that is a part of another
-/// variable.
-fn is_built_there(env: &Env<'_>, of: Option<TypeId>, held: &Held) -> bool
-    ensures { result ≡ judge.is_built_there env.now of (place_held (seen_held held.now)) }
-{
-    let Some(of) = of else {
-        return true;
-    };
-    match started(env, of) {
-        Some(body) => of.0 == body.0 && holds_variable(held),
         None => true,
     }
 }
@@ -92,9 +47,7 @@ fn refuse_new(found: &mut Option<Breach>, env: &Env<'_>, at: Pos, first: Pos, sp
         Class::ReadOnly => note(found, READ_ONLY, first),
         Class::Constant(_) => note(found, WRONG_NEW, at),
         Class::Computed => note(found, WRONG_NEW, at),
-    }
-    if !is_built_there(env, spot.known.of, &spot.held) {
-        note(found, NOT_BUILT, at);
+        Class::Procedure(_, _) => note(found, WRONG_NEW, at),
     }
 }
 
@@ -127,46 +80,55 @@ fn refuse_count(
     }
 }
 
-/// One more length, in NEW at a place: it is an integer.
+/// Whether a part of this type may be a length, in NEW of a variable of a type: it is an integer, or the variable's type isn't known.
+fn may_be_length(made: Option<TypeId>, length: Option<TypeId>) -> bool
+    ensures { result ≡ judge.may_be_length made length }
+{
+    made.is_none() || is_number(length)
+}
+
+/// One more length, in NEW at a place of a variable of a type.
 #[tactic(auto, using(aos_symbols::proofs::Keeping::after_more))]
 fn put_length(
     alloc: Global,
     found: &mut Option<Breach>,
     env: &Env<'_>,
     at: Pos,
+    of: Option<TypeId>,
     lengths: &mut Vec<TExpr>,
     part: &Expr,
 ) -> Result<(), AllocError>
     ensures noted { OnOk result (found.new ≡ first_after found.old
-        (judge.with_length env.now at (map seen_expr lengths.old.items) part.now).breaches) }
+        (judge.with_length env.now at of (map seen_expr lengths.old.items) part.now).breaches) }
     ensures answer { OnOk result (map seen_expr lengths.new.items ≡
-        (judge.with_length env.now at (map seen_expr lengths.old.items) part.now).answer) }
+        (judge.with_length env.now at of (map seen_expr lengths.old.items) part.now).answer) }
 {
     let value = expr(alloc, found, env, part)?;
-    if !is_number(value.known.of) {
+    if !may_be_length(of, value.known.of) {
         note(found, WRONG_NEW, at);
     }
     lengths.push(value.typed)?;
     Ok(())
 }
 
-/// The lengths in NEW at a place.
+/// The lengths in NEW at a place of a variable of a type.
 #[tactic(auto, using(aos_symbols::proofs::Keeping::after_more, aos_symbols::proofs::Steps::walk_step, aos_symbols::proofs::Steps::walk_end))]
 fn lengths_of(
     alloc: Global,
     found: &mut Option<Breach>,
     env: &Env<'_>,
     at: Pos,
+    of: Option<TypeId>,
     parts: &[Expr],
 ) -> Result<Vec<TExpr>, AllocError>
     ensures noted { OnOk result (found.new ≡ first_after found.old
-        (walk (judge.with_length env.now at) [] parts.now).breaches) }
+        (walk (judge.with_length env.now at of) [] parts.now).breaches) }
     ensures answer { IfOk result (λ ns. map seen_expr ns.items ≡
-        (walk (judge.with_length env.now at) [] parts.now).answer) }
+        (walk (judge.with_length env.now at of) [] parts.now).answer) }
 {
     let mut lengths = Vec::new(alloc);
     for part in parts {
-        put_length(alloc, found, env, at, &mut lengths, part)?;
+        put_length(alloc, found, env, at, of, &mut lengths, part)?;
     }
     Ok(lengths)
 }
@@ -180,26 +142,127 @@ fn made_type(env: &Env<'_>, of: Option<TypeId>) -> Result<u32, AllocError>
     }
 }
 
-/// NEW of a variable, with these lengths, in a call that begins at a place.
-fn made(
+/// NEW at a place of what a pointer leads to, with these lengths.
+#[tactic(auto, using(aos_symbols::proofs::Keeping::after_more))]
+fn new_lengths(
+    alloc: Global,
+    found: &mut Option<Breach>,
     env: &Env<'_>,
     at: Pos,
     spot: Spot,
-    lengths: Vec<TExpr>,
+    lengths: &[Expr],
 ) -> Result<Option<TStat>, AllocError>
-    ensures { IfOk result (λ s. option_map seen_stat s ≡
-        judge.made env.now at (seen_spot spot) (map seen_expr lengths.items)) }
+    ensures noted { OnOk result (found.new ≡ first_after found.old
+        (judge.new_lengths env.now at (seen_spot spot) lengths.now).breaches) }
+    ensures answer { IfOk result (λ s. option_map seen_stat s ≡
+        (judge.new_lengths env.now at (seen_spot spot) lengths.now).answer) }
 {
     let of = spot.known.of;
+    refuse_count(found, env, at, of, lengths.len());
+    let lengths = lengths_of(alloc, found, env, at, of, lengths)?;
     let made = made_type(env, of)?;
-    let place = place_of(spot.held);
-    if starts_body(env, of) {
-        return Ok(Some(TStat::New(at, place, made)));
-    }
-    Ok(Some(TStat::Make(at, place, made, lengths)))
+    Ok(Some(TStat::Make(at, place_of(spot.held), made, lengths)))
 }
 
-/// NEW of a designator that begins at `first`, with these lengths, in a call that begins at a place.
+/// What an initializer with this signature is handed, in NEW at a place.
+#[tactic(auto, using(aos_symbols::proofs::Keeping::after_more, aos_check_expr::proofs::Handed::as_listed))]
+fn initialized_by(
+    alloc: Global,
+    found: &mut Option<Breach>,
+    env: &Env<'_>,
+    at: Pos,
+    signature: Option<&Signature>,
+    arguments: &[Expr],
+) -> Result<Vec<TArgument>, AllocError>
+    ensures noted { OnOk result (found.new ≡ first_after found.old
+        (judge.initialized_by env.now at (option_copied signature.entry) arguments.now).breaches) }
+    ensures answer { IfOk result (λ more. seen_list more.items ≡
+        (judge.initialized_by env.now at (option_copied signature.entry) arguments.now).answer) }
+{
+    match signature {
+        Some(signature) => {
+            let parameters = signature.parameters.as_slice();
+            let handing = arguments_for(alloc, found, env, at, parameters, arguments)?;
+            Ok(handing.given)
+        },
+        None => {
+            note(found, NOT_BUILT, at);
+            Ok(Vec::new(alloc))
+        },
+    }
+}
+
+/// What the initializer is handed, in NEW at a place; without one there are no arguments.
+fn initialized(
+    alloc: Global,
+    found: &mut Option<Breach>,
+    env: &Env<'_>,
+    at: Pos,
+    initializer: Option<Method>,
+    arguments: &[Expr],
+) -> Result<Vec<TArgument>, AllocError>
+    ensures noted { OnOk result (found.new ≡ first_after found.old
+        (judge.initialized env.now at initializer arguments.now).breaches) }
+    ensures answer { IfOk result (λ more. seen_list more.items ≡
+        (judge.initialized env.now at initializer arguments.now).answer) }
+{
+    match initializer {
+        Some(method) => {
+            let signature = env.signature(method.home, method.number);
+            initialized_by(alloc, found, env, at, signature, arguments)
+        },
+        None => {
+            if !arguments.is_empty() {
+                note(found, ARGUMENT_COUNT, at);
+            }
+            Ok(Vec::new(alloc))
+        },
+    }
+}
+
+/// Whether NEW of a variable of this type makes an object, and not what a pointer leads to.
+fn makes_object(env: &Env<'_>, of: Option<TypeId>) -> bool
+    ensures { result ≡ judge.makes_object env.now of }
+{
+    match of {
+        Some(of) => is_object_type(env, of),
+        None => false,
+    }
+}
+
+/// The initializer of a type, where it has one.
+fn initializer_of(env: &Env<'_>, of: Option<TypeId>) -> Result<Option<Method>, AllocError>
+    ensures { IfOk result (λ m. m ≡ judge.initializer_of env.now of) }
+{
+    match of {
+        Some(of) => env.initializer(of),
+        None => Ok(None),
+    }
+}
+
+/// NEW at a place of an object, with these arguments.
+#[tactic(auto, using(aos_symbols::proofs::Keeping::after_more))]
+fn new_object(
+    alloc: Global,
+    found: &mut Option<Breach>,
+    env: &Env<'_>,
+    at: Pos,
+    spot: Spot,
+    arguments: &[Expr],
+) -> Result<Option<TStat>, AllocError>
+    ensures noted { OnOk result (found.new ≡ first_after found.old
+        (judge.new_object env.now at (seen_spot spot) arguments.now).breaches) }
+    ensures answer { IfOk result (λ s. option_map seen_stat s ≡
+        (judge.new_object env.now at (seen_spot spot) arguments.now).answer) }
+{
+    let of = spot.known.of;
+    let initializer = initializer_of(env, of)?;
+    let given = initialized(alloc, found, env, at, initializer, arguments)?;
+    let made = made_type(env, of)?;
+    Ok(Some(TStat::New(at, place_of(spot.held), made, given)))
+}
+
+/// NEW of a designator that begins at `first`, with these arguments, in a call that begins at a place.
 #[tactic(auto, using(aos_symbols::proofs::Keeping::after_more))]
 fn new_with(
     alloc: Global,
@@ -208,20 +271,22 @@ fn new_with(
     at: Pos,
     first: Pos,
     spot: Spot,
-    lengths: &[Expr],
+    arguments: &[Expr],
 ) -> Result<Option<TStat>, AllocError>
     ensures noted { OnOk result (found.new ≡ first_after found.old
-        (judge.new_with env.now at first (seen_spot spot) lengths.now).breaches) }
+        (judge.new_with env.now at first (seen_spot spot) arguments.now).breaches) }
     ensures answer { IfOk result (λ s. option_map seen_stat s ≡
-        (judge.new_with env.now at first (seen_spot spot) lengths.now).answer) }
+        (judge.new_with env.now at first (seen_spot spot) arguments.now).answer) }
 {
     refuse_new(found, env, at, first, &spot);
-    refuse_count(found, env, at, spot.known.of, lengths.len());
-    let lengths = lengths_of(alloc, found, env, at, lengths)?;
-    made(env, at, spot, lengths)
+    if makes_object(env, spot.known.of) {
+        new_object(alloc, found, env, at, spot, arguments)
+    } else {
+        new_lengths(alloc, found, env, at, spot, arguments)
+    }
 }
 
-/// NEW of an argument that begins at `first`, and is a designator or not, with these lengths, in a call that begins at a place.
+/// NEW of an argument that begins at `first`, and is a designator or not, with these others, in a call that begins at a place.
 #[tactic(auto, using(aos_symbols::proofs::Keeping::after_more))]
 fn new_of(
     alloc: Global,
@@ -230,18 +295,18 @@ fn new_of(
     at: Pos,
     first: Pos,
     variable: Option<&Desig>,
-    lengths: &[Expr],
+    arguments: &[Expr],
 ) -> Result<Option<TStat>, AllocError>
     ensures noted { OnOk result (found.new ≡ first_after found.old
-        (judge.new_of env.now at first (option_copied variable.entry) lengths.now).breaches) }
+        (judge.new_of env.now at first (option_copied variable.entry) arguments.now).breaches) }
     ensures answer { IfOk result (λ s. option_map seen_stat s ≡
-        (judge.new_of env.now at first (option_copied variable.entry) lengths.now).answer) }
+        (judge.new_of env.now at first (option_copied variable.entry) arguments.now).answer) }
 {
     let Some(variable) = variable else {
         return Ok(refused(found, WRONG_NEW, at));
     };
     let spot = designator(alloc, found, env, variable)?;
-    new_with(alloc, found, env, at, first, spot, lengths)
+    new_with(alloc, found, env, at, first, spot, arguments)
 }
 
 /// NEW of these arguments, in a call that begins at a place.
@@ -258,9 +323,9 @@ pub fn new_call(
         (λ s. option_map seen_stat s ≡ (judge.new_call env.now at arguments.now).answer) }
 {
     match arguments.split_first() {
-        Some((variable, lengths)) => {
+        Some((variable, more)) => {
             let desig = desig_alone(variable);
-            new_of(alloc, found, env, at, variable.pos, desig, lengths)
+            new_of(alloc, found, env, at, variable.pos, desig, more)
         },
         None => Ok(refused(found, ARGUMENT_COUNT, at)),
     }

@@ -8,7 +8,10 @@ ghost use Rattle.aos_check_stat.specs.Bodies as judge;
 use crate::methods::called_value;
 use crate::refusals::{arguments, behind_arguments, goes_on, not_yet, refuse_behind, refused};
 use aos_base::Pos;
-use aos_check_expr::{Head, arguments_for, expr, is_compatible, may_be_value, member_behind};
+use aos_check_expr::{
+    Head, Heading, arguments_for, expr, is_assignable, may_be_value, member_behind, signature_at,
+    typed_for,
+};
 use aos_symbols::{
     Breach, Env, Gives, Lookup, Meaning, NOT_BUILT, Signature, Symbol, WRONG_CALL, WRONG_RETURN,
     note,
@@ -60,24 +63,23 @@ fn perform_signed(
     }
 }
 
-/// A call with these arguments, which begins at a place, of what has the signature with these numbers.
+/// A call with these arguments, which begins at a place, of what has this heading.
 pub fn perform(
     alloc: Global,
     found: &mut Option<Breach>,
     env: &Env<'_>,
     at: Pos,
     callee: TCallee,
-    home: u32,
-    number: u32,
+    heading: Heading,
     arguments: &[Expr],
 ) -> Result<Option<TStat>, AllocError>
     ensures noted { OnOk result (found.new ≡ first_after found.old
-        (judge.perform env.now at (seen_callee callee) home number arguments.now).breaches) }
+        (judge.perform env.now at (seen_callee callee) heading arguments.now).breaches) }
     ensures answer { IfOk result (λ s. option_map seen_stat s ≡
-        (judge.perform env.now at (seen_callee callee) home number arguments.now).answer) }
+        (judge.perform env.now at (seen_callee callee) heading arguments.now).answer) }
 {
-    match env.signature(home, number) {
-        Some(signature) => { perform_signed(alloc, found, env, at, callee, signature, arguments) },
+    match signature_at(alloc, env, heading)? {
+        Some(signature) => { perform_signed(alloc, found, env, at, callee, &signature, arguments) },
         None => Ok(not_yet(found, at)),
     }
 }
@@ -100,16 +102,8 @@ pub fn performed(
 {
     let home = symbol.at.home;
     let callee = TCallee::Plain(home, number);
-    let call = perform(
-        alloc,
-        found,
-        env,
-        at,
-        callee,
-        home,
-        number,
-        arguments(selectors),
-    )?;
+    let heading = Heading::Declared(home, number);
+    let call = perform(alloc, found, env, at, callee, heading, arguments(selectors))?;
     refuse_behind(found, at, behind_arguments(selectors));
     Ok(call)
 }
@@ -188,13 +182,13 @@ fn return_value(
         (judge.return_value env.now at of value.now).answer) }
 {
     let value = expr(alloc, found, env, value)?;
-    if !is_compatible(env, value.known.of, of) {
+    if !is_assignable(alloc, env, value.known, of)? {
         note(found, WRONG_RETURN, at);
     }
     if !may_be_value(env, of) {
         note(found, NOT_BUILT, at);
     }
-    Ok(Some(TStat::Return(at, Some(value.typed))))
+    Ok(Some(TStat::Return(at, Some(typed_for(env, of, value)))))
 }
 
 /// RETURN at a place, with a value or without.

@@ -10,7 +10,9 @@ ghost use Rattle.aos_symbols.specs.Judged.{kept};
 ghost use Rattle.aos_check_stat.specs.Bodies as judge;
 
 use aos_base::Pos;
-use aos_symbols::{Breach, NOT_BUILT, WRONG_CALL, WRONG_SELECTOR, is_active, note};
+use aos_symbols::{
+    Breach, NOT_BUILT, WRONG_CALL, WRONG_MODIFIER, WRONG_SELECTOR, is_active, is_word, note,
+};
 use aos_tree::{Expr, Modifier, Selector};
 use aos_typed::{TExpr, TPlace, TStat};
 
@@ -76,7 +78,35 @@ pub fn refuse_behind(found: &mut Option<Breach>, first: Pos, behind: &[Selector]
     }
 }
 
-/// Modifiers of which none is built but one ACTIVE, without a value, on a body that may be active.
+/// Whether a modifier is one that isn't built.
+fn is_later(text: &[u8], modifier: &Modifier) -> bool
+    ensures { result ≡ judge.is_later text.now modifier.now }
+{
+    is_word(text, "EXCLUSIVE", modifier.name)
+        || is_word(text, "PRIORITY", modifier.name)
+        || is_word(text, "SAFE", modifier.name)
+}
+
+/// A modifier of a body that may be active or not: of those that are built it must be ACTIVE, without a value.
+fn refuse_modifier(
+    found: &mut Option<Breach>,
+    text: &[u8],
+    may_be_active: bool,
+    modifier: &Modifier,
+)
+    ensures { found.new ≡
+        first_after found.old (judge.modifier_breach text.now may_be_active modifier.now) }
+{
+    let at = modifier.name.pos;
+    if is_later(text, modifier) {
+        note(found, NOT_BUILT, at);
+    } else if !(may_be_active && is_active(text, modifier) && modifier.value.is_none()) {
+        note(found, WRONG_MODIFIER, at);
+    }
+}
+
+/// Modifiers of a body that may be active or not; it is active at most once.
+#[tactic(auto, using(aos_symbols::proofs::Keeping::after_more))]
 pub fn refuse_modifiers(
     found: &mut Option<Breach>,
     text: &[u8],
@@ -88,9 +118,7 @@ pub fn refuse_modifiers(
 {
     let mut may_be_active = may_be_active;
     for modifier in modifiers {
-        if !may_be_active || !is_active(text, modifier) || modifier.value.is_some() {
-            note(found, NOT_BUILT, modifier.name.pos);
-        }
+        refuse_modifier(found, text, may_be_active, modifier);
         may_be_active = may_be_active && !is_active(text, modifier);
     }
 }

@@ -22,7 +22,7 @@ use crate::withs::{enter_with, leave_with, with_stat, with_variable};
 use aos_base::Pos;
 use aos_check_expr::{
     Answer, Spot, condition, designator, expr, guard, has_parts, known_type, place_in, place_of,
-    refuse_assigned, type_of, width_of,
+    refuse_assigned, type_of, typed_for, width_of,
 };
 use aos_symbols::{Breach, EXIT_OUTSIDE, Env, UNFIT, WRONG_FOR, note};
 use aos_tree::{Block, Case, Desig, Elsif, Expr, Name, Qualident, Stat, StatSeq};
@@ -31,13 +31,21 @@ use aos_types::TypeId;
 use std::alloc::{AllocError, Global};
 
 /// A value must fit the variable, or else `:=` is refused.
-fn refuse_unfit(found: &mut Option<Breach>, env: &Env<'_>, at: Pos, spot: &Spot, value: &Answer)
-    ensures { found.new ≡ first_after found.old
-        (judge.assign_breaches env.now at (seen_spot spot.now) (seen_answer value.now)) }
+fn refuse_unfit(
+    alloc: Global,
+    found: &mut Option<Breach>,
+    env: &Env<'_>,
+    at: Pos,
+    spot: &Spot,
+    value: &Answer,
+) -> Result<(), AllocError>
+    ensures { OnOk result (found.new ≡ first_after found.old
+        (judge.assign_breaches env.now at (seen_spot spot.now) (seen_answer value.now))) }
 {
-    if !value_fits(env, spot, value) {
+    if !value_fits(alloc, env, spot, value)? {
         note(found, UNFIT, at);
     }
+    Ok(())
 }
 
 /// The assignment of a value, which begins at a place: a string constant is put in an array of characters, and a whole record or
@@ -55,13 +63,14 @@ fn assigned_stat(
     if text_to(env, &spot, &value).is_some() {
         return put_text(alloc, env, first, true, value, spot);
     }
-    let of = type_of(spot.known.of);
-    if let Some(known) = spot.known.of {
+    let to = spot.known.of;
+    let of = type_of(to);
+    if let Some(known) = to {
         if has_parts(env, known) {
             return Ok(TStat::Copy(first, of, place_of(spot.held), place_in(value.typed)));
         }
     }
-    Ok(TStat::Assign(first, of, place_of(spot.held), value.typed))
+    Ok(TStat::Assign(first, of, place_of(spot.held), typed_for(env, to, value)))
 }
 
 /// An assignment, with `:=` at a place.
@@ -83,7 +92,7 @@ fn assign(
     let spot = designator(alloc, found, env, desig)?;
     refuse_assigned(found, env, first, &spot);
     let value = expr(alloc, found, env, value)?;
-    refuse_unfit(found, env, at, &spot, &value);
+    refuse_unfit(alloc, found, env, at, &spot, &value)?;
     Ok(Some(assigned_stat(alloc, env, first, spot, value)?))
 }
 

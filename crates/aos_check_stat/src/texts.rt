@@ -12,8 +12,8 @@ ghost use Rattle.aos_check_stat.specs.Bodies as judge;
 use crate::refusals::refused;
 use aos_base::Pos;
 use aos_check_expr::{
-    Answer, Known, Spot, array_rows, desig_alone, designator, expr, has_room, is_characters,
-    is_compatible, is_opening, may_be_text, place_of, refuse_written, text_for, text_rows,
+    Answer, Known, Spot, array_rows, desig_alone, designator, expr, has_room, is_assignable,
+    is_characters, is_opening, may_be_text, place_of, refuse_written, text_for, text_rows,
 };
 use aos_symbols::{ARGUMENT_COUNT, ARGUMENT_TYPE, Breach, Env, NO_VARIABLE, note};
 use aos_tree::{Desig, Expr};
@@ -28,15 +28,19 @@ pub fn text_to(env: &Env<'_>, spot: &Spot, value: &Answer) -> Option<TextConstan
 }
 
 /// Whether a value fits a variable: a string constant fits where there is room for its 0X, and no other value fits an open array.
-pub fn value_fits(env: &Env<'_>, spot: &Spot, value: &Answer) -> bool
-    ensures { result ≡ judge.value_fits env.now (seen_spot spot.now) (seen_answer value.now)
-        (judge.text_to env.now (seen_spot spot.now) (seen_answer value.now)) }
+pub fn value_fits(
+    alloc: Global,
+    env: &Env<'_>,
+    spot: &Spot,
+    value: &Answer,
+) -> Result<bool, AllocError>
+    ensures { IfOk result (λ b. b ≡ judge.value_fits env.now (seen_spot spot.now)
+        (seen_answer value.now) (judge.text_to env.now (seen_spot spot.now) (seen_answer value.now))) }
 {
+    let of = spot.known.of;
     match text_to(env, spot, value) {
-        Some(text) => has_room(env, spot.known.of, text),
-        None => {
-            is_compatible(env, value.known.of, spot.known.of) && !is_opening(env, spot.known.of)
-        },
+        Some(text) => Ok(has_room(env, of, text)),
+        None => Ok(is_assignable(alloc, env, value.known, of)? && !is_opening(env, of)),
     }
 }
 

@@ -85,7 +85,7 @@ member_in-returns-in-Vars t c =
 
 pub type_in-returns-in-Object : goal.type_in-returns-in-Object
 type_in-returns-in-Object t c =
-    let is = sym (object_written c.args.may_be_open c.args.slot c.args.env.now c.args.of.now c.in-Object.at c.in-Object.base c.in-Object.decls c.in-Object.body c.in-Object.field-4 c.in-Object.is) in
+    let is = sym (object_written c.args.may_be_open c.args.slot c.args.env.now c.args.of.now c.in-Object.at c.in-Object.base c.in-Object.decls c.in-Object.field-3 c.in-Object.field-4 c.in-Object.is) in
     record {
       noted = subst (λ (j : Judged Met). OnOk c.object_in.result (c.object_in.new.found ≡ first_after c.args.found.now j.breaches)) is c.object_in.ensures.noted;
       env = subst (λ (j : Judged Met). OnOk c.object_in.result (c.object_in.new.env ≡ j.answer.env)) is c.object_in.ensures.env;

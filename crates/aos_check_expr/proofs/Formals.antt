@@ -4,7 +4,7 @@ use Rattle.std.proofs.lemmas.Bool.Decides.{nat_tests}
 use Rattle.aos_types.specs.declared.row.TypeRow.{TypeRow}
 use Rattle.aos_symbols.specs.declared.home.Parameter.{Parameter}
 use Rattle.aos_symbols.proofs.Paths.{past}
-use Rattle.aos_check_decl.specs.Methods.{same_parameter, same_parameters}
+use Rattle.aos_check_expr.specs.Signatures.{same_parameter, same_parameters}
 
 module _ (rows : List TypeRow) (as' bs : List Parameter) where
   pub both_step : (i : ℕ) (d : Parameter) → i < length as' → length as' ≡ length bs →

@@ -1,8 +1,8 @@
 -- The loop over places, from the last to the first: the arrays behind this place are there.
 use Rattle.std.proofs.Common.{◌≡◌, ◌≤◌, length, drop}
 use Rattle.aos_check_decl.specs.Types.{met}
-use Rattle.aos_check_decl.specs.Headings.{opened}
-use Rattle.aos_check_decl.proofs.procedures.place_open.Given as goal
+use Rattle.aos_check_decl.specs.Formals.{opened}
+use Rattle.aos_check_decl.proofs.formals.place_open.Given as goal
 
 abbrev pub invariant-loop-left : goal.invariant-loop-left
 invariant-loop-left l = record {

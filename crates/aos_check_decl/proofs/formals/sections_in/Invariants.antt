@@ -2,8 +2,8 @@
 use Rattle.std.proofs.Common.{◌≡◌, drop}
 use Rattle.aos_symbols.specs.Breaches.{first_after}
 use Rattle.aos_symbols.specs.Judged.{walk}
-use Rattle.aos_check_decl.specs.Headings.{with_section, formals_met}
-use Rattle.aos_check_decl.proofs.procedures.sections_in.Given as goal
+use Rattle.aos_check_decl.specs.Formals.{with_section, formals_met}
+use Rattle.aos_check_decl.proofs.formals.sections_in.Given as goal
 
 abbrev pub invariant-loop-section : goal.invariant-loop-section
 invariant-loop-section l = record {
