@@ -1,5 +1,5 @@
 -- Small texts with their trees, and what they come to. The trees are those that a parser gives.
-use Rattle.std.proofs.Common.{◌≡◌, ℕ, ◌+◌, pos, List, [], ◌∷◌, ◌++◌, true, Option, Some, None, refl, codes}
+use Rattle.std.proofs.Common.{◌≡◌, ℕ, ◌+◌, pos, List, [], ◌∷◌, ◌++◌, true, false, Option, Some, None, refl, codes}
 use Rattle.std.specs.Str.Lossy.{utf8_lossy}
 use denote.Hole.Carrier.{out, shown, hidden}
 use Rattle.aos_tree.specs.declared.expr.Factor.TheBlock.{shown-the_row-Product-6, shown-the_row-Addition-5}
@@ -26,7 +26,7 @@ use Rattle.aos_tree.specs.declared.module.Module.{Module as Tree}
 use Rattle.aos_typed.specs.declared.tree.Literal.TheVariants as literal
 use Rattle.aos_typed.specs.declared.tree.TType.{TType}
 use Rattle.aos_typed.specs.declared.tree.TType.TheVariants as ttype
-use Rattle.aos_typed.specs.Program.{ModuleVar, Lit, Assign, New, Nothing, Then, Module, Program}
+use Rattle.aos_typed.specs.Program.{NoMore, ModuleVar, Lit, Assign, New, Nothing, Then, Module, Program}
 use Rattle.aos_types.specs.declared.row.TypeRow.TheVariants as row
 use Rattle.aos_symbols.specs.Env.{basic_rows}
 use Rattle.aos_symbols.specs.Outcome.{Outcome, refused, went, refusal}
@@ -186,14 +186,15 @@ an_object_of_another_module : elaborate (codes "MODULE A; IMPORT B; BEGIN NEW(B.
     (tree making ∷ tree with_object ∷ [])
     ≡ went (record {
       modules = record { name = utf8_lossy (codes "B"); variables = record { name = utf8_lossy (codes "p"); of = ttype.Named 0 } ∷ []; texts = []; procedures = []; body = Nothing }
-          ∷ record { name = utf8_lossy (codes "A"); variables = []; texts = []; procedures = []; body = Then (New (place 26) (ModuleVar 0 0) 0) Nothing } ∷ [];
+          ∷ record { name = utf8_lossy (codes "A"); variables = []; texts = []; procedures = []; body = Then (New (place 26) (ModuleVar 0 0) 0 NoMore) Nothing } ∷ [];
       types = basic_rows ++ row.Object None [] ∷ [];
       objects =
           record {
             name = utf8_lossy (codes "T");
             home = 0;
             has_body = true;
-            body = record { name = []; of = Some 0; parameters = []; locals = []; result = None; body = Nothing };
+            is_active = true;
+            body = record { name = []; of = Some 0; is_initializer = false; parameters = []; locals = []; result = None; body = Nothing };
             methods = [];
           }
           ∷ [];

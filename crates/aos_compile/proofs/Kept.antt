@@ -1,10 +1,10 @@
 -- Declarations leave the module's number, the modules before it and its text alone, in which the names of a module lie.
-use Rattle.std.proofs.Common.{◌≡◌, ℕ, zero, suc, ◌+◌, List, [], ◌∷◌, Bool, true, false, ◌==◌, ◌&&◌, length, slice_get, Option, Some, None, refl, ap, ◌∙◌}
+use Rattle.std.proofs.Common.{◌≡◌, ℕ, zero, suc, ◌+◌, List, [], ◌∷◌, Bool, true, false, ◌==◌, ◌&&◌, length, slice_get, Option, Some, None, if◌then◌else◌, codes, refl, ap, ◌∙◌}
+use Rattle.std.specs.Option.{is_none}
 use Rattle.aos_base.specs.declared.text.Pos.{Pos}
 use Rattle.aos_tree.specs.declared.name.Name.{Name}
 use Rattle.aos_tree.specs.declared.name.Qualident.{Qualident}
 use Rattle.aos_tree.specs.declared.expr.Expr.{Expr}
-use Rattle.aos_tree.specs.declared.stat.Block.{Block}
 use Rattle.aos_tree.specs.declared.decl.Decl.{Decl, Row_of-Decl, end_of-Decl, more_of-Decl, Row_of-VarDef, end_of-VarDef, more_of-VarDef, items-the_row-TypeDef, items-the_row-VarDef, items-the_row-Decl}
 use Rattle.aos_tree.specs.declared.decl.Decl.TheVariants as decl
 use Rattle.aos_tree.specs.declared.decl.Def.{Def}
@@ -26,12 +26,14 @@ use Rattle.aos_symbols.specs.declared.home.ObjectScope.{ObjectScope}
 use Rattle.aos_symbols.specs.declared.env.Env.{Env}
 use Rattle.aos_symbols.specs.Env as env
 use Rattle.aos_symbols.specs.Judged.{Judged, walk}
+use Rattle.aos_symbols.specs.Spelling.{is_word}
 use Rattle.aos_symbols.specs.Declarations.{Procedure, procedures, methods_in, type_defs}
 use Rattle.aos_symbols.specs.Scope.{Scope, empty, with_constant as with_value, with_variable as with_type, setting_variables}
 use Rattle.aos_symbols.specs.Home.{Home, changed, set_variables}
 use Rattle.aos_check_expr.specs.Expressions.{constant}
-use Rattle.aos_check_decl.specs.Types.{Met, met, FieldsMet, fields_met, placed, array_of, inner_arrays, arrays, lengths_of, open_of, array_in, is_empty, with_record, base_in, field_names, record_in, claiming, target_claims, pointer_to, MembersMet, members_met, with_members, object_slot, object_in, named_type, type_in, members_in, member_in, variables_in, held_in, pointer_in, fields_in, field_in}
-use Rattle.aos_check_decl.specs.Headings.{with_variable, with_variables, constant_def, type_def, variable_def, settled, declared, opened, FormalsMet, formals_met, with_section, HeadingMet, formals_in, with_parameters, with_signature, locals_in, procedure, procedures_from, within_type, type_methods, methods_from, headings, slot_in, defined_type}
+use Rattle.aos_check_decl.specs.Types.{Met, met, refused_type, FieldsMet, fields_met, placed, array_of, inner_arrays, arrays, lengths_of, open_of, array_in, is_empty, with_record, base_in, field_names, record_in, claiming, target_claims, pointer_to, MembersMet, members_met, with_members, object_slot, object_in, named_type, type_in, members_in, member_in, variables_in, held_in, pointer_in, fields_in, field_in}
+use Rattle.aos_check_decl.specs.Formals.{opened, FormalsMet, formals_met, with_section, HeadingMet, formals_in, result_in, row_of_formals, placed_row, result_claims, with_formals, procedure_in}
+use Rattle.aos_check_decl.specs.Headings.{with_variable, with_variables, constant_def, type_def, variable_def, settled, declared, with_parameters, marked, with_signature, locals_in, procedure, procedures_from, within_type, type_methods, methods_from, headings, slot_in, defined_type}
 use Rattle.aos_check_decl.specs.Pass.{begun, declare}
 
 -- what declarations leave alone
@@ -88,6 +90,40 @@ pointer_fixed : (slot : Option TypeId) (at : Pos) (x : TypeExpr) (e : Env) (of :
 pointer_fixed slot at x e None = refl
 pointer_fixed slot at x e (Some t) = placed_fixed slot at (row.Pointer t) (claiming (target_claims x t) e)
 
+-- Formals, and procedure types.
+
+opened_fixed : (ats : List Pos) (m : Met) → fixed (opened ats m).env ≡ fixed m.env
+opened_fixed [] m = refl
+opened_fixed (at ∷ ats) m = by (opened ats m).of refl ∙ opened_fixed ats m
+  where
+    by : (of : Option TypeId) → (opened ats m).of ≡ of → fixed (opened (at ∷ ats) m).env ≡ fixed (opened ats m).env
+    by None is = rw is refl
+    by (Some t) is = rw is refl
+
+section_fixed : (f : FormalsMet) (s : Section) → fixed (with_section f s).answer.env ≡ fixed f.env
+section_fixed f s = opened_fixed s.arrays (met f.env (named_type f.env s.of).answer)
+
+formals_fixed : (e : Env) (fs : Option Formals) → fixed (formals_in e fs).answer.env ≡ fixed e
+formals_fixed e None = refl
+formals_fixed e (Some f) = walk_keeps (λ (m : FormalsMet). fixed m.env) with_section section_fixed (formals_met e []) f.sections
+
+placed_row_fixed : (slot : Option TypeId) (at : Pos) (r : Option TypeRow) (e : Env) → fixed (placed_row slot at r e).env ≡ fixed e
+placed_row_fixed slot at None e = refl
+placed_row_fixed slot at (Some r) e = placed_fixed slot at r e
+
+with_formals_fixed : (slot : Option TypeId) (e : Env) (at : Pos) (fs : Option Formals) → fixed (with_formals slot e at fs).answer.env ≡ fixed e
+with_formals_fixed slot e at fs =
+    let h = (formals_in e fs).answer in
+    placed_row_fixed slot at (row_of_formals h.signature) (claiming (result_claims (result_in fs) h.signature.gives) h.env) ∙ formals_fixed e fs
+
+procedure_fixed : (slot : Option TypeId) (e : Env) (at : Pos) (flag : Option Name) (fs : Option Formals) → fixed (procedure_in slot e at flag fs).answer.env ≡ fixed e
+procedure_fixed slot e at None fs = with_formals_fixed slot e at fs
+procedure_fixed slot e at (Some n) fs = by (is_word e.here.text (codes "DELEGATE") n)
+  where
+    by : (b : Bool) → fixed (if b then with_formals slot e at fs else refused_type 45 n.pos e).answer.env ≡ fixed e
+    by true = with_formals_fixed slot e at fs
+    by false = refl
+
 -- Constants and variables.
 
 text_kept : (f : Scope → Scope) (h : Home) (k : ℕ) (s : Option Scope) → (changed f h k s).text ≡ h.text
@@ -109,11 +145,11 @@ variables_fixed e (suc n) of = variables_fixed (with_variable e of) n of ∙ cha
 variables_put : (vs : List (Option TypeId)) (e : Env) (k : ℕ) → fixed (record e { here = set_variables e.here k vs }) ≡ fixed e
 variables_put vs e k = changed_fixed (λ s. setting_variables s vs) e k
 
-object_in_fixed : (slot : Option TypeId) (object : Option ObjectScope) (e : Env) (at : Pos) (base : Option Qualident) (ds : List Decl) (body : Option Block) (members : Env → Judged MembersMet) →
-    ((f : Env) → fixed (members f).answer.env ≡ fixed f) → fixed (object_in slot object e at base ds body members).answer.env ≡ fixed e
-object_in_fixed slot object e at base ds body members kept = by (env.innermost e.path == 0) refl slot object
+object_in_fixed : (slot : Option TypeId) (object : Option ObjectScope) (e : Env) (at : Pos) (base : Option Qualident) (ds : List Decl) (members : Env → Judged MembersMet) →
+    ((f : Env) → fixed (members f).answer.env ≡ fixed f) → fixed (object_in slot object e at base ds members).answer.env ≡ fixed e
+object_in_fixed slot object e at base ds members kept = by (env.innermost e.path == 0) refl slot object
   where
-    by : (b : Bool) → (env.innermost e.path == 0) ≡ b → (slot : Option TypeId) (object : Option ObjectScope) → fixed (object_in slot object e at base ds body members).answer.env ≡ fixed e
+    by : (b : Bool) → (env.innermost e.path == 0) ≡ b → (slot : Option TypeId) (object : Option ObjectScope) → fixed (object_in slot object e at base ds members).answer.env ≡ fixed e
     by true is None object = rw is refl
     by true is (Some t) None = rw is refl
     by true is (Some t) (Some o) =
@@ -129,9 +165,9 @@ mutual
   type_fixed may_be_open slot e (type.Record' p base shape row) =
       record_in_fixed slot e p base (field_names (items-the_row-Fields _ row)) (fields_in (fields_met e [] empty) row) (fields_fixed (fields_met e [] empty) row)
   type_fixed may_be_open slot e (type.Pointer' p shape row) = pointed_fixed slot e p row
-  type_fixed may_be_open slot e (type.Proc p flag formals) = refl
+  type_fixed may_be_open slot e (type.Proc p flag formals) = procedure_fixed slot e p flag formals
   type_fixed may_be_open slot e (type.Object' p base shape row body end) =
-      object_in_fixed slot (object_slot e slot) e p base (items-the_row-Decl _ row) body (λ e. members_in (members_met e [] []) row) (λ f. members_fixed (members_met f [] []) row)
+      object_in_fixed slot (object_slot e slot) e p base (items-the_row-Decl _ row) (λ e. members_in (members_met e [] []) row) (λ f. members_fixed (members_met f [] []) row)
 
   members_fixed : {m : _} (f : MembersMet) (r : Row_of-Decl m) → fixed (members_in f r).answer.env ≡ fixed f.env
   members_fixed f end_of-Decl = refl
@@ -196,21 +232,6 @@ declared_fixed e (decl.Proc' p i def formals shape row body end) = refl
 
 -- Headings.
 
-opened_fixed : (ats : List Pos) (m : Met) → fixed (opened ats m).env ≡ fixed m.env
-opened_fixed [] m = refl
-opened_fixed (at ∷ ats) m = by (opened ats m).of refl ∙ opened_fixed ats m
-  where
-    by : (of : Option TypeId) → (opened ats m).of ≡ of → fixed (opened (at ∷ ats) m).env ≡ fixed (opened ats m).env
-    by None is = rw is refl
-    by (Some t) is = rw is refl
-
-section_fixed : (f : FormalsMet) (s : Section) → fixed (with_section f s).answer.env ≡ fixed f.env
-section_fixed f s = opened_fixed s.arrays (met f.env (named_type f.env s.of).answer)
-
-formals_fixed : (e : Env) (fs : Option Formals) → fixed (formals_in e fs).answer.env ≡ fixed e
-formals_fixed e None = refl
-formals_fixed e (Some f) = walk_keeps (λ (m : FormalsMet). fixed m.env) with_section section_fixed (formals_met e []) f.sections
-
 parameters_fixed : (e : Env) (ps : List Parameter) → fixed (with_parameters e ps) ≡ fixed e
 parameters_fixed e [] = refl
 parameters_fixed e (p ∷ ps) = parameters_fixed (with_variable e p.of) ps ∙ changed_fixed (λ s. with_type s p.of) e (env.innermost e.path)
@@ -220,11 +241,11 @@ locals_fixed k h ds =
     let inner = env.within (with_signature h.env h.signature) k in
     walk_keeps fixed declared declared_fixed (with_parameters inner h.signature.parameters) ds ∙ parameters_fixed inner h.signature.parameters
 
-procedures_fixed : (rule : ℕ) (e : Env) (k : ℕ) (ps : List Procedure) → fixed (procedures_from rule e k ps).answer ≡ fixed e
-procedures_fixed rule e k [] = refl
-procedures_fixed rule e k (p ∷ ps) =
-    procedures_fixed rule (procedure rule e k p.initializer p.formals p.decls).answer (suc k) ps
-    ∙ locals_fixed k (formals_in e p.formals).answer p.decls ∙ formals_fixed e p.formals
+procedures_fixed : (may_stand : Bool) (e : Env) (k : ℕ) (ps : List Procedure) → fixed (procedures_from may_stand e k ps).answer ≡ fixed e
+procedures_fixed may_stand e k [] = refl
+procedures_fixed may_stand e k (p ∷ ps) =
+    procedures_fixed (may_stand && is_none p.initializer) (procedure may_stand e k p.initializer p.formals p.decls).answer (suc k) ps
+    ∙ locals_fixed k (marked p.initializer (formals_in e p.formals).answer) p.decls ∙ formals_fixed e p.formals
 
 within_fixed : (e : Env) (of : Option TypeId) → fixed (within_type e of) ≡ fixed e
 within_fixed e None = refl
@@ -234,14 +255,14 @@ methods_fixed : (e : Env) (k : ℕ) (ds : List TypeDef) → fixed (methods_from 
 methods_fixed e k [] = refl
 methods_fixed e k (d ∷ ds) =
     methods_fixed (type_methods e k d).answer (k + length (methods_in d)) ds
-    ∙ procedures_fixed 99 (within_type e (defined_type e d)) k (methods_in d) ∙ within_fixed e (defined_type e d)
+    ∙ procedures_fixed true (within_type e (defined_type e d)) k (methods_in d) ∙ within_fixed e (defined_type e d)
 
 headings_fixed : (e : Env) (ds : List Decl) → fixed (headings e ds).answer ≡ fixed e
 headings_fixed e ds =
     let first = suc (length (type_defs ds)) in
     let f = (walk declared e ds).answer in
-    methods_fixed (procedures_from 24 f first (procedures ds)).answer (first + length (procedures ds)) (type_defs ds)
-    ∙ procedures_fixed 24 f first (procedures ds) ∙ walk_keeps fixed declared declared_fixed e ds
+    methods_fixed (procedures_from false f first (procedures ds)).answer (first + length (procedures ds)) (type_defs ds)
+    ∙ procedures_fixed false f first (procedures ds) ∙ walk_keeps fixed declared declared_fixed e ds
 
 module _ (number : ℕ) (before : List Home) (types : List TypeRow) (text : List ℕ) (m : Module) where
   declare_fixed : fixed (declare number before types text m).answer ≡ (number, before, text)

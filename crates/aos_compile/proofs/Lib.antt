@@ -15,6 +15,7 @@ pub mod TypingFields
 pub mod Numbered
 pub mod Slots
 pub mod Overriding
+pub mod Nearest
 pub mod TypingMethods
 pub mod MethodsStay
 pub mod MethodsGrow
@@ -30,6 +31,7 @@ pub mod TypingSaid
 pub mod TypingWhole
 pub mod TypingPaths
 pub mod TypingBodies
+pub mod TypingPatterns
 pub mod TypingObjects
 pub mod TypingModules
 pub mod Typing

@@ -1,11 +1,11 @@
 -- Where the table of types goes on and all homes stay, names stand for the same methods, in the same slots, and own methods stay a type's own.
-use Rattle.std.proofs.Common.{◌≡◌, ℕ, zero, suc, ◌<◌, List, [], ◌∷◌, length, fold, ◌&&◌, Option, Some, None, option_map, option_and_then, slice_get, refl, sym, ap, ap₂, ◌∙◌, subst, arith}
+use Rattle.std.proofs.Common.{◌≡◌, ℕ, zero, suc, ◌+◌, ◌<◌, List, [], ◌∷◌, length, fold, ◌&&◌, Option, Some, None, option_map, option_and_then, slice_get, refl, sym, ap, ap₂, ◌∙◌, subst, arith}
 use Rattle.std.specs.Option.{option_or}
 use Rattle.aos_types.specs.declared.row.TypeId.{TypeId}
 use Rattle.aos_types.specs.declared.row.TypeRow.{TypeRow}
 use Rattle.aos_types.specs.Table.{row_of, base_of}
 use Rattle.aos_types.specs.Sameness.{same}
-use Rattle.aos_typed.specs.Methods.{own_methods}
+use Rattle.aos_typed.specs.Methods.{own_methods, initial_slot}
 use Rattle.aos_typed.specs.Program.{Procedure as TypedProcedure, Parameter, Method as TypedMethod, ObjectType, Module}
 use Rattle.aos_symbols.specs.declared.home.ObjectScope.{ObjectScope}
 use Rattle.aos_symbols.specs.declared.home.Parameter.{Parameter as Formal}
@@ -19,10 +19,11 @@ use Rattle.aos_symbols.specs.Scope.{Named, Scope, find, methods_of}
 use Rattle.aos_symbols.specs.Env as env
 use Rattle.aos_check_expr.specs.Known.{object_number}
 use Rattle.aos_check_expr.proofs.Opens.{OpensFall}
-use Rattle.aos_check_decl.specs.Methods.{same_type, same_kind, same_parameters, same_result, same_signature}
+use Rattle.aos_check_expr.specs.Signatures.{same_type, same_kind, same_parameters, same_result}
 use Rattle.aos_check_decl.proofs.Typing.{AreReady}
+use Rattle.aos_compile.proofs.Overriding.{may_stand}
 use Rattle.aos_compile.proofs.Slots.{Word, spot, more, words, is_in}
-use Rattle.aos_compile.proofs.TypingMethods.{Meant, bare, meant_at, bare_meant, own_meant, meant, meant_behind, slot_words, words_behind, own_words, above, base_falls, meant_is, words_are, IsMeant, IsOwn, AreOwnOf, HasOwn}
+use Rattle.aos_compile.proofs.TypingMethods.{Meant, bare, meant_at, bare_meant, own_meant, meant, meant_behind, own_start, start, start_behind, slot_words, words_behind, own_words, above, base_falls, meant_is, start_is, words_are, IsMeant, IsOwn, AreOwnOf, HasOwn}
 use Rattle.aos_compile.proofs.TypingProcedures.{AreFormals, IsSignature, signature_on}
 use Rattle.aos_compile.proofs.TypingTables.{same_stays}
 use Rattle.aos_compile.proofs.TypingTypes.{RowsStay, bases_there, there_stays}
@@ -51,9 +52,10 @@ module _ (ts us : List TypeRow) (stay : RowsStay ts us) (falls : OpensFall ts) w
       by (gives.Value (Some t)) (gives.Value None) i j = refl
       by (gives.Value (Some t)) (gives.Value (Some u)) i j = same_stays ts us stay falls t u (one.closed t i).0 (two.closed u j).0
 
-  pub signature_stays : (s t : Signature) (q r : TypedProcedure) → IsSignature ts s q → IsSignature ts t r → same_signature ts s t ≡ same_signature us s t
+  pub signature_stays : (s t : Signature) (q r : TypedProcedure) → IsSignature ts s q → IsSignature ts t r → may_stand ts s t ≡ may_stand us s t
   signature_stays s t q r one two =
-      ap₂ (λ b c. b && c) (parameters_stay s.parameters t.parameters q.parameters r.parameters one.parameters two.parameters) (results_stay s t q r one two)
+      ap₂ (λ b c. (b && c) && same_kind s.is_initializer t.is_initializer)
+      (parameters_stay s.parameters t.parameters q.parameters r.parameters one.parameters two.parameters) (results_stay s t q r one two)
 
 -- What an environment reads of its homes alone.
 
@@ -74,6 +76,20 @@ module _ (e : Env) where
           ≡ option_and_then (λ o. in_home o w (env.home e o.home)) o
       by None = refl
       by (Some o) = found o (env.in_scope e (env.object_place o) w)
+
+  abbrev pub start_in : ObjectScope → Option Home → Option Meant
+  start_in o h = option_map (λ k. record { home = o.home; number = o.methods + k; slot = env.slot_of h o k }) o.initial
+
+  pub own_start_is : (t : TypeId) → own_start e t ≡ option_and_then (λ o. start_in o (env.home e o.home)) (env.object e t)
+  own_start_is t = by (env.object e t)
+    where
+      found : (o : ObjectScope) (k : Option ℕ) → option_map bare (option_map (env.method_at e t o None) k) ≡ option_map (λ k. record { home = o.home; number = o.methods + k; slot = env.slot_of (env.home e o.home) o k }) k
+      found o None = refl
+      found o (Some k) = refl
+
+      by : (o : Option ObjectScope) → option_map bare (env.initial_at e t o) ≡ option_and_then (λ o. start_in o (env.home e o.home)) o
+      by None = refl
+      by (Some o) = found o o.initial
 
   abbrev pub named_in : Option Scope → List Named
   named_in None = []
@@ -99,6 +115,9 @@ module _ (e f : Env) (ready : AreReady e.types) (ready_on : AreReady f.types) (s
 
   own_meant_stays : (t : TypeId) → t.0 < length e.types → (w : Word) → own_meant f t w ≡ own_meant e t w
   own_meant_stays t there w = own_meant_is f t w ∙ by_object (λ o h. in_home e o w h) t there ∙ sym (own_meant_is e t w)
+
+  own_start_stays : (t : TypeId) → t.0 < length e.types → own_start f t ≡ own_start e t
+  own_start_stays t there = own_start_is f t ∙ by_object (λ o h. start_in e o h) t there ∙ sym (own_start_is e t)
 
   own_words_stay : (t : TypeId) → t.0 < length e.types → own_words f t ≡ own_words e t
   own_words_stay t there =
@@ -128,6 +147,22 @@ module _ (e f : Env) (ready : AreReady e.types) (ready_on : AreReady f.types) (s
 
   pub meant_stays : (t : TypeId) → t.0 < length e.types → (w : Word) → meant f t w ≡ meant e t w
   meant_stays t there w = meant_by (suc ((above e ready).rank t)) t (omega arith) there w
+
+  start_by : (n : ℕ) (t : TypeId) → (above e ready).rank t < n → t.0 < length e.types → start f t ≡ start e t
+  start_by zero t less there = absurd (omega (arith, less))
+  start_by (suc n) t less there =
+      let base = base_of (row_of e.types t) in
+      let same : start_behind f base ≡ start_behind e base =
+      behind_stays (λ o. start_behind f o) (λ o. start_behind e o) base refl
+      (λ b is. let falls = base_falls e.types e.types (λ k l. refl) (above e ready) (bases_there e.types ready) t b is in
+      start_by n b (omega (arith, falls, less)) (bases_there e.types ready t b is)) in
+      start_is f ready_on t (there_stays e.types f.types stay t.0 there)
+      ∙ ap (λ b. option_or (own_start f t) (start_behind f b)) (base_stays t there)
+      ∙ ap₂ option_or (own_start_stays t there) same
+      ∙ sym (start_is e ready t there)
+
+  pub start_stays : (t : TypeId) → t.0 < length e.types → start f t ≡ start e t
+  start_stays t there = start_by (suc ((above e ready).rank t)) t (omega arith) there
 
   words_by : (n : ℕ) (t : TypeId) → (above e ready).rank t < n → t.0 < length e.types → slot_words f t ≡ slot_words e t
   words_by zero t less there = absurd (omega (arith, less))
@@ -193,4 +228,14 @@ module _ (e f : Env) (ready : AreReady e.types) (ready_on : AreReady f.types) (s
           (subst (λ xs. AreOwnOf f ns qs t (own_words e t) xs) (sym same)
           (are_on t there (own_words e t) (own_methods (record { modules = ms; types = e.types; objects = os }) (object_number t)) own.are));
       only = λ w m found. ap (λ vs. is_in vs w) (own_words_stay t there) ∙ own.only w m (sym (own_meant_stays t there w) ∙ found);
+      starts = ap initial_slot same ∙ own.starts ∙ ap (option_map (λ (m : Meant). m.slot)) (sym (own_start_stays t there));
+      started = λ m found.
+          let one = own.started m (sym (own_start_stays t there) ∙ found) in
+          record {
+            name = one.name;
+            found = own_meant_stays t there one.name ∙ one.found;
+            signature = one.signature;
+            is = signed m.home m.number one.signature one.is;
+            mark = one.mark;
+          };
     }

@@ -11,10 +11,9 @@ use Rattle.aos_tree.specs.declared.decl.TypeExpr.{TypeExpr}
 use Rattle.aos_tree.specs.declared.decl.TypeExpr.TheVariants as type
 use Rattle.aos_types.specs.declared.row.TypeId.{TypeId}
 use Rattle.aos_symbols.specs.declared.home.ObjectScope.{ObjectScope}
-use Rattle.aos_symbols.specs.Declarations.{Procedure, procedures, methods_in, all_procedures, type_defs}
-use Rattle.aos_symbols.specs.Entries.{number_at, numbered_objects, with_object, next_object, objects_of}
+use Rattle.aos_symbols.specs.Declarations.{Procedure, procedures, methods_in, all_procedures, type_defs, inner_decls}
+use Rattle.aos_symbols.specs.Entries.{number_at, initial_of, numbered_objects, with_object, next_object, objects_of}
 pub use Rattle.aos_check_decl.proofs.ObjectTypes.{IsObject}
-use Rattle.aos_compile.specs.Modules.{object_body}
 
 -- Entries by numbers.
 
@@ -53,7 +52,7 @@ methods_before ds i = length (flat_map methods_in (take i ds))
 
 -- in a module with the number m: the object type of the definition with the place k, whose methods begin at n
 abbrev pub scope_at : (m k n : ℕ) → TypeDef → ObjectScope
-scope_at m k n d = record { home = m; scope = suc k; methods = n; has_body = is_some (object_body d.value) }
+scope_at m k n d = record { home = m; scope = suc k; methods = n; initial = initial_of (inner_decls d.value) }
 
 no_object : (ns : List (Option TypeId)) (m k n : ℕ) (t : Option TypeId) (x : TypeExpr) (os : List (ℕ × ObjectScope)) → (IsObject x → ⊥) → with_object m k n t x os ≡ os
 no_object ns m k n None x os never = refl
@@ -67,8 +66,8 @@ no_object ns m k n (Some t) (type.Proc p flag formals) os never = refl
 an_object : (m k n : ℕ) (t : TypeId) (d : TypeDef) (os : List (ℕ × ObjectScope)) → IsObject d.value → with_object m k n (Some t) d.value os ≡ insert_entry nat_eq os t.0 (scope_at m k n d)
 an_object m k n t d os is = by d.value refl is
   where
-    by : (x : TypeExpr) → d.value ≡ x → IsObject x → with_object m k n (Some t) x os ≡ insert_entry nat_eq os t.0 (record { home = m; scope = suc k; methods = n; has_body = is_some (object_body d.value) })
-    by (type.Object' p base shape row body end) same is = ap (λ y. insert_entry nat_eq os t.0 (record { home = m; scope = suc k; methods = n; has_body = is_some (object_body y) })) (sym same)
+    by : (x : TypeExpr) → d.value ≡ x → IsObject x → with_object m k n (Some t) x os ≡ insert_entry nat_eq os t.0 (record { home = m; scope = suc k; methods = n; initial = initial_of (inner_decls d.value) })
+    by (type.Object' p base shape row body end) same is = ap (λ y. insert_entry nat_eq os t.0 (record { home = m; scope = suc k; methods = n; initial = initial_of (inner_decls y) })) (sym same)
     by (type.Named q) same is = absurd is
     by (type.Array' p lengths shape row) same is = absurd is
     by (type.Record' p base shape row) same is = absurd is

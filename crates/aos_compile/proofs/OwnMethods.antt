@@ -1,5 +1,5 @@
 -- The methods that an object type of a module declares: they stand beside it in the program, each in the slot of its name.
-use Rattle.std.proofs.Common.{◌≡◌, ℕ, zero, suc, ◌+◌, ◌-◌, ◌<◌, List, [], ◌∷◌, ◌++◌, length, map, Bool, true, false, ◌||◌, if◌then◌else◌, Option, Some, None, option_map, option_and_then, slice_get, unwrap_or, refl, sym, ap, ap₂, ◌∙◌, subst, eq-eqb, arith}
+use Rattle.std.proofs.Common.{◌≡◌, ℕ, zero, suc, ◌+◌, ◌-◌, ◌<◌, List, [], ◌∷◌, ◌++◌, length, map, Bool, true, false, ◌||◌, if◌then◌else◌, Option, Some, None, is_some, option_map, option_and_then, slice_get, unwrap_or, refl, sym, ap, ap₂, ◌∙◌, subst, eq-eqb, arith}
 use Rattle.std.specs.Option.{option_or}
 use Rattle.std.specs.Str.{bytes_eq}
 use Rattle.std.proofs.lemmas.Option.{none-some, same_Some, slice_get-map}
@@ -12,6 +12,7 @@ use Rattle.aos_tree.specs.declared.decl.TypeDef.{TypeDef}
 use Rattle.aos_tree.specs.declared.module.Module.{Module as Tree}
 use Rattle.aos_types.specs.declared.row.TypeId.{TypeId}
 use Rattle.aos_types.specs.Table.{row_of, base_of}
+use Rattle.aos_typed.specs.Methods.{initial_slot}
 use Rattle.aos_typed.specs.Program.{Stats, Method as TypedMethod, ObjectType, Module}
 use Rattle.aos_symbols.specs.declared.scope.Meaning.{Meaning}
 use Rattle.aos_symbols.specs.declared.scope.Meaning.TheVariants as means
@@ -23,19 +24,20 @@ use Rattle.aos_symbols.specs.declared.env.Method.{Method}
 use Rattle.aos_symbols.specs.declared.env.Env.{Env}
 use Rattle.aos_symbols.specs.Spelling.{word}
 use Rattle.aos_symbols.specs.Declarations.{Procedure, whole_procedures_in, procedures_in, procedures, procedure_defs, methods_in, all_procedures, type_defs, inner_decls}
-use Rattle.aos_symbols.specs.Entries.{numbered}
+use Rattle.aos_symbols.specs.Entries.{numbered, initial_from}
 use Rattle.aos_symbols.specs.Home.{Home, slot_at}
 use Rattle.aos_symbols.specs.Scope.{Named, Scope, find, is_procedure, place_of, places_in}
 use Rattle.aos_symbols.specs.Env as env
 use Rattle.aos_symbols.proofs.Holds.{test_is}
-use Rattle.aos_check_decl.specs.Methods.{same_signature, may_override, signature_of, override_breaches, method_breaches}
+use Rattle.aos_check_decl.specs.Methods.{may_override, signature_of, override_breaches, method_breaches}
 use Rattle.aos_check_decl.proofs.Typing.{AreReady, HasHeading}
 use Rattle.aos_compile.specs.Modules.{procedure_of, procedures_of, variables_of, slotted, method_beside}
 use Rattle.aos_compile.proofs.MethodNames.{IsInner, AreOnce, once_first, once_rest}
-use Rattle.aos_compile.proofs.MethodsStay.{own_meant_is, own_methods_are, in_home, named_in}
+use Rattle.aos_compile.proofs.MethodsStay.{own_meant_is, own_start_is, own_methods_are, in_home, start_in, named_in}
+use Rattle.aos_compile.proofs.Overriding.{may_stand}
 use Rattle.aos_compile.proofs.ObjectScopes.{scope_at, methods_before, method_at}
 use Rattle.aos_compile.proofs.Slots.{Word, spot, spot_is, words, fold_placed, is_in}
-use Rattle.aos_compile.proofs.TypingMethods.{Meant, bare, meant_at, own_meant, meant, meant_behind, slot_words, words_behind, own_words, words_are, meant_is, IsOwn, AreOwnOf}
+use Rattle.aos_compile.proofs.TypingMethods.{Meant, bare, meant_at, own_meant, own_start, IsStarted, meant, meant_behind, slot_words, words_behind, own_words, words_are, meant_is, IsOwn, AreOwnOf}
 use Rattle.aos_compile.proofs.TypingProcedures.{IsSignature, heading_signature}
 
 not_both : true ≡ false → ⊥
@@ -77,6 +79,27 @@ named_at [] ps are i d is = absurd (none-some d is)
 named_at (x ∷ ds) [] are i d is = absurd are
 named_at (x ∷ ds) (p ∷ ps) are zero d is = (p, refl, are.0 ∙ ap (λ (z : Def). z.name) (same_Some x d is))
 named_at (x ∷ ds) (p ∷ ps) are (suc i) d is = named_at ds ps are.1 i d is
+
+def_at : (ds : List Def) (ps : List Procedure) → AreNamed ds ps → (i : ℕ) (p : Procedure) → slice_get ps i ≡ Some p → (d : Def) × (slice_get ds i ≡ Some d)
+def_at ds [] are i p is = absurd (none-some p is)
+def_at [] (q ∷ ps) are i p is = absurd are
+def_at (x ∷ ds) (q ∷ ps) are zero p is = (x, refl)
+def_at (x ∷ ds) (q ∷ ps) are (suc i) p is = def_at ds ps are.1 i p is
+
+-- the first initializer among procedures is one of them
+initial_found : (k : ℕ) (ps : List Procedure) (j : ℕ) → initial_from k ps ≡ Some j →
+    (i : ℕ) × (p : Procedure) × (j ≡ k + i) × (slice_get ps i ≡ Some p) × (is_some p.initializer ≡ true)
+initial_found k [] j found = absurd (none-some j found)
+initial_found k (p ∷ ps) j found = by (is_some p.initializer) refl found (initial_found (suc k) ps j)
+  where
+    by : (b : Bool) → is_some p.initializer ≡ b → (if b then Some k else initial_from (suc k) ps) ≡ Some j →
+        (initial_from (suc k) ps ≡ Some j → (i : ℕ) × (q : Procedure) × (j ≡ suc k + i) × (slice_get ps i ≡ Some q) × (is_some q.initializer ≡ true)) →
+        (i : ℕ) × (q : Procedure) × (j ≡ k + i) × (slice_get (p ∷ ps) i ≡ Some q) × (is_some q.initializer ≡ true)
+    by true is found more = (0, p, sym (same_Some k j found) ∙ (let same : k ≡ k + 0 = omega arith in same), refl, is)
+    by false is found more =
+        let one = more found in
+        let number = one.2 in
+        (suc one.0, one.1, omega (arith, number), one.3, one.4)
 
 module _ (e : Env) (m : Tree) (j : ℕ) (d : TypeDef) (t : TypeId) where
   abbrev text : List ℕ
@@ -211,12 +234,42 @@ module _ (e : Env) (m : Tree) (j : ℕ) (d : TypeDef) (t : TypeId) where
         let h = (headed i.0 x.0 x.1).2 in
         (h.signature, ap (λ (z : Meant). env.signature e z.home z.number) (sym same) ∙ signature_at i.0 h.signature h.signature_is)
 
+    -- Its initializer.
+
+    started_is : own_start e t ≡ option_map meaning object.initial
+    started_is =
+        own_start_is e t
+        ∙ ap (option_and_then (λ o. start_in e o (env.home e o.home))) is.found
+        ∙ ap (start_in e object) here
+
+    pub started : (modules : List Module) (objects : List ObjectType) (u : Meant) → own_start e t ≡ Some u → IsStarted e modules objects t u
+    started modules objects u found =
+        let one = some_map meaning object.initial u (sym started_is ∙ found) in
+        let i = one.0 in
+        let two = initial_found 0 (methods_in d) i one.1 in
+        let number = two.2 in
+        let place : two.0 ≡ i = omega (arith, number) in
+        let at : slice_get (methods_in d) i ≡ Some two.1 = ap (slice_get (methods_in d)) (sym place) ∙ two.3 in
+        let x = def_at defs (methods_in d) (are_named (inner_decls d.value)) i two.1 at in
+        let h = headings (first_method + i) two.1 (method_at m.decls j d i two.1 is.there at) in
+        record {
+          name = word text x.0.name;
+          found = found_as i x.0 x.1 ∙ ap (λ z. Some z) one.2;
+          signature = h.signature;
+          is = ap (λ (z : Meant). env.signature e z.home z.number) (sym one.2) ∙ signature_at i h.signature h.signature_is;
+          mark = h.heading.mark ∙ two.4;
+        }
+
+    slots_meant : (o : Option ℕ) → option_map (slot_at e.here object) o ≡ option_map (λ (z : Meant). z.slot) (option_map meaning o)
+    slots_meant None = refl
+    slots_meant (Some i) = refl
+
     -- Rule 22.
 
     module _ (kept : (i : ℕ) (p : Procedure) → slice_get (methods_in d) i ≡ Some p → method_breaches e t p ≡ [])
         (signed : (b : TypeId) → base_of (row_of e.types t) ≡ Some b → (w : Word) (u : Meant) → meant e b w ≡ Some u → (s : Signature) × (env.signature e u.home u.number ≡ Some s)) where
       may : (n : Name) (a b : Option Method) → override_breaches e n a b ≡ [] → (x y : Method) → a ≡ Some x → b ≡ Some y → (s r : Signature) → env.signature e x.home x.number ≡ Some s → env.signature e y.home y.number ≡ Some r →
-          same_signature e.types s r ≡ true
+          may_stand e.types s r ≡ true
       may n None b none x y i k s r one two = absurd (none-some x i)
       may n (Some a) None none x y i k s r one two = absurd (none-some y k)
       may n (Some a) (Some b) none x y i k s r one two =
@@ -226,7 +279,7 @@ module _ (e : Env) (m : Tree) (j : ℕ) (d : TypeDef) (t : TypeId) where
 
       overriding : (i : ℕ) (x : Def) → slice_get defs i ≡ Some x → (p : Procedure) → slice_get (methods_in d) i ≡ Some p → p.name ≡ x.name → (s : Signature) →
           env.signature e e.number (first_method + i) ≡ Some s → (u : Meant) → meant_behind e (base_of (row_of e.types t)) (word text x.name) ≡ Some u →
-          (r : Signature) × (env.signature e u.home u.number ≡ Some r) × (same_signature e.types s r ≡ true)
+          (r : Signature) × (env.signature e u.home u.number ≡ Some r) × (may_stand e.types s r ≡ true)
       overriding i x at p there name s here_signed u found = by (base_of (row_of e.types t)) refl found
         where
           own : (y : Method) × (env.method_named e t (word text x.name) ≡ Some y) × (bare y ≡ meaning i)
@@ -235,7 +288,7 @@ module _ (e : Env) (m : Tree) (j : ℕ) (d : TypeDef) (t : TypeId) where
               (meant_is e ready t below (word text x.name) ∙ ap (λ o. option_or o (meant_behind e (base_of (row_of e.types t)) (word text x.name))) (found_as i x at))
 
           by : (b : Option TypeId) → base_of (row_of e.types t) ≡ b → meant_behind e b (word text x.name) ≡ Some u →
-              (r : Signature) × (env.signature e u.home u.number ≡ Some r) × (same_signature e.types s r ≡ true)
+              (r : Signature) × (env.signature e u.home u.number ≡ Some r) × (may_stand e.types s r ≡ true)
           by None base found = absurd (none-some u found)
           by (Some b) base found =
               let up = some_map bare (env.method_named e b (word text x.name)) u found in
@@ -268,11 +321,40 @@ module _ (e : Env) (m : Tree) (j : ℕ) (d : TypeDef) (t : TypeId) where
                 is = signature_at i s signature;
                 typed =
                     let w = subst (λ (z : Signature). IsSignature e.types z (procedure_of text p z variables b)) same whole in
-                    record { parameters = w.parameters; result = w.result; closed = w.closed };
+                    record { mark = w.mark; proper = w.proper; parameters = w.parameters; result = w.result; closed = w.closed };
               };
               place = slot_is i x at;
               keeps = λ u found. overriding i x at p there name s (signature_at i s signature) u found;
             }
+
+        starts_are : (i : ℕ) (ps : List Procedure) (ss : List Signature) (bs : List Stats) → length bs ≡ length ps → ((n : ℕ) → slice_get ps n ≡ slice_get (methods_in d) (i + n)) →
+            ((n : ℕ) → slice_get ss n ≡ slice_get e.here.signatures (first_method + (i + n))) → initial_slot (beside i ps ss bs) ≡ option_map (slot_at e.here object) (initial_from i ps)
+        starts_are i [] ss bs many there signed = refl
+        starts_are i (p ∷ ps) ss [] many there signed = absurd (omega (arith, many))
+        starts_are i (p ∷ ps) [] (b ∷ bs) many there signed =
+            let plus : i + 0 ≡ i = omega arith in
+            let h = headings (first_method + i) p (method_at m.decls j d i p is.there (ap (slice_get (methods_in d)) (sym plus) ∙ sym (there 0))) in
+            absurd (none-some h.signature (signed 0 ∙ ap (λ n. slice_get e.here.signatures (first_method + n)) plus ∙ h.signature_is))
+        starts_are i (p ∷ ps) (s ∷ ss) (b ∷ bs) many there signed =
+            let next = λ (n : ℕ). (let same : i + suc n ≡ suc i + n = omega arith in same) in
+            by (is_some p.initializer)
+            (ap (λ n. initial_slot (map (method_beside k) (slotted e.here object (suc i) (procedures_of text e.here.scopes n ps ss bs)))) (let same : suc (first + i) ≡ first + suc i = omega arith in same)
+            ∙ starts_are (suc i) ps ss bs (omega (arith, many)) (λ n. there (suc n) ∙ ap (slice_get (methods_in d)) (next n)) (λ n. signed (suc n) ∙ ap (λ l. slice_get e.here.signatures (first_method + l)) (next n)))
+          where
+            by : (c : Bool) →
+                initial_slot (map (method_beside k) (slotted e.here object (suc i) (procedures_of text e.here.scopes (suc (first + i)) ps ss bs))) ≡ option_map (slot_at e.here object) (initial_from (suc i) ps) →
+                (if c then Some (slot_at e.here object i) else initial_slot (map (method_beside k) (slotted e.here object (suc i) (procedures_of text e.here.scopes (suc (first + i)) ps ss bs))))
+                ≡ option_map (slot_at e.here object) (if c then Some i else initial_from (suc i) ps)
+            by true more = refl
+            by false more = more
+
+        -- the first that is an initializer has the slot of that of the type
+        pub starts : (ss : List Signature) (bs : List Stats) → length bs ≡ length (methods_in d) → ((n : ℕ) → slice_get ss n ≡ slice_get e.here.signatures (first_method + (0 + n))) →
+            initial_slot (beside 0 (methods_in d) ss bs) ≡ option_map (λ (z : Meant). z.slot) (own_start e t)
+        starts ss bs many signed =
+            starts_are 0 (methods_in d) ss bs many (λ n. ap (slice_get (methods_in d)) (let same : n ≡ 0 + n = omega arith in same)) signed
+            ∙ slots_meant object.initial
+            ∙ ap (option_map (λ (z : Meant). z.slot)) (sym started_is)
 
         pub are_own : (i : ℕ) (ds : List Def) (ps : List Procedure) (ss : List Signature) (bs : List Stats) → AreNamed ds ps → length bs ≡ length ps →
             ((n : ℕ) → slice_get ds n ≡ slice_get defs (i + n)) → ((n : ℕ) → slice_get ps n ≡ slice_get (methods_in d) (i + n)) →

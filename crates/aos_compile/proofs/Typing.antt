@@ -1,5 +1,5 @@
 -- The program that texts come to is well typed.
-use Rattle.std.proofs.Common.{◌≡◌, ℕ, suc, ◌+◌, ◌-◌, ◌<◌, ◌≤◌, List, [], ◌∷◌, length, Option, Some, None, slice_get, zip, All, refl, sym, ap, subst, arith}
+use Rattle.std.proofs.Common.{◌≡◌, ℕ, suc, ◌+◌, ◌-◌, ◌^◌, ◌<◌, ◌≤◌, List, [], ◌∷◌, length, Option, Some, None, slice_get, zip, All, refl, sym, ap, subst, arith}
 use Rattle.std.proofs.lemmas.Option.{slice_get_within}
 use Rattle.aos_types.specs.declared.row.TypeId.{TypeId}
 use Rattle.aos_types.specs.declared.TheConstants.{MOST_SCALARS}
@@ -25,7 +25,7 @@ use Rattle.aos_compile.proofs.MethodsGrow.{bases_high}
 use Rattle.aos_compile.proofs.TypingHomes.{AreHomes}
 use Rattle.aos_compile.proofs.TypingMethods.{all_are_slots}
 use Rattle.aos_compile.proofs.TypingOutlook.{outlook}
-use Rattle.aos_compile.proofs.TypingWorld.{IsWorld, no_world}
+use Rattle.aos_compile.proofs.TypingWorld.{AreTyped, IsWorld, no_world}
 use Rattle.aos_compile.proofs.TypingModules.{module_sound}
 
 module _ (ss : List Source) where
@@ -60,7 +60,7 @@ pub record TypedWell (p : Program) : Type 0 where
   pub few_scalars : All (λ m. module_scalars p m ≤ MOST_SCALARS) p.modules
   pub procedures : All (λ m. All (λ q. IsProcedure p q × (q.of ≡ None)) m.procedures) p.modules
 
-module _ (w : World) (sound : IsWorld w) where
+module _ (w : World) (sound : IsWorld w) (few : length w.types < 2 ^ 32) where
   abbrev AreVariables : Module → Type 0
   AreVariables m = All (λ v. IsVariableType (program_of w) v.of) m.variables
 
@@ -108,32 +108,36 @@ module _ (w : World) (sound : IsWorld w) where
       (subst (λ n. AreSlots (program_of w) (on_base (methods_of (program_of w)) (base_type (program_of w) n)) (own_methods (program_of w) n)) number
       (all_are_slots (outlook w.before w.types) w.modules w.objects sound.table sound.count sound.own (bases_high w.types sound.table) t (omega arith) (omega (arith, below, count))))
 
+  typed : AreTyped w
+  typed = sound.typed few
+
   world_typed : TypedWell (program_of w)
   world_typed = record {
-    bodies = all_of (λ m. AreStatements (program_of w) None m.body) w.modules sound.bodies;
-    objects = object_types (program_of w) sound.objects slots;
-    homes = object_homes (program_of w) sound.objects;
+    bodies = all_of (λ m. AreStatements (program_of w) None m.body) w.modules typed.bodies;
+    objects = object_types (program_of w) sound.table typed.objects sound.shapes slots;
+    homes = object_homes (program_of w) sound.table typed.objects;
     types = sound.table.sound;
     texts = all_of HasCodes w.modules (codes_of_homes 0 w.before w.modules sound.homes);
     predeclared = sound.table.basic;
     beside = omega (arith, sound.count);
     variables = all_of AreVariables w.modules (variables_of_homes 0 w.before w.modules sound.homes);
     few_scalars = all_of HasFew w.modules (few_of_homes 0 w.before w.modules sound.homes);
-    procedures = all_of (λ m. All (λ q. IsProcedure (program_of w) q × (q.of ≡ None)) m.procedures) w.modules sound.procedures;
+    procedures = all_of (λ m. All (λ q. IsProcedure (program_of w) q × (q.of ≡ None)) m.procedures) w.modules typed.procedures;
   }
 
-pub typed_well : (texts : List (List ℕ)) (rs : List Reading) (p : Program) → elaborate texts rs ≡ went p → TypedWell p
-typed_well texts rs p h =
+pub typed_well : (texts : List (List ℕ)) (rs : List Reading) (p : Program) → elaborate texts rs ≡ went p → length p.types < 2 ^ 32 → TypedWell p
+typed_well texts rs p h few =
     let one = then_went (trees_from 0 rs) (λ ms. outcome.then (modules (zip texts ms)) (λ w. went (program_of w))) p h in
     let two = then_went (modules (zip texts one.0)) (λ w. went (program_of w)) p one.2 in
-    subst TypedWell (same_went (program_of two.0) p two.2)
-    (world_typed two.0 (world_sound (zip texts one.0) two.0 two.1))
+    let same = same_went (program_of two.0) p two.2 in
+    subst TypedWell same
+    (world_typed two.0 (world_sound (zip texts one.0) two.0 two.1) (subst (λ (q : Program). length q.types < 2 ^ 32) (sym same) few))
 
--- the program of 1 to 64 texts
-pub well_typed : (texts : List (List ℕ)) (p : Program) → ComesTo texts (went p) → 1 ≤ length texts → length texts ≤ 64 → IsWellTyped p
-well_typed texts p h some few =
+-- the program of 1 to 64 texts, whose types have numbers of 32 bits
+pub well_typed : (texts : List (List ℕ)) (p : Program) → ComesTo texts (went p) → 1 ≤ length texts → length texts ≤ 64 → length p.types < 2 ^ 32 → IsWellTyped p
+well_typed texts p h some few types =
     let named = named_well texts p h some few in
-    let typed = typed_well texts h.readings p h.is in
+    let typed = typed_well texts h.readings p h.is types in
     record {
       some = named.some;
       few = named.few;

@@ -1,9 +1,9 @@
 -- The methods of object types by their names, in the environment of a module: each type has in the slot of a name the method that this name
 -- stands for there.
-use Rattle.std.proofs.Common.{◌≡◌, ℕ, zero, suc, ◌+◌, ◌-◌, ◌≤◌, ◌<◌, List, [], ◌∷◌, length, map, fold, Bool, true, false, ◌||◌, Option, Some, None, option_map, slice_get, refl, sym, ap, ◌∙◌, subst, arith}
+use Rattle.std.proofs.Common.{◌≡◌, ℕ, zero, suc, ◌+◌, ◌-◌, ◌≤◌, ◌<◌, ◌⊎◌, inl, inr, List, [], ◌∷◌, ◌++◌, length, map, fold, Bool, true, false, ◌||◌, if◌then◌else◌, Option, Some, None, option_map, slice_get, slice_set, refl, sym, ap, ◌∙◌, subst, lt-ltb, le-ltb, arith}
 use Rattle.std.specs.Option.{option_or}
 use Rattle.std.specs.Str.{bytes_eq}
-use Rattle.std.proofs.lemmas.Option.{none-some, same_Some, slice_get_past}
+use Rattle.std.proofs.lemmas.Option.{none-some, same_Some, slice_get_past, slice_get_within}
 use Rattle.std.proofs.lemmas.Slice.Eq.{bytes_eq-Decides}
 use Rattle.aos_types.specs.declared.row.TypeId.{TypeId}
 use Rattle.aos_types.specs.declared.row.TypeRow.{TypeRow}
@@ -12,7 +12,7 @@ use Rattle.aos_types.specs.Chain.{IsRanked}
 use Rattle.aos_types.proofs.Ranks.{ranked as ranked_of}
 use Rattle.aos_types.proofs.Tables.{base_part}
 use Rattle.aos_typed.specs.declared.tree.TType.TheVariants.{Named}
-use Rattle.aos_typed.specs.Methods.{put_at, slot_of, own_methods, base_type, on_base, own_procedures, methods_of}
+use Rattle.aos_typed.specs.Methods.{put_at, slot_of, own_methods, base_type, on_base, or_base, own_procedures, methods_of, initial_slot, initializer}
 use Rattle.aos_typed.specs.Numbers.{id_of, predeclared_types}
 use Rattle.aos_typed.specs.Program.{Procedure as TypedProcedure, Method as TypedMethod, ObjectType, Module, Program}
 use Rattle.aos_typed.specs.WellTyped.{Overrides, AreSlots}
@@ -28,9 +28,11 @@ use Rattle.aos_symbols.specs.Home.{Home}
 use Rattle.aos_symbols.specs.Env as env
 use Rattle.aos_symbols.specs.Env.{chain_by, chain_behind, chain}
 use Rattle.aos_check_expr.specs.Known.{object_number}
-use Rattle.aos_check_decl.specs.Methods.{same_signature}
+use Rattle.aos_symbols.proofs.Told.{get_front}
 use Rattle.aos_check_decl.proofs.Typing.{AreReady}
-use Rattle.aos_compile.proofs.Overriding.{overrides}
+use Rattle.aos_check_decl.proofs.TypingLists.{set_other}
+use Rattle.aos_compile.proofs.Nearest.{initializer_is}
+use Rattle.aos_compile.proofs.Overriding.{may_stand, overrides}
 use Rattle.aos_compile.proofs.Slots.{Word, spot, more, words, names_more, fold_stays, is_in, Stands, AreOwn, slots_stand}
 use Rattle.aos_compile.proofs.TypingProcedures.{IsSignature}
 use Rattle.aos_compile.proofs.TypingTypes.{RowsStay, bases_there}
@@ -100,6 +102,17 @@ module _ (e : Env) where
   meant_behind None w = None
   meant_behind (Some b) w = meant b w
 
+  -- the initializer that it declares itself, and that of it with its bases
+  abbrev pub own_start : TypeId → Option Meant
+  own_start t = option_map bare (env.own_initializer e t)
+
+  abbrev pub start : TypeId → Option Meant
+  start t = option_map bare (env.initializer e t)
+
+  abbrev pub start_behind : Option TypeId → Option Meant
+  start_behind None = None
+  start_behind (Some b) = start b
+
   -- the names of its methods by their slots
   abbrev pub slot_words : TypeId → List Word
   slot_words t = words (env.all_methods e t).entries
@@ -127,6 +140,13 @@ module _ (e : Env) where
         by None = mapped_or bare (env.own_method e t w) None
         by (Some b) = mapped_or bare (env.own_method e t w) (env.method_named e b w)
 
+    pub start_is : (t : TypeId) → t.0 < length e.types → start t ≡ option_or (own_start t) (start_behind (base_of (row_of e.types t)))
+    start_is t there = ap (λ l. option_map bare (env.initializer_along e l)) (chain_is t there) ∙ by (base_of (row_of e.types t))
+      where
+        by : (o : Option TypeId) → option_map bare (env.initializer_along e (t ∷ chain_behind (λ b. chain e.types b) o)) ≡ option_or (own_start t) (start_behind o)
+        by None = mapped_or bare (env.own_initializer e t) None
+        by (Some b) = mapped_or bare (env.own_initializer e t) (env.initializer e b)
+
     pub words_are : (t : TypeId) → t.0 < length e.types → slot_words t ≡ fold more (words_behind (base_of (row_of e.types t))) (own_words t)
     words_are t there =
         ap (λ l. words (env.methods_along e l).entries) (chain_is t there)
@@ -136,6 +156,29 @@ module _ (e : Env) where
         by : (o : Option TypeId) → words (env.methods_along e (chain_behind (λ b. chain e.types b) o)).entries ≡ words_behind o
         by None = refl
         by (Some b) = refl
+
+-- An initializer stays in its slot behind methods that are none.
+kept_slot : (p : Program) (ms : List TypedMethod) (xs : List TypedProcedure) (k : ℕ) (q : TypedProcedure) → AreSlots p xs ms → initial_slot ms ≡ None → slice_get xs k ≡ Some q →
+    q.is_initializer ≡ true → slice_get (fold put_at xs (map slot_of ms)) k ≡ Some q
+kept_slot p [] xs k q are none there mark = there
+kept_slot p (m ∷ ms) xs k q are none there mark = by m.procedure.is_initializer refl none (λ is. kept_slot p ms (put_at xs (slot_of m)) k q are.1 is)
+  where
+    put : m.procedure.is_initializer ≡ false → (m.slot ≡ length xs) ⊎ ((r : TypedProcedure) × (slice_get xs m.slot ≡ Some r) × Overrides p m.procedure r) →
+        slice_get (put_at xs (slot_of m)) k ≡ Some q
+    put plain (inl new) =
+        ap (λ b. slice_get (if b then slice_set xs m.slot m.procedure else xs ++ m.procedure ∷ []) k) (le-ltb m.slot (length xs) (omega (arith, new)))
+        ∙ get_front xs (m.procedure ∷ []) k q there
+    put plain (inr old) =
+        ap (λ b. slice_get (if b then slice_set xs m.slot m.procedure else xs ++ m.procedure ∷ []) k) (lt-ltb m.slot (length xs) (slice_get_within xs m.slot old.0 old.1))
+        ∙ set_other xs m.slot k m.procedure
+        (λ same. not_both (sym mark ∙ ap (λ (z : TypedProcedure). z.is_initializer) (same_Some q old.0 (sym there ∙ ap (slice_get xs) same ∙ old.1)) ∙ sym old.2.1 ∙ plain))
+        ∙ there
+
+    by : (b : Bool) → m.procedure.is_initializer ≡ b → (if b then Some m.slot else initial_slot ms) ≡ None →
+        (initial_slot ms ≡ None → slice_get (put_at xs (slot_of m)) k ≡ Some q → q.is_initializer ≡ true → slice_get (fold put_at (put_at xs (slot_of m)) (map slot_of ms)) k ≡ Some q) →
+        slice_get (fold put_at (put_at xs (slot_of m)) (map slot_of ms)) k ≡ Some q
+    by true is none more = absurd (none-some m.slot (sym none))
+    by false is none more = more none (put is are.0) mark
 
 -- A module's environment, and the program of its world.
 
@@ -157,6 +200,11 @@ module _ (e : Env) (modules : List Module) (objects : List ObjectType) where
     pub stands : Stands (For (meant e t)) (slot_words e t) (methods_of program (object_number t))
     pub slot : (w : Word) (m : Meant) → meant e t w ≡ Some m → spot (slot_words e t) w ≡ Some m.slot
 
+  -- its initializer is that of the program, in its slot
+  pub record HasStart (t : TypeId) : Type 0 where
+    pub is : initializer program (object_number t) ≡ option_map (λ (m : Meant). m.slot) (start e t)
+    pub there : (m : Meant) → start e t ≡ Some m → (q : TypedProcedure) × (slice_get (methods_of program (object_number t)) m.slot ≡ Some q) × (q.is_initializer ≡ true) × IsMeant m q
+
   -- a method that a type itself declares: what its name stands for in its scope, in its slot, with a signature that may stand in the place
   -- of that of the method which it overrides
   pub record IsOwn (t : TypeId) (v : Word) (m : TypedMethod) : Type 0 where
@@ -166,7 +214,7 @@ module _ (e : Env) (modules : List Module) (objects : List ObjectType) where
     pub typed : IsMeant meaning m.procedure
     pub place : spot (slot_words e t) v ≡ Some m.slot
     pub keeps : (u : Meant) → meant_behind e (base_of (row_of e.types t)) v ≡ Some u →
-        (s : Signature) × (env.signature e u.home u.number ≡ Some s) × (same_signature e.types typed.signature s ≡ true)
+        (s : Signature) × (env.signature e u.home u.number ≡ Some s) × (may_stand e.types typed.signature s ≡ true)
 
   abbrev pub AreOwnOf : TypeId → List Word → List TypedMethod → Type 0
   AreOwnOf t [] [] = Unit {0}
@@ -174,10 +222,20 @@ module _ (e : Env) (modules : List Module) (objects : List ObjectType) where
   AreOwnOf t (v ∷ vs) [] = ⊥
   AreOwnOf t (v ∷ vs) (m ∷ ms) = IsOwn t v m × (is_in vs v ≡ false) × AreOwnOf t vs ms
 
-  -- the methods that a type itself declares are those beside it in the program
+  -- a name of a type stands for its initializer
+  pub record IsStarted (t : TypeId) (m : Meant) : Type 0 where
+    pub name : Word
+    pub found : own_meant e t name ≡ Some m
+    pub signature : Signature
+    pub is : env.signature e m.home m.number ≡ Some signature
+    pub mark : signature.is_initializer ≡ true
+
+  -- the methods that a type itself declares are those beside it in the program, and its initializer is the first of them that is one
   pub record HasOwn (t : TypeId) : Type 0 where
     pub are : AreOwnOf t (own_words e t) (own_methods program (object_number t))
     pub only : (w : Word) (m : Meant) → own_meant e t w ≡ Some m → is_in (own_words e t) w ≡ true
+    pub starts : initial_slot (own_methods program (object_number t)) ≡ option_map (λ (m : Meant). m.slot) (own_start e t)
+    pub started : (m : Meant) → own_start e t ≡ Some m → IsStarted t m
 
   pub own_at : (t : TypeId) (vs : List Word) (ms : List TypedMethod) → AreOwnOf t vs ms → (w : Word) → is_in vs w ≡ true → (m : TypedMethod) × IsOwn t w m
   own_at t [] ms are w is = absurd (not_both (sym is))
@@ -291,6 +349,50 @@ module _ (e : Env) (modules : List Module) (objects : List ObjectType) where
               let same : one.1.meaning ≡ m = same_Some one.1.meaning m (sym (first w one.1.meaning one.1.found) ∙ found) in
               one.1.place ∙ ap (λ k. Some k) (sym one.1.slot) ∙ ap (λ (z : Meant). Some z.slot) same
 
+      -- Its initializer is its own, or its base's.
+      module _ (before : (b : TypeId) → base_of (row_of e.types t) ≡ Some b → HasStart b) where
+        own_started : (n : Meant) → own_start e t ≡ Some n →
+            (q : TypedProcedure) × (slice_get (methods_of program number) n.slot ≡ Some q) × (q.is_initializer ≡ true) × IsMeant n q
+        own_started n is =
+            let one = own.started n is in
+            let found = first one.name n one.found in
+            let at = has_slots.stands.each one.name n.slot (has_slots.slot one.name n found) in
+            let same : at.2.0 ≡ n = same_Some at.2.0 n (sym at.2.1 ∙ found) in
+            let told : IsMeant n at.0 = subst (λ (z : Meant). IsMeant z at.0) same at.2.2 in
+            (at.0, at.1, told.typed.mark ∙ ap (λ (s : Signature). s.is_initializer) (same_Some told.signature one.signature (sym told.is ∙ one.is)) ∙ one.mark, told)
+
+        base_started : (b : TypeId) → base_of (row_of e.types t) ≡ Some b → own_start e t ≡ None → (m : Meant) → start e b ≡ Some m →
+            (q : TypedProcedure) × (slice_get (methods_of program number) m.slot ≡ Some q) × (q.is_initializer ≡ true) × IsMeant m q
+        base_started b is none m found =
+            let up = (before b is).there m found in
+            let xs = on_base (methods_of program) (option_map (λ b. b.0 - predeclared_types) base) in
+            let at : slice_get xs m.slot ≡ Some up.0 = ap (λ o. slice_get (on_base (methods_of program) (option_map (λ b. b.0 - predeclared_types) o)) m.slot) is ∙ up.1 in
+            let left : initial_slot (own_methods program number) ≡ None = own.starts ∙ ap (option_map (λ (m : Meant). m.slot)) none in
+            (up.0, ap (λ ys. slice_get ys m.slot) table_is ∙ kept_slot program (own_methods program number) xs m.slot up.0 both.1 left at up.2, up.2, up.3)
+
+        pub has_start : HasStart t
+        has_start = record {
+          is =
+              initializer_is program ready long number
+              ∙ ap (λ o. or_base (initializer program) o (base_type program number)) own.starts
+              ∙ ap (λ u. or_base (initializer program) (option_map (λ (m : Meant). m.slot) (own_start e t)) (option_map (λ b. b.0 - predeclared_types) (base_of (row_of e.types u)))) number_is
+              ∙ slots (own_start e t) base refl
+              ∙ ap (option_map (λ (m : Meant). m.slot)) (sym (start_is e ready t there));
+          there = λ m found. meets m (own_start e t) refl base refl (sym (start_is e ready t there) ∙ found);
+        }
+          where
+            slots : (o : Option Meant) (b : Option TypeId) → base_of (row_of e.types t) ≡ b →
+                or_base (initializer program) (option_map (λ (m : Meant). m.slot) o) (option_map (λ b. b.0 - predeclared_types) b) ≡ option_map (λ (m : Meant). m.slot) (option_or o (start_behind e b))
+            slots (Some m) b is = refl
+            slots None None is = refl
+            slots None (Some b) is = (before b is).is
+
+            meets : (m : Meant) (o : Option Meant) → own_start e t ≡ o → (b : Option TypeId) → base_of (row_of e.types t) ≡ b → option_or o (start_behind e b) ≡ Some m →
+                (q : TypedProcedure) × (slice_get (methods_of program number) m.slot ≡ Some q) × (q.is_initializer ≡ true) × IsMeant m q
+            meets m (Some n) own_is b is found = own_started m (own_is ∙ found)
+            meets m None own_is None is found = absurd (none-some m found)
+            meets m None own_is (Some b) is found = base_started b is own_is m found
+
     -- Each type whose own methods are beside it has its slots.
     module _ (own : (t : TypeId) → 10 ≤ t.0 → t.0 < length e.types → HasOwn t) (bases_high : (t b : TypeId) → base_of (row_of e.types t) ≡ Some b → 10 ≤ b.0) where
       slots_by_rank : (n : ℕ) (t : TypeId) → (above e ready).rank t < n → 10 ≤ t.0 → t.0 < length e.types → HasSlots t
@@ -302,6 +404,16 @@ module _ (e : Env) (modules : List Module) (objects : List ObjectType) where
 
       pub all_slots : (t : TypeId) → 10 ≤ t.0 → t.0 < length e.types → HasSlots t
       all_slots t high there = slots_by_rank (suc ((above e ready).rank t)) t (omega arith) high there
+
+      starts_by_rank : (n : ℕ) (t : TypeId) → (above e ready).rank t < n → 10 ≤ t.0 → t.0 < length e.types → HasStart t
+      starts_by_rank zero t less high there = absurd (omega (arith, less))
+      starts_by_rank (suc n) t less high there =
+          has_start t high there (own t high there) (λ b is. all_slots b (bases_high t b is) (bases_there e.types ready t b is))
+          (λ b is. let falls = base_falls e.types e.types (λ k l. refl) (above e ready) (bases_there e.types ready) t b is in
+          starts_by_rank n b (omega (arith, falls, less)) (bases_high t b is) (bases_there e.types ready t b is))
+
+      pub all_starts : (t : TypeId) → 10 ≤ t.0 → t.0 < length e.types → HasStart t
+      all_starts t high there = starts_by_rank (suc ((above e ready).rank t)) t (omega arith) high there
 
       pub all_are_slots : (t : TypeId) → 10 ≤ t.0 → t.0 < length e.types → AreSlots program (on_base (methods_of program) (base_type program (object_number t))) (own_methods program (object_number t))
       all_are_slots t high there =

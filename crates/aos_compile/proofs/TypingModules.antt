@@ -1,5 +1,5 @@
 -- One module more: where those before it are well typed and it breaks no rule, all are well typed.
-use Rattle.std.proofs.Common.{◌≡◌, ℕ, zero, suc, ◌+◌, ◌<◌, ◌≤◌, ◌==◌, ◌⊎◌, inl, inr, List, [], ◌∷◌, ◌++◌, length, map, Bool, true, false, All, Option, Some, None, option_map, option_and_then, slice_get, refl, sym, ap, ◌∙◌, subst, arith, eqb-true, eq-eqb, length-append, if◌then◌else◌}
+use Rattle.std.proofs.Common.{◌≡◌, ℕ, zero, suc, ◌+◌, ◌^◌, ◌<◌, ◌≤◌, ◌==◌, ◌⊎◌, inl, inr, List, [], ◌∷◌, ◌++◌, length, map, Bool, true, false, All, Option, Some, None, option_map, option_and_then, slice_get, refl, sym, ap, ◌∙◌, subst, arith, eqb-true, eq-eqb, length-append, if◌then◌else◌}
 use Rattle.std.specs.Option.{option_or}
 use Rattle.std.specs.List.{flat_map}
 use Rattle.std.proofs.lemmas.List.{length-map}
@@ -43,21 +43,20 @@ use Rattle.aos_check_expr.proofs.Whole.{IsWhole}
 use Rattle.aos_check_decl.specs.Methods.{defined_type, method_breaches, type_breaches, definition_breaches}
 use Rattle.aos_check_decl.specs.Pass.{declare}
 use Rattle.aos_check_decl.proofs.Typing.{IsDeclared, declare_sound}
-use Rattle.aos_check_decl.proofs.TypingLists.{get_behind}
 use Rattle.aos_check_stat.specs.Bodies.{listed, body_of}
 use Rattle.aos_check_stat.proofs.Typing.{body_sound}
-use Rattle.aos_compile.specs.Modules.{World, program_of, local_type, unnamed_type, other_types, bodies_from, defined_object, beside_in, object_in, methods_of, first_scope, Beside, object_of as object_beside, objects_from, Bodies, bodies, module_of, extended, elaborated}
+use Rattle.aos_compile.specs.Modules.{World, program_of, local_type, unnamed_type, other_types, bodies_from, defined_object, beside_in, object_in, methods_of, first_scope, Beside, objects_from, Bodies, bodies, module_of, extended, elaborated}
 use Rattle.aos_compile.proofs.MethodNames.{AreOnceIn, types_once}
 use Rattle.aos_compile.proofs.MethodsGrow.{objects_high, bases_high}
-use Rattle.aos_compile.proofs.MethodsStay.{meant_stays, has_own_on}
+use Rattle.aos_compile.proofs.MethodsStay.{meant_stays, start_stays, has_own_on}
 use Rattle.aos_compile.proofs.Numbered.{numbered_count}
 use Rattle.aos_compile.proofs.ObjectScopes.{IsObject, is_object_or, scope_at, methods_before}
 use Rattle.aos_compile.proofs.OwnMethods.{object, IsFound}
 use Rattle.aos_compile.proofs.Slots.{Word}
 use Rattle.aos_compile.proofs.TypingBodies.{base, around_module, procedures_sound}
 use Rattle.aos_compile.proofs.TypingHomes.{AreHomes, home_at, same_length, one_more, objects_among, homes_on}
-use Rattle.aos_compile.proofs.TypingMethods.{Meant, meant, IsMeant, HasOwn, all_slots, method_there}
-use Rattle.aos_compile.proofs.TypingObjects.{IsBeside, IsSaidBeside, behind, beside_new, beside_grows, methods_typed}
+use Rattle.aos_compile.proofs.TypingMethods.{Meant, meant, start, IsMeant, HasOwn, HasStart, all_slots, all_starts, method_there}
+use Rattle.aos_compile.proofs.TypingObjects.{IsShaped, IsBeside, IsSaidBeside, behind, shapes_new, shape_grows, beside_new, beside_grows, methods_typed}
 use Rattle.aos_compile.proofs.TypingOutlook.{outlook, among_one, home_old, object_on, home_same_on, signed_on}
 use Rattle.aos_compile.proofs.TypingOwn.{flat_none, beside_at, defined_at, new_objects, found_at, is_found}
 use Rattle.aos_compile.proofs.TypingPrograms.{HaveTypes, Grows, grown, body_grows}
@@ -65,8 +64,8 @@ use Rattle.aos_compile.proofs.TypingProcedures.{HaveHeadings, IsSignature, AreBo
 use Rattle.aos_compile.proofs.TypingSaid.{plain_methods, said}
 use Rattle.aos_compile.proofs.TypingScopes.{locals_are, fields_are, procedure_at}
 use Rattle.aos_compile.proofs.TypingSlots.{all_own}
-use Rattle.aos_compile.proofs.TypingWhole.{IsPlaced, whole}
-use Rattle.aos_compile.proofs.TypingWorld.{IsWorld, ready, home}
+use Rattle.aos_compile.proofs.TypingWhole.{IsPlaced, IsBegun, whole}
+use Rattle.aos_compile.proofs.TypingWorld.{AreTyped, IsWorld, ready, home}
 
 not_both : true ≡ false → ⊥
 not_both e = cc
@@ -363,41 +362,33 @@ module _ (w : World) (sound : IsWorld w) (text : List ℕ) (m : Tree) (once : Ea
       let one = called t v x object (sym (meant_stays e f is.table is.table (λ k less. refl) (λ u less. refl) (λ u o less at. refl) t there v) ∙ found) in
       (one.0, one.1, record { signature = one.2.signature; is = one.2.is; typed = one.2.typed })
 
-  -- Bodies of objects.
+  -- Initializers.
 
-  object_there_at : (j : ℕ) (x : Beside) → slice_get b.objects j ≡ Some x → slice_get world.objects (length w.objects + j) ≡ Some (object_beside e (length w.objects + j) x)
-  object_there_at j x at =
-      get_behind w.objects (objects_from e (length w.objects) b.objects) j ∙ from j (length w.objects) b.objects x at
-    where
-      from : (j n : ℕ) (ys : List Beside) (x : Beside) → slice_get ys j ≡ Some x → slice_get (objects_from e n ys) j ≡ Some (object_beside e (n + j) x)
-      from j n [] x at = absurd (none-some x at)
-      from zero n (y ∷ ys) x at =
-          ap (λ (z : Beside). Some (object_beside e n z)) (same_Some y x at) ∙ ap (λ k. Some (object_beside e k x)) (let same : n ≡ n + 0 = omega arith in same)
-      from (suc j) n (y ∷ ys) x at =
-          from j (suc n) ys x at ∙ ap (λ k. Some (object_beside e k x)) (let same : suc n + j ≡ n + suc j = omega arith in same)
+  begun : (t : TypeId) → is_object (row_of e.types t) ≡ true → HasStart e world.modules world.objects t
+  begun t object =
+      all_starts e world.modules world.objects is.table count has_own (bases_high e.types is.table) t (objects_high e.types is.table t object) (object_there e.types t object)
 
-  bodied : (t : TypeId) (o : ObjectScope) → env.object e t ≡ Some o → option_map (λ (z : ObjectType). z.has_body) (slice_get world.objects (object_number t)) ≡ Some o.has_body
-  bodied t o at = by (by_home t o at)
-    where
-      by : (object_of e.here t ≡ Some o) ⊎ (object_among w.before t ≡ Some o) → option_map (λ (z : ObjectType). z.has_body) (slice_get world.objects (object_number t)) ≡ Some o.has_body
-      by (inl here) =
-          let one = defined_at w.types (length w.before) w.before text is.numbers m e is.number_is is.text_is is.objects_are numbered t o here in
-          let j = one.0 in
-          let before = sound.count in
-          let number = one.4 in
-          let place : object_number t ≡ length w.objects + j = omega (arith, before, number) in
-          let x = (beside_in e first one.1 (defined_object e one.1)).answer in
-          ap (λ k. option_map (λ (z : ObjectType). z.has_body) (slice_get world.objects k)) place
-          ∙ ap (option_map (λ (z : ObjectType). z.has_body)) (object_there_at j x (beside_there j one.1 one.2))
-          ∙ ap (λ z. Some (beside_in e first one.1 z).answer.has_body) (defined_is j one.1 one.2 one.3)
-          ∙ ap (λ (z : ObjectScope). Some z.has_body) (sym one.5)
-      by (inr before) = known (slice_get w.objects (object_number t)) refl (sound.bodied t o before)
-        where
-          known : (z : Option ObjectType) → slice_get w.objects (object_number t) ≡ z → option_map (λ (z : ObjectType). z.has_body) z ≡ Some o.has_body →
-              option_map (λ (z : ObjectType). z.has_body) (slice_get world.objects (object_number t)) ≡ Some o.has_body
-          known None at has = absurd (none-some o.has_body has)
-          known (Some z) at has =
-              ap (option_map (λ (z : ObjectType). z.has_body)) (get_front w.objects (objects_from e (length w.objects) b.objects) (object_number t) z at) ∙ has
+  begun_at : (own : Option TypedProcedure) (path : List Open) (self : Option TypeId) (t : TypeId) → is_object (row_of e.types t) ≡ true →
+      IsBegun (record { program = program_of world; own = own; basic = is.table.basic }) (record e { path = path; self_type = self }) t
+  begun_at own path self t object =
+      let f : Env = record e { path = path; self_type = self } in
+      let same : start f t ≡ start e t = start_stays e f is.table is.table (λ k less. refl) (λ u less. refl) (λ u o less at. refl) t (object_there e.types t object) in
+      let one = begun t object in
+      record {
+        is = one.is ∙ ap (option_map (λ (x : Meant). x.slot)) (sym same);
+        there = λ x found.
+            let two = one.there x (sym same ∙ found) in
+            (two.0, two.1, two.2, record { signature = two.3.signature; is = two.3.is; typed = two.3.typed });
+      }
+
+  -- The bodies beside all types.
+
+  shapes : (k : ℕ) (o : ObjectType) → slice_get world.objects k ≡ Some o → IsShaped e.types k o
+  shapes =
+      behind w.objects (objects_from e (length w.objects) b.objects) (IsShaped e.types)
+      (λ k o there. let below = slice_get_within w.objects k o there in
+      shape_grows w.types e.types is.stays k o (let before = sound.count in omega (arith, below, before)) (sound.shapes k o there))
+      (λ j o there. shapes_new e b.objects (length w.objects) j o there)
 
   known : (t : TypeId) (o : ObjectScope) → env.object e t ≡ Some o → (h : Home) × (env.home e o.home ≡ Some h) × (object_of h t ≡ Some o)
   known t o at = by (by_home t o at)
@@ -419,10 +410,10 @@ module _ (w : World) (sound : IsWorld w) (text : List ℕ) (m : Tree) (once : Ea
   abbrev inside : Option TypedProcedure → Inside
   inside own = record { program = program_of world; own = own; basic = is.table.basic }
 
-  everywhere : (own : Option TypedProcedure) (path : List Open) (self : Option TypeId) → IsPlaced (inside own) (record e { path = path; self_type = self }) →
+  everywhere : length e.types < 2 ^ 32 → (own : Option TypedProcedure) (path : List Open) (self : Option TypeId) → IsPlaced (inside own) (record e { path = path; self_type = self }) →
       IsWhole (inside own) (record e { path = path; self_type = self })
-  everywhere own path self placed =
-      whole (inside own) (record e { path = path; self_type = self }) world.before homes_more at_home is.table is.fields fields_before is.narrowed_is refl count known bodied (called_at path self) placed
+  everywhere few own path self placed =
+      whole (inside own) (record e { path = path; self_type = self }) world.before homes_more at_home is.table is.fields fields_before is.narrowed_is refl count known shapes few (called_at path self) (begun_at own path self) placed
 
   own_path : e.path ≡ env.own e.number ∷ []
   own_path = is.path_is ∙ ap (λ n. env.own n ∷ []) (sym is.number_is)
@@ -458,97 +449,106 @@ module _ (w : World) (sound : IsWorld w) (text : List ℕ) (m : Tree) (once : Ea
     behind_objects : procedure_breaches ++ (own_breaches ++ []) ≡ []
     behind_objects = none_right object_breaches (procedure_breaches ++ (own_breaches ++ [])) none
 
-    said_beside : (j : ℕ) (x : Beside) → slice_get b.objects j ≡ Some x → IsSaidBeside (program_of world) (length w.objects + j) x
-    said_beside =
-        behind own_besides (other_types e m) (λ j x. IsSaidBeside (program_of world) (length w.objects + j) x)
-        (λ j x at. let one = of_definition j x at in
-        subst (IsSaidBeside (program_of world) (length w.objects + j)) (sym one.2)
-        (said (program_of world) e m is.table.basic refl everywhere own_path is.self_is is.first_is is.procedures locals_below object_typed (length w.objects)
-        (λ i d there kind. defined i d there kind ∙ ap (λ t. Some t) (number_on i))
-        (λ i d there kind. ap (env.object e) (sym (number_on i)) ∙ found_there i d there kind) j one.0 one.1
-        (walk_none e first (type_defs m.decls) [] j one.0 (none_left object_breaches (procedure_breaches ++ (own_breaches ++ [])) none) one.1)))
-        (λ j x at. (each_at IsBare (other_types e m) j x (others_bare e m) at).1 (program_of world) (length w.objects + (length own_besides + j)))
+    -- Where all types have numbers of 32 bits.
 
-    abbrev ProcedureBodies : List Stats → Type 0
-    ProcedureBodies bs = AreProcedureBodies (program_of world) is.table.basic e.here.text None e.here.scopes first (procedures m.decls) e.here.signatures bs
+    module _ (few : length e.types < 2 ^ 32) where
+      was : AreTyped w
+      was = let all = long in sound.typed (omega (arith, few, all))
 
-    no_self : (t : TypeId) → e.self_type ≡ Some t → None ≡ Some (object_number t)
-    no_self t self = absurd (none-some t (sym is.self_is ∙ self))
+      said_beside : (j : ℕ) (x : Beside) → slice_get b.objects j ≡ Some x → IsSaidBeside (program_of world) (length w.objects + j) x
+      said_beside =
+          behind own_besides (other_types e m) (λ j x. IsSaidBeside (program_of world) (length w.objects + j) x)
+          (λ j x at. let one = of_definition j x at in
+          subst (IsSaidBeside (program_of world) (length w.objects + j)) (sym one.2)
+          (said (program_of world) e m is.table.basic refl (everywhere few) own_path is.self_is is.first_is is.procedures locals_below object_typed (length w.objects)
+          (λ i d there kind. defined i d there kind ∙ ap (λ t. Some t) (number_on i))
+          (λ i d there kind. ap (env.object e) (sym (number_on i)) ∙ found_there i d there kind) j one.0 one.1
+          (walk_none e first (type_defs m.decls) [] j one.0 (none_left object_breaches (procedure_breaches ++ (own_breaches ++ [])) none) one.1)))
+          (λ j x at. (each_at IsBare (other_types e m) j x (others_bare e m) at).1 (program_of world) (length w.objects + (length own_besides + j)))
 
-    procedures_here : ProcedureBodies b.procedures
-    procedures_here =
-        let more =
-        procedures_sound (program_of world) e m is.table.basic everywhere own_path is.self_is is.first_is is.procedures locals_below object_typed e.path e.self_type
-        (around_module (program_of world) e m is.table.basic everywhere own_path is.self_is is.first_is is.procedures locals_below object_typed) None no_self
-        0 (procedures m.decls) e.here.signatures first [] (let same : first ≡ first + 0 = omega arith in same)
-        (λ i q at. ap (slice_get (all_procedures m.decls)) (let same : 0 + i ≡ i = omega arith in same) ∙ get_front (procedures m.decls) (flat_map methods_in (type_defs m.decls)) i q at)
-        (λ i. ap (slice_get e.here.signatures) (let same : i ≡ 0 + i = omega arith in same)) (none_left procedure_breaches (own_breaches ++ []) behind_objects) in
-        subst ProcedureBodies (sym more.1) more.2
+      abbrev ProcedureBodies : List Stats → Type 0
+      ProcedureBodies bs = AreProcedureBodies (program_of world) is.table.basic e.here.text None e.here.scopes first (procedures m.decls) e.here.signatures bs
 
-    own_body_here : AreStatements (program_of world) None (listed b.own)
-    own_body_here =
-        body_sound (inside None) e (base (program_of world) e m is.table.basic everywhere own_path is.self_is is.first_is is.procedures locals_below object_typed) false m.body
-        (none_left own_breaches [] (none_right procedure_breaches (own_breaches ++ []) behind_objects))
+      no_self : (t : TypeId) → e.self_type ≡ Some t → None ≡ Some (object_number t)
+      no_self t self = absurd (none-some t (sym is.self_is ∙ self))
 
-    -- All modules.
+      procedures_here : ProcedureBodies b.procedures
+      procedures_here =
+          let more =
+          procedures_sound (program_of world) e m is.table.basic (everywhere few) own_path is.self_is is.first_is is.procedures locals_below object_typed e.path e.self_type
+          (around_module (program_of world) e m is.table.basic (everywhere few) own_path is.self_is is.first_is is.procedures locals_below object_typed) None no_self
+          0 (procedures m.decls) e.here.signatures first [] (let same : first ≡ first + 0 = omega arith in same)
+          (λ i q at. ap (slice_get (all_procedures m.decls)) (let same : 0 + i ≡ i = omega arith in same) ∙ get_front (procedures m.decls) (flat_map methods_in (type_defs m.decls)) i q at)
+          (λ i. ap (slice_get e.here.signatures) (let same : i ≡ 0 + i = omega arith in same)) (none_left procedure_breaches (own_breaches ++ []) behind_objects) in
+          subst ProcedureBodies (sym more.1) more.2
 
-    abbrev IsPlain : TypedProcedure → Type 0
-    IsPlain q = IsProcedure (program_of w) q × (q.of ≡ None)
+      own_body_here : AreStatements (program_of world) None (listed b.own)
+      own_body_here =
+          body_sound (inside None) e (base (program_of world) e m is.table.basic (everywhere few) own_path is.self_is is.first_is is.procedures locals_below object_typed) false m.body
+          (none_left own_breaches [] (none_right procedure_breaches (own_breaches ++ []) behind_objects))
 
-    abbrev IsPlainOn : TypedProcedure → Type 0
-    IsPlainOn q = IsProcedure (program_of world) q × (q.of ≡ None)
+      -- All modules.
 
-    parameters_there : (n k : ℕ) (x : TypedProcedure) → procedure_in (program_of w) n k ≡ Some x → HaveTypes (program_of w) x.parameters
-    parameters_there n k x there = by (slice_get w.modules n) refl there
-      where
-        by : (o : Option Module) → slice_get w.modules n ≡ o → option_and_then (λ (y : Module). slice_get y.procedures k) o ≡ Some x → HaveTypes (program_of w) x.parameters
-        by None at there = absurd (none-some x there)
-        by (Some y) at there =
-            (all_at IsPlain y.procedures k x (each_at (λ (y : Module). All IsPlain y.procedures) w.modules n y sound.procedures at) there).0.parameters
+      abbrev IsPlain : TypedProcedure → Type 0
+      IsPlain q = IsProcedure (program_of w) q × (q.of ≡ None)
 
-    grows : Grows (program_of w) (program_of world)
-    grows =
-        grown w.modules (module_of e m b ∷ []) w.types e.types w.objects (objects_from e (length w.objects) b.objects) is.stays sound.table is.table sound.count count parameters_there
-        (λ k o there. methods_typed (program_of w) k o (sound.objects k o there))
+      abbrev IsPlainOn : TypedProcedure → Type 0
+      IsPlainOn q = IsProcedure (program_of world) q × (q.of ≡ None)
 
-    longer : length world.modules ≡ length w.modules + 1
-    longer = length-append w.modules (module_of e m b ∷ [])
+      parameters_there : (n k : ℕ) (x : TypedProcedure) → procedure_in (program_of w) n k ≡ Some x → HaveTypes (program_of w) x.parameters
+      parameters_there n k x there = by (slice_get w.modules n) refl there
+        where
+          by : (o : Option Module) → slice_get w.modules n ≡ o → option_and_then (λ (y : Module). slice_get y.procedures k) o ≡ Some x → HaveTypes (program_of w) x.parameters
+          by None at there = absurd (none-some x there)
+          by (Some y) at there =
+              (all_at IsPlain y.procedures k x (each_at (λ (y : Module). All IsPlain y.procedures) w.modules n y was.procedures at) there).0.parameters
 
-    abbrev AreSound : Module → Type 0
-    AreSound x = AreStatements (program_of world) None x.body
+      grows : Grows (program_of w) (program_of world)
+      grows =
+          grown w.modules (module_of e m b ∷ []) w.types e.types w.objects (objects_from e (length w.objects) b.objects) is.stays sound.table is.table sound.count count parameters_there
+          (λ k o there. methods_typed (program_of w) k o (was.objects k o there)) (λ k o there. (was.objects k o there).typed.parameters)
 
-    all_bodies : Each AreSound world.modules
-    all_bodies =
-        joined AreSound w.modules (module_of e m b ∷ [])
-        (implied (λ x. AreStatements (program_of w) None x.body) AreSound (λ x is. body_grows (program_of w) (program_of world) grows x.body is) w.modules sound.bodies)
-        (own_body_here, tt)
+      longer : length world.modules ≡ length w.modules + 1
+      longer = length-append w.modules (module_of e m b ∷ [])
 
-    here : e.number < length world.modules
-    here = omega (arith, longer, is.number_is, same_length w.types 0 w.before w.modules sound.homes)
+      abbrev AreSound : Module → Type 0
+      AreSound x = AreStatements (program_of world) None x.body
 
-    all_objects : (k : ℕ) (o : ObjectType) → slice_get world.objects k ≡ Some o → IsBeside (program_of world) k o
-    all_objects =
-        behind w.objects (objects_from e (length w.objects) b.objects) (IsBeside (program_of world))
-        (λ k o there. beside_grows (program_of w) (program_of world) grows sound.count (omega (arith, longer)) k o there (sound.objects k o there))
-        (beside_new (program_of world) e here b.objects (length w.objects) said_beside)
+      all_bodies : Each AreSound world.modules
+      all_bodies =
+          joined AreSound w.modules (module_of e m b ∷ [])
+          (implied (λ x. AreStatements (program_of w) None x.body) AreSound (λ x is. body_grows (program_of w) (program_of world) grows x.body is) w.modules was.bodies)
+          (own_body_here, tt)
 
-    headings : HaveHeadings (program_of world) is.table.basic e.here.text e.here.scopes first (procedures m.decls) e.here.signatures
-    headings j q at =
-        let one = is.procedures j q (get_front (procedures m.decls) (flat_map methods_in (type_defs m.decls)) j q at) in
-        record { signature = one.signature; scope = one.scope; signature_is = one.signature_is; scope_is = one.scope_is; heading = one.heading }
+      here : e.number < length world.modules
+      here = omega (arith, longer, is.number_is, same_length w.types 0 w.before w.modules sound.homes)
 
-    abbrev AreProcedures : Module → Type 0
-    AreProcedures x = All IsPlainOn x.procedures
+      all_objects : (k : ℕ) (o : ObjectType) → slice_get world.objects k ≡ Some o → IsBeside (program_of world) k o
+      all_objects =
+          behind w.objects (objects_from e (length w.objects) b.objects) (IsBeside (program_of world))
+          (λ k o there. beside_grows (program_of w) (program_of world) grows sound.count (omega (arith, longer)) k o there (was.objects k o there))
+          (beside_new (program_of world) e is.table refl here b.objects (length w.objects) said_beside)
 
-    all_procedures_there : Each AreProcedures world.modules
-    all_procedures_there =
-        joined AreProcedures w.modules (module_of e m b ∷ [])
-        (implied (λ x. All IsPlain x.procedures) AreProcedures
-        (λ x. All-weaker IsPlain IsPlainOn (λ q is. (procedure_grows (program_of w) (program_of world) grows q is.0, is.1)) x.procedures) w.modules sound.procedures) (
-          all_of IsPlainOn (module_of e m b).procedures
-              (procedures_typed (program_of world) is.table.basic e.here.text e.here.scopes first (procedures m.decls) e.here.signatures b.procedures headings procedures_here),
-          tt,
-        )
+      headings : HaveHeadings (program_of world) is.table.basic e.here.text e.here.scopes first (procedures m.decls) e.here.signatures
+      headings j q at =
+          let one = is.procedures j q (get_front (procedures m.decls) (flat_map methods_in (type_defs m.decls)) j q at) in
+          record { signature = one.signature; scope = one.scope; signature_is = one.signature_is; scope_is = one.scope_is; heading = one.heading }
+
+      abbrev AreProcedures : Module → Type 0
+      AreProcedures x = All IsPlainOn x.procedures
+
+      all_procedures_there : Each AreProcedures world.modules
+      all_procedures_there =
+          joined AreProcedures w.modules (module_of e m b ∷ [])
+          (implied (λ x. All IsPlain x.procedures) AreProcedures
+          (λ x. All-weaker IsPlain IsPlainOn (λ q is. (procedure_grows (program_of w) (program_of world) grows q is.0, is.1)) x.procedures) w.modules was.procedures) (
+            all_of IsPlainOn (module_of e m b).procedures
+                (procedures_typed (program_of world) is.table.basic e.here.text e.here.scopes first (procedures m.decls) e.here.signatures b.procedures headings procedures_here),
+            tt,
+          )
+
+      all_typed : AreTyped world
+      all_typed = record { bodies = all_bodies; objects = all_objects; procedures = all_procedures_there }
 
     -- What names stand for behind it.
 
@@ -572,12 +572,10 @@ module _ (w : World) (sound : IsWorld w) (text : List ℕ) (m : Tree) (once : Ea
     world_sound = record {
       homes = homes_more;
       count = count;
-      bodies = all_bodies;
-      objects = all_objects;
+      shapes = shapes;
       own = own_next;
-      bodied = λ t o found. bodied t o (sym (object_on w.before w.types e is.number_is is.before_is old new t) ∙ found);
       table = is.table;
-      procedures = all_procedures_there;
+      typed = all_typed;
     }
 
 module _ (w : World) (sound : IsWorld w) (text : List ℕ) (m : Tree) where

@@ -23,7 +23,7 @@ use Rattle.aos_symbols.specs.Env.{basic_rows}
 use Rattle.aos_symbols.proofs.Each.{Each, all_of}
 use Rattle.aos_symbols.proofs.Told.{IsKnown}
 use Rattle.aos_check_expr.specs.Known.{type_as, type_of}
-use Rattle.aos_check_expr.proofs.Whole.{AreParameters, IsResultOf, IsSigned, parameter_type}
+use Rattle.aos_check_expr.proofs.Whole.{AreFormalsOf, AreParameters, IsResultOf, IsSigned, parameter_type}
 use Rattle.aos_check_decl.proofs.Typing.{IsThere, IsResult as IsScalarType, IsHeading}
 use Rattle.aos_compile.specs.Modules.{variables_of, variable_of, parameter_of, result_of, procedure_of, procedures_of}
 use Rattle.aos_compile.proofs.TypingPrograms.{Grows, statements_grow}
@@ -123,9 +123,14 @@ module _ (p : Program) (begins : RowsStay basic_rows p.types) (text : List ℕ) 
         procedures_typed scopes (suc k) qs ss bs (others scopes k q qs s ss headings) typed.1,
       )
 
+  -- an initializer is no function
+  proper : (q : Procedure) (s : Signature) (scope : Scope) (variables : List (Option TypeId)) (b : Stats) → IsHeading p.types q s scope →
+      (procedure_of text q s variables b).is_initializer ≡ true → (procedure_of text q s variables b).result ≡ None
+  proper q s scope variables b heading is = ap result_of (heading.proper (heading.mark ∙ is))
+
   -- the methods of a type
   pub methods_typed : (of : Option ℕ) (scopes : List Scope) (k : ℕ) (qs : List Procedure) (ss : List Signature) (bs : List Stats) → HaveHeadings scopes k qs ss →
-      AreBodies of scopes k qs ss bs → Each (λ x. IsProcedure p (record x { of = of })) (procedures_of text scopes k qs ss bs)
+      AreBodies of scopes k qs ss bs → Each (λ x. IsProcedure p (record x { of = of }) × (x.is_initializer ≡ true → x.result ≡ None)) (procedures_of text scopes k qs ss bs)
   methods_typed of scopes k [] ss bs headings typed = tt
   methods_typed of scopes k (q ∷ qs) [] bs headings typed = tt
   methods_typed of scopes k (q ∷ qs) (s ∷ ss) [] headings typed = tt
@@ -134,8 +139,11 @@ module _ (p : Program) (begins : RowsStay basic_rows p.types) (text : List ℕ) 
       let here : slice_get scopes k ≡ Some one.scope = ap (slice_get scopes) (no_more k) ∙ one.scope_is in
       let heading : IsHeading p.types q s one.scope =
       subst (λ (z : Signature). IsHeading p.types q z one.scope) (sym (same_Some s one.signature one.signature_is)) one.heading in (
-        subst (λ (o : Option Scope). IsProcedure p (record (procedure_of text q s (variables_of o) b) { of = of })) (sym here)
-            (procedure of q s one.scope b heading (subst (λ (o : Option Scope). AreStatements p (Some (record (procedure_of text q s (variables_of o) b) { of = of })) b) here typed.0)),
+        (
+          subst (λ (o : Option Scope). IsProcedure p (record (procedure_of text q s (variables_of o) b) { of = of })) (sym here)
+              (procedure of q s one.scope b heading (subst (λ (o : Option Scope). AreStatements p (Some (record (procedure_of text q s (variables_of o) b) { of = of })) b) here typed.0)),
+          proper q s one.scope (variables_of (slice_get scopes k)) b heading,
+        ),
         methods_typed of scopes (suc k) qs ss bs (others scopes k q qs s ss headings) typed.1,
       )
 
@@ -143,13 +151,12 @@ module _ (p : Program) (begins : RowsStay basic_rows p.types) (text : List ℕ) 
 
 -- a parameter of the typed program for each of a signature, whose type is there
 abbrev pub AreFormals : List TypeRow → List Formal → List Parameter → Type 0
-AreFormals types [] as' = as' ≡ []
-AreFormals types (x ∷ xs) as' =
-    (a : Parameter) × (rest : List Parameter) × (t : TypeId) × (as' ≡ a ∷ rest) × (x.of ≡ Some t) × (a.of ≡ type_as t)
-    × (a.by_reference ≡ x.by_reference) × IsThere types (Some t) × AreFormals types xs rest
+AreFormals types xs as' = AreFormalsOf (λ t. IsThere types (Some t)) xs as'
 
--- a function's type is no open array
+-- a function's type is no open array, and an initializer is no function
 pub record IsSignature (types : List TypeRow) (s : Signature) (q : TypedProcedure) : Type 0 where
+  pub mark : q.is_initializer ≡ s.is_initializer
+  pub proper : s.is_initializer ≡ true → s.gives ≡ gives.Nothing
   pub parameters : AreFormals types s.parameters q.parameters
   pub result : IsResultOf s.gives q.result
   pub closed : (t : TypeId) → s.gives ≡ gives.Value (Some t) → (t.0 < length types) × (is_open (row_of types t) ≡ false)
@@ -173,6 +180,8 @@ result_is types (gives.Value of) h = let one = h of refl in (one.type, one.is, a
 pub heading_signature : (types : List TypeRow) (text : List ℕ) (q : Procedure) (s : Signature) (scope : Scope) (variables : List (Option TypeId)) (b : Stats) → IsHeading types q s scope →
     IsSignature types s (procedure_of text q s variables b)
 heading_signature types text q s scope variables b heading = record {
+  mark = sym heading.mark;
+  proper = heading.proper;
   parameters = formals_are types text (formal_names q.formals) s.parameters heading.few heading.parameters;
   result = result_is types s.gives heading.result;
   closed = λ t value.
@@ -193,7 +202,7 @@ heading_signature types text q s scope variables b heading = record {
     scalar_row t r there is = absurd (not_both (sym is))
 
 pub signature_with : (of : Option ℕ) (types : List TypeRow) (s : Signature) (q : TypedProcedure) → IsSignature types s q → IsSignature types s (record q { of = of })
-signature_with of types s q is = record { parameters = is.parameters; result = is.result; closed = is.closed }
+signature_with of types s q is = record { mark = is.mark; proper = is.proper; parameters = is.parameters; result = is.result; closed = is.closed }
 
 -- the parameter with a number
 pub formal_at : (types : List TypeRow) (xs : List Formal) (as' : List Parameter) → AreFormals types xs as' → (k : ℕ) (x : Formal) → slice_get xs k ≡ Some x →
@@ -232,6 +241,8 @@ signed e s q is = record { parameters = parameters s.parameters q.parameters is.
 -- and where the table goes on
 pub signature_on : (ts us : List TypeRow) → RowsStay ts us → (s : Signature) (q : TypedProcedure) → IsSignature ts s q → IsSignature us s q
 signature_on ts us stay s q is = record {
+  mark = is.mark;
+  proper = is.proper;
   parameters = formals_on s.parameters q.parameters is.parameters;
   result = is.result;
   closed = λ t value. let one = is.closed t value in (there_stays ts us stay t.0 one.0, closed_stays ts us stay t.0 one.0 one.1);

@@ -1,5 +1,5 @@
 -- A program with more modules and more objects: what is well typed stays so.
-use Rattle.std.proofs.Common.{◌≡◌, ◌+◌, ℕ, zero, suc, ◌<◌, ◌≤◌, ◌⊎◌, inl, inr, List, [], ◌∷◌, ◌++◌, length, true, All, Option, Some, None, option_map, option_and_then, slice_get, refl, sym, ap, ◌∙◌, subst, length-append, arith}
+use Rattle.std.proofs.Common.{◌≡◌, ◌+◌, ℕ, zero, suc, ◌<◌, ◌≤◌, ◌⊎◌, inl, inr, List, [], ◌∷◌, ◌++◌, length, true, false, All, Option, Some, None, option_map, option_and_then, slice_get, refl, sym, ap, ◌∙◌, subst, length-append, arith}
 use Rattle.std.proofs.lemmas.List.Elements.{All-head, All-tail}
 use Rattle.std.proofs.lemmas.Option.{none-some, same_Some, slice_get_within}
 use Rattle.aos_base.specs.declared.operator.Binary.{Binary as BinaryOperator}
@@ -15,16 +15,18 @@ use Rattle.aos_typed.specs.declared.tree.TType.TheVariants.{Integer, Named, Any,
 use Rattle.aos_typed.specs.Numbers.{id_of}
 use Rattle.aos_typed.specs.Meaning.{changed_type}
 use Rattle.aos_typed.specs.Routines.{result_of}
-use Rattle.aos_typed.specs.Program.{Place, ModuleVar, Local, Passed, Field, Index, Of, Deref, Typed, Guarded, Rows, Known, Opened, Row, Spread, Longer, Arguments, NoMore, Scalar, Whole, Opening, Callee, Plain, Dispatched, Upper, Expr, Lit, SelfRef, Read, Unary, Binary, And, Or, Element, Ord, Chr, CompareTexts, Len, LenBehind, Function, Same, Is, IsRecord, Guard, Had, Call, Open, Char, Int, String, Ln, Stat, Assign, Copy, PutText, If, Case, While, Repeat, Loop, Exit, For, Block, Assert, Halt, Change, Perform, Return, New, Make, With, WithRecord, Out, Stats, Nothing, Then, Arms, Otherwise, Arm, Cases, NoElse, Else, OfLabels, Parameter, Procedure, Module, ObjectType, Program}
+use Rattle.aos_typed.specs.Program.{Place, ModuleVar, Local, Passed, Field, Index, Of, Deref, Typed, Guarded, Rows, Known, Opened, Row, Spread, Longer, Arguments, NoMore, Scalar, Whole, Opening, Callee, Plain, Dispatched, Upper, Through, Expr, Lit, SelfRef, Read, Unary, Binary, And, Or, Element, Ord, Chr, CompareTexts, Len, LenBehind, Function, Same, Is, IsRecord, Guard, ProcedureOf, MethodOf, SameProcedure, Had, Call, Open, Char, Int, String, Ln, Stat, Assign, Copy, PutText, If, Case, While, Repeat, Loop, Exit, For, Block, Assert, Halt, Change, Perform, Return, New, Make, With, WithRecord, Out, Stats, Nothing, Then, Arms, Otherwise, Arm, Cases, NoElse, Else, OfLabels, Parameter, Procedure, Module, ObjectType, Program}
 use Rattle.aos_typed.specs.Open.{open_dimensions, open_element}
-use Rattle.aos_typed.specs.Methods.{method_in}
-use Rattle.aos_typed.specs.WellTyped.{variable_type, procedure_in, field_type, target, is_reference, is_value, is_whole, Fits, amount_type, Takes, IsArrayOf, IsConstantText, IsOpening, IsByReference, IsByValue, IsParameter, NamesType, IsGiven, IsPlaceOf, IsObjectAt, AreRows, AreArguments, IsCalled, IsOf, AreObjects, AreLengthsOf, IsCall, IsReturn, IsStatement, AreStatements, AreArms, AreCases, IsType}
+use Rattle.aos_typed.specs.Formals.{AreSame, Agree, HasFormals, pattern_in, pattern_of}
+use Rattle.aos_typed.specs.Methods.{method_in, initializer}
+use Rattle.aos_typed.specs.WellTyped.{variable_type, procedure_in, field_type, target, is_reference, is_value, is_whole, Fits, IsProcedural, amount_type, Takes, IsArrayOf, IsConstantText, IsOpening, IsByReference, IsByValue, IsParameter, NamesType, IsGiven, IsPlaceOf, IsObjectAt, AreRows, AreArguments, IsCalled, IsOf, IsNamed, AreObjects, AreLengthsOf, IsCall, IsInitialized, IsReturn, IsStatement, AreStatements, AreArms, AreCases, IsType}
 use Rattle.aos_symbols.proofs.Each.{Each}
 use Rattle.aos_symbols.proofs.Told.{get_front}
 use Rattle.aos_check_expr.proofs.Opens.{OpensFall, stand_fall, dimensions_stay, element_stays}
 use Rattle.aos_check_decl.proofs.Typing.{AreReady}
 use Rattle.aos_compile.proofs.MethodsGrow.{method_stays, each_method}
-use Rattle.aos_compile.proofs.TypingTables.{TargetsThere, targets_there, comes_stays, field_stays, target_stays, target_there, reference_stays, value_stays, fits_stays}
+use Rattle.aos_compile.proofs.Nearest.{initializer_stays}
+use Rattle.aos_compile.proofs.TypingTables.{TargetsThere, targets_there, comes_stays, field_stays, target_stays, target_there, reference_stays, procedural_stays, value_stays, object_fits}
 use Rattle.aos_compile.proofs.TypingTypes.{RowsStay, fact_stays, closed_stays}
 
 -- the types of a procedure's parameters are there
@@ -36,12 +38,18 @@ HaveTypes p as' = All (λ a. IsType p a.of) as'
 pub record Grows (p q : Program) : Type 0 where
   pub modules : (m : ℕ) (x : Module) → slice_get p.modules m ≡ Some x → slice_get q.modules m ≡ Some x
   pub rows : RowsStay p.types q.types
+  pub count : length p.types ≡ 10 + length p.objects
   pub objects : length p.objects ≤ length q.objects
   pub stand : (t : ℕ) (o : ObjectType) → slice_get p.objects t ≡ Some o → slice_get q.objects t ≡ Some o
   pub methods : (t k : ℕ) (x : Procedure) → method_in p t k ≡ Some x → (method_in q t k ≡ Some x) × HaveTypes p x.parameters
+  pub initializers : (t : ℕ) → t < length p.objects → initializer q t ≡ initializer p t
   pub parameters : (m k : ℕ) (x : Procedure) → procedure_in p m k ≡ Some x → HaveTypes p x.parameters
+  pub patterns : (k : ℕ) (o : ObjectType) → slice_get p.objects k ≡ Some o → HaveTypes p o.body.parameters
   pub old : AreReady p.types
   pub new : AreReady q.types
+
+not_both : true ≡ false → ⊥
+not_both e = cc
 
 no_type : {A : Type 0} {x : A} → None ≡ Some x → ⊥
 no_type e = cc
@@ -101,9 +109,6 @@ module _ (p q : Program) (grows : Grows p q) where
   scalar_grows : (t : TType) → is_value p.types t ≡ true → is_value q.types t ≡ true
   scalar_grows t h = value_stays p.types q.types grows.rows falls targets t h
 
-  fits_grow : (t u : TType) → Fits p.types t u → Fits q.types t u
-  fits_grow t u h = fits_stays p.types q.types grows.rows falls targets t u h
-
   guard_grows : (k : ℕ) (t : TType) → (t ≡ Any) ⊎ ((b : TypeId) × (target p.types t ≡ Some b) × (comes_to p.types (id_of (Named k)) b ≡ true)) →
       (t ≡ Any) ⊎ ((b : TypeId) × (target q.types t ≡ Some b) × (comes_to q.types (id_of (Named k)) b ≡ true))
   guard_grows k t (inl is) = inl is
@@ -118,14 +123,80 @@ module _ (p q : Program) (grows : Grows p q) where
   fewer : (k : ℕ) → k < length p.objects → k < length q.objects
   fewer k h = let more = grows.objects in omega (arith, h, more)
 
-  has_grows : (t : ℕ) → option_map (λ (o : ObjectType). o.has_body) (slice_get p.objects t) ≡ Some true →
-      option_map (λ (o : ObjectType). o.has_body) (slice_get q.objects t) ≡ Some true
-  has_grows t h = by (slice_get p.objects t) refl h
+  -- an object type is there
+  object_there : (k : ℕ) → is_object (row_of p.types (id_of (Named k))) ≡ true → k < length p.objects
+  object_there k h = by (row_of p.types (id_of (Named k))) refl h
     where
-      by : (o : Option ObjectType) → slice_get p.objects t ≡ o → option_map (λ (o : ObjectType). o.has_body) o ≡ Some true →
-          option_map (λ (o : ObjectType). o.has_body) (slice_get q.objects t) ≡ Some true
-      by None is h = absurd (no_type h)
-      by (Some o) is h = ap (option_map (λ (o : ObjectType). o.has_body)) (grows.stand t o is) ∙ h
+      by : (r : Option TypeRow) → row_of p.types (id_of (Named k)) ≡ r → is_object r ≡ true → k < length p.objects
+      by None is h = absurd (not_both (sym h))
+      by (Some r) is h = let below = slice_get_within p.types (id_of (Named k)).0 r is in let count = grows.count in omega (arith, below, count)
+
+  -- an object type's row stays one, and another one's another one
+  plain_grows : (k : ℕ) → k < length p.objects → is_object (row_of p.types (id_of (Named k))) ≡ false → is_object (row_of q.types (id_of (Named k))) ≡ false
+  plain_grows k below h = let count = grows.count in ap is_object (grows.rows (id_of (Named k)).0 (omega (arith, below, count))) ∙ h
+
+  -- Procedures that stand for those of procedure types, and what has the same formals.
+
+  pattern_grows : (t : TType) (x : Procedure) → pattern_of p t ≡ Some x → pattern_of q t ≡ Some x
+  pattern_grows (Named k) x h = by (row_of p.types (id_of (Named k))) refl h
+    where
+      beside : (o : Option ObjectType) → slice_get p.objects k ≡ o → option_map (λ (o : ObjectType). o.body) o ≡ Some x → option_map (λ (o : ObjectType). o.body) (slice_get q.objects k) ≡ Some x
+      beside None is h = absurd (no_type h)
+      beside (Some o) is h = ap (option_map (λ (o : ObjectType). o.body)) (grows.stand k o is) ∙ h
+
+      by : (r : Option TypeRow) → row_of p.types (id_of (Named k)) ≡ r → pattern_in p r k ≡ Some x → pattern_of q (Named k) ≡ Some x
+      by (Some (row.Procedure fs s)) is h =
+          ap (λ r. pattern_in q r k) (row_grows (id_of (Named k)).0 (row.Procedure fs s) is) ∙ beside (slice_get p.objects k) refl h
+      by r is h = absurd (none-some x h)
+  pattern_grows t x h = absurd (none-some x h)
+
+  pattern_there : (t : TType) (x : Procedure) → pattern_of p t ≡ Some x → HaveTypes p x.parameters
+  pattern_there (Named k) x h = by (row_of p.types (id_of (Named k))) h
+    where
+      beside : (o : Option ObjectType) → slice_get p.objects k ≡ o → option_map (λ (o : ObjectType). o.body) o ≡ Some x → HaveTypes p x.parameters
+      beside None is h = absurd (no_type h)
+      beside (Some o) is h = subst (λ (z : Procedure). HaveTypes p z.parameters) (same_Some o.body x h) (grows.patterns k o is)
+
+      by : (r : Option TypeRow) → pattern_in p r k ≡ Some x → HaveTypes p x.parameters
+      by (Some (row.Procedure fs s)) h = beside (slice_get p.objects k) refl h
+      by r h = absurd (none-some x h)
+  pattern_there t x h = absurd (none-some x h)
+
+  open_there : (t : TypeId) → is_open (row_of p.types t) ≡ true → t.0 < length p.types
+  open_there t h = by (row_of p.types t) refl h
+    where
+      by : (r : Option TypeRow) → row_of p.types t ≡ r → is_open r ≡ true → t.0 < length p.types
+      by None is h = absurd (not_both (sym h))
+      by (Some r) is h = slice_get_within p.types t.0 r is
+
+  same_grows : (t u : TType) → AreSame p.types t u → AreSame q.types t u
+  same_grows t u (inl is) = inl is
+  same_grows t u (inr h) =
+      let first = open_there (id_of t) h.0 in
+      let second = open_there (id_of u) h.1 in
+      inr (
+        fact_stays p.types q.types grows.rows is_open refl (id_of t).0 h.0,
+        fact_stays p.types q.types grows.rows is_open refl (id_of u).0 h.1,
+        dimensions_grow (id_of t) first ∙ h.2 ∙ sym (dimensions_grow (id_of u) second),
+        element_grows (id_of t) first ∙ h.3 ∙ sym (element_grows (id_of u) second),
+      )
+
+  agree_grows : (as' bs : List Parameter) → Agree p.types as' bs → Agree q.types as' bs
+  agree_grows [] [] h = tt
+  agree_grows [] (b ∷ bs) h = absurd h
+  agree_grows (a ∷ as') [] h = absurd h
+  agree_grows (a ∷ as') (b ∷ bs) h = (h.0, same_grows a.of b.of h.1, agree_grows as' bs h.2)
+
+  formals_grow : (x y : Procedure) → HasFormals p.types x y → HasFormals q.types x y
+  formals_grow x y h = (agree_grows x.parameters y.parameters h.0, h.1)
+
+  procedural_grows : (t : TType) (x : Procedure) → IsProcedural p t x → IsProcedural q t x
+  procedural_grows t x h = (h.0, pattern_grows t h.0 h.1, formals_grow x h.0 h.2)
+
+  fits_grow : (t u : TType) → Fits p t u → Fits q t u
+  fits_grow t u (inl h) = inl h
+  fits_grow t u (inr (inl h)) = inr (inl (object_fits p.types q.types grows.rows falls targets t u h))
+  fits_grow t u (inr (inr h)) = inr (inr (h.0, h.1, pattern_grows t h.0 h.2, pattern_grows u h.1 h.3, formals_grow h.1 h.0 h.4))
 
   -- each variable has its type, and each procedure its number
   in_module : {A : Type 0} (f : Module → Option A) (m : ℕ) (x : A) → option_and_then f (slice_get p.modules m) ≡ Some x → option_and_then f (slice_get q.modules m) ≡ Some x
@@ -281,10 +352,12 @@ module _ (p q : Program) (grows : Grows p q) where
           ((value_grows e (Named t) h.0, fact_stays p.types q.types grows.rows is_object refl (id_of (Named t)).0 h.1, one.0), one.1)
       called_grows (Upper t k) x h =
           let one = grows.methods t k x h.3 in ((h.0, h.1, comes_grow (id_of (Named h.0)) (id_of (Named t)) h.2, one.0), one.1)
+      called_grows (Through e t) x h = ((value_grows e (Named t) h.0, pattern_grows (Named t) x h.1), pattern_there (Named t) x h.1)
 
       value_grows : (e : Expr) (t : TType) → IsOf p own e t → IsOf q own e t
       value_grows (Lit l) t (inl h) = inl h
-      value_grows (Lit l) t (inr h) = inr (h.0, reference_grows t h.1)
+      value_grows (Lit l) t (inr (inl h)) = inr (inl (h.0, reference_grows t h.1))
+      value_grows (Lit l) t (inr (inr h)) = inr (inr (h.0, procedural_stays p.types q.types grows.rows falls targets t h.1))
       value_grows (Read u x) t h = (place_grows x u h.0, scalar_grows u h.1, fits_grow t u h.2)
       value_grows (Unary op a) t h = (value_grows a _ h.0, h.1)
       value_grows (Binary op a b) t h = (takes_more op (IsOf p own a) (IsOf p own b) (IsOf q own a) (IsOf q own b) (value_grows a) (value_grows b) h.0, h.1)
@@ -308,7 +381,25 @@ module _ (p q : Program) (grows : Grows p q) where
       value_grows (Is a k) t h = ((h.0.0, value_grows a h.0.0 h.0.1, reference_grows h.0.0 h.0.2), fewer k h.1, h.2)
       value_grows (IsRecord x k) t h = (h.0, place_grows x h.0 h.1, names_grow x h.0 h.2, record_grows (Named k) h.3, h.4)
       value_grows (Guard a k) t h = ((h.0.0, value_grows a h.0.0 h.0.1, reference_grows h.0.0 h.0.2), fewer k h.1, guard_grows k t h.2)
+      value_grows (ProcedureOf m k) t h = (h.0, procedure_grows m k h.0 h.1, procedural_grows t h.0 h.2)
+      value_grows (MethodOf e j k) t h = (
+        value_grows e (Named j) h.0,
+        fact_stays p.types q.types grows.rows is_object refl (id_of (Named j)).0 h.1,
+        (h.2.0, (grows.methods j k h.2.0 h.2.1).0, procedural_grows t h.2.0 h.2.2),
+      )
+      value_grows (SameProcedure a b) t h = (
+        either_grows (λ x. (x.0, value_grows a x.0 x.1, procedural_stays p.types q.types grows.rows falls targets x.0 x.2)) (named_grows a) h.0,
+        either_grows (λ x. (x.0, value_grows b x.0 x.1, procedural_stays p.types q.types grows.rows falls targets x.0 x.2)) (named_grows b) h.1,
+        h.2,
+      )
       value_grows (Had v) t h = absurd h
+
+      named_grows : (e : Expr) → IsNamed p own e → IsNamed q own e
+      named_grows (Lit l) h = h
+      named_grows (ProcedureOf m k) h = (h.0, procedure_grows m k h.0 h.1)
+      named_grows (MethodOf e j k) h =
+          (value_grows e (Named j) h.0, fact_stays p.types q.types grows.rows is_object refl (id_of (Named j)).0 h.1, (h.2.0, (grows.methods j k h.2.0 h.2.1).0))
+      named_grows e h = absurd h
 
     call_grows : (c : Call) → IsCall p own c → IsCall q own c
     call_grows Open h = tt
@@ -334,6 +425,12 @@ module _ (p q : Program) (grows : Grows p q) where
     lengths_grow [] h = tt
     lengths_grow (n ∷ ns) h = (value_grows n (Integer W64) h.0, lengths_grow ns h.1)
 
+    -- what an initializer is handed
+    handed_grows : (slot : Option ℕ) (t : ℕ) (more : Arguments) → IsInitialized p own slot t more → IsInitialized q own slot t more
+    handed_grows None t more h = h
+    handed_grows (Some k) t more h =
+        let one = grows.methods t k h.0 h.1 in (h.0, one.0, h.2, arguments_grow more h.0.parameters one.1 h.3)
+
     mutual
       statement_grows : (s : Stat) → IsStatement p own s → IsStatement q own s
       statement_grows (Assign at t x e) h = (place_grows x t h.0, scalar_grows t h.1, value_grows e t h.2)
@@ -353,14 +450,18 @@ module _ (p q : Program) (grows : Grows p q) where
       statement_grows (Perform at c more) h =
           let one = called_grows c h.0 h.1 in (h.0, one.0, h.2, arguments_grow more h.0.parameters one.1 h.3)
       statement_grows (Return at e) h = return_grows e (result_of own) h
-      statement_grows (New at x t) h =
-          (h.0, place_grows x (Named t) h.1, fact_stays p.types q.types grows.rows is_object refl (id_of (Named t)).0 h.2, has_grows t h.3)
+      statement_grows (New at x t more) h = (
+        place_grows x (Named t) h.0,
+        fact_stays p.types q.types grows.rows is_object refl (id_of (Named t)).0 h.1,
+        subst (λ slot. IsInitialized q own slot t more) (sym (grows.initializers t (object_there t h.1))) (handed_grows (initializer p t) t more h.2),
+      )
       statement_grows (Make at x t ns) h =
           let there = target_there p.types q.types grows.rows falls targets h.0.0 (id_of (Named t)) h.0.2 in (
             (h.0.0, place_grows x h.0.0 h.0.1, target_grows h.0.0 (id_of (Named t)) h.0.2),
             fewer t h.1,
-            lengths_grow ns h.2,
-            h.3 ∙ sym (dimensions_grow (id_of (Named t)) there),
+            plain_grows t h.1 h.2,
+            lengths_grow ns h.3,
+            h.4 ∙ sym (dimensions_grow (id_of (Named t)) there),
           )
       statement_grows (With at e body) h = (objects_grow e h.0, statements_grow body h.1)
       statement_grows (WithRecord at x body) h = ((h.0.0, place_grows x h.0.0 h.0.1, names_grow x h.0.0 h.0.2), statements_grow body h.1)
@@ -387,20 +488,24 @@ module _ (p q : Program) (grows : Grows p q) where
 pub grown : (ms ns : List Module) (ts us : List TypeRow) (os qs : List ObjectType) → RowsStay ts us → AreReady ts → AreReady us → length ts ≡ 10 + length os → length us ≡ 10 + length (os ++ qs) →
     ((m k : ℕ) (x : Procedure) → procedure_in (record { modules = ms; types = ts; objects = os }) m k ≡ Some x → HaveTypes (record { modules = ms; types = ts; objects = os }) x.parameters) →
     ((t : ℕ) (o : ObjectType) → slice_get os t ≡ Some o → Each (λ m. HaveTypes (record { modules = ms; types = ts; objects = os }) m.procedure.parameters) o.methods) →
+    ((t : ℕ) (o : ObjectType) → slice_get os t ≡ Some o → HaveTypes (record { modules = ms; types = ts; objects = os }) o.body.parameters) →
     Grows (record { modules = ms; types = ts; objects = os }) (record { modules = ms ++ ns; types = us; objects = os ++ qs })
-grown ms ns ts us os qs stay old new long long_on parameters own =
+grown ms ns ts us os qs stay old new long long_on parameters own patterns =
     let p : Program = record { modules = ms; types = ts; objects = os } in
     let q : Program = record { modules = ms ++ ns; types = us; objects = os ++ qs } in
     record {
       modules = get_front ms ns;
       rows = stay;
+      count = long;
       objects = omega (arith, length-append os qs);
       stand = get_front os qs;
       methods = λ t k x is. (
         method_stays p q old new long long_on stay (get_front os qs) t k x is,
         each_method (λ x. HaveTypes p x.parameters) p own t k x is,
       );
+      initializers = initializer_stays p q old new long long_on stay (get_front os qs);
       parameters = parameters;
+      patterns = patterns;
       old = old;
       new = new;
     }

@@ -28,7 +28,7 @@ use Rattle.aos_check_expr.proofs.Whole.{IsWhole}
 use Rattle.aos_check_decl.specs.Methods.{defined_type}
 use Rattle.aos_check_decl.proofs.Typing.{IsHeading, HasHeading}
 use Rattle.aos_check_stat.specs.Bodies.{listed, body_of}
-use Rattle.aos_compile.specs.Modules.{Beside, spelling, object_body, bodies_from, first_scope, body_beside, slotted, method_beside, methods_of, defined_object, beside_in}
+use Rattle.aos_compile.specs.Modules.{Beside, spelling, object_body, has_active, bodies_from, first_scope, object_procedure, slotted, method_beside, methods_of, defined_object, beside_in}
 use Rattle.aos_compile.proofs.ObjectScopes.{IsObject, is_object_or, scope_at, methods_before, method_at}
 use Rattle.aos_compile.proofs.TypingBodies.{body_within, around_object, AreMore, procedures_sound}
 use Rattle.aos_compile.proofs.TypingObjects.{IsSaidBeside}
@@ -57,8 +57,8 @@ pub plain_methods : (e : Env) (first : ℕ) (d : TypeDef) → (IsObject d.value 
 plain_methods e first d never None = refl
 plain_methods e first d never (Some y) = rw (no_methods d.value never) refl
 
-slotted_each : (p : Program) (k : ℕ) (h : Home) (o : ObjectScope) (i : ℕ) (qs : List TypedProcedure) → Each (λ x. IsProcedure p (record x { of = Some k })) qs →
-    Each (λ m. IsProcedure p (method_beside k m).procedure) (slotted h o i qs)
+slotted_each : (p : Program) (k : ℕ) (h : Home) (o : ObjectScope) (i : ℕ) (qs : List TypedProcedure) → Each (λ x. IsProcedure p (record x { of = Some k }) × (x.is_initializer ≡ true → x.result ≡ None)) qs →
+    Each (λ m. IsProcedure p (method_beside k m).procedure × (m.procedure.is_initializer ≡ true → m.procedure.result ≡ None)) (slotted h o i qs)
 slotted_each p k h o i [] each = tt
 slotted_each p k h o i (q ∷ qs) each = (each.0, slotted_each p k h o (suc i) qs each.1)
 
@@ -109,6 +109,7 @@ module _ (program : Program) (e : Env) (m : Tree) (begins : RowsStay env.basic_r
           let x = λ (ss : List Stat) (bs : List Stats). (let y : Beside = record {
             name = spelling e.here.text d.def.name;
             has_body = is_some (object_body d.value);
+            is_active = has_active e.here.text (object_body d.value);
             body = listed ss;
             methods = methods_of e (first_scope m) o (methods_in d) bs;
           } in y) in
@@ -116,7 +117,7 @@ module _ (program : Program) (e : Env) (m : Tree) (begins : RowsStay env.basic_r
           let around = around_object program e m begins everywhere path_is self_is first_is headings below objects t o at in
           let itself = λ (u : TypeId) (is : Some t ≡ Some u). ap (λ i. Some i) (sym number_is) ∙ ap (λ (v : TypeId). Some (object_number v)) (same_Some t u is) in
           let More = AreMore program e m begins everywhere path_is self_is first_is headings below objects path (Some t) around (Some k) itself (first_scope m + first_method) (methods_in d) sigs [] in
-          holds_bind (λ ss. AreStatements program (Some (body_beside k (listed ss))) (listed ss)) (IsSaidBeside program k) (body_of f true (object_body d.value))
+          holds_bind (λ ss. AreStatements program (Some (object_procedure k (listed ss))) (listed ss)) (IsSaidBeside program k) (body_of f true (object_body d.value))
           (λ ss. bind (bodies_from f (first_scope m + first_method) [] (methods_in d)) (λ bs. kept (x ss bs)))
           (body_within program e m begins everywhere path_is self_is first_is headings below objects t o at refl k number_is (object_body d.value))
           (λ ss typed. holds_bind More (IsSaidBeside program k) (bodies_from f (first_scope m + first_method) [] (methods_in d)) (λ bs. kept (x ss bs))

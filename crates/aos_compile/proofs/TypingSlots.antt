@@ -9,7 +9,7 @@ use Rattle.aos_tree.specs.declared.module.Module.{Module as Tree}
 use Rattle.aos_types.specs.declared.row.TypeId.{TypeId}
 use Rattle.aos_types.specs.declared.row.TypeRow.{TypeRow}
 use Rattle.aos_types.specs.Table.{row_of, base_of}
-use Rattle.aos_typed.specs.Methods.{methods_in as methods_beside, own_methods}
+use Rattle.aos_typed.specs.Methods.{methods_in as methods_beside, own_methods, initial_slot}
 use Rattle.aos_typed.specs.Program.{Stats, ObjectType, Module, Procedure as TypedProcedure, Method as TypedMethod}
 use Rattle.aos_symbols.specs.declared.home.ObjectScope.{ObjectScope}
 use Rattle.aos_symbols.specs.declared.home.Signature.{Signature}
@@ -31,12 +31,12 @@ use Rattle.aos_check_decl.proofs.TypingLists.{get_behind}
 use Rattle.aos_compile.specs.Modules.{Beside, object_of as object_beside, objects_from, procedures_of, slotted, method_beside, methods_of, first_scope}
 use Rattle.aos_compile.proofs.MethodNames.{copies, AreOnce, filter_copies}
 use Rattle.aos_compile.proofs.MethodsGrow.{bases_high}
-use Rattle.aos_compile.proofs.MethodsStay.{has_own_on, own_meant_is, own_methods_are, in_home, named_in}
+use Rattle.aos_compile.proofs.MethodsStay.{has_own_on, own_meant_is, own_start_is, own_methods_are, in_home, start_in, named_in}
 use Rattle.aos_compile.proofs.ObjectScopes.{IsObject, is_object_or}
-use Rattle.aos_compile.proofs.OwnMethods.{IsFound, object, first_method, only, own_signed, words_of, are_named, are_own}
+use Rattle.aos_compile.proofs.OwnMethods.{IsFound, object, first_method, only, own_signed, words_of, are_named, are_own, starts, started}
 use Rattle.aos_compile.proofs.Slots.{Word, words}
 use Rattle.aos_compile.proofs.TypingHomes.{AreHomes, home_at, objects_among}
-use Rattle.aos_compile.proofs.TypingMethods.{Meant, own_meant, meant, meant_behind, own_words, above, base_falls, meant_is, AreOwnOf, HasOwn, own_at}
+use Rattle.aos_compile.proofs.TypingMethods.{Meant, own_meant, own_start, meant, meant_behind, own_words, above, base_falls, meant_is, AreOwnOf, HasOwn, own_at}
 use Rattle.aos_compile.proofs.TypingOutlook.{outlook, no_home, object_old, home_same, signed_old}
 use Rattle.aos_compile.proofs.TypingProcedures.{IsSignature}
 use Rattle.aos_compile.proofs.TypingTypes.{RowsStay, bases_there}
@@ -140,6 +140,11 @@ module _ (hs : List Home) (types : List TypeRow) (ms more : List Module) (os : L
           (drop (first_method e m j d type) e.here.signatures) bs (are_named (inner_decls d.value)) (beside j d there kind).1 (λ n. ap (slice_get defs) (zero_more n)) (λ n. ap (slice_get (methods_in d)) (zero_more n))
           (λ n. dropped (first_method e m j d type) e.here.signatures n ∙ ap (λ k. slice_get e.here.signatures (first_method e m j d type + k)) (zero_more n)) once));
       only = only e m j d type is ready below headings;
+      starts =
+          ap initial_slot listed
+          ∙ starts e m j d type is ready below headings (kept j d there kind) signed modules objects (length os + j) (first_scope m + first_method e m j d type) (drop (first_method e m j d type) e.here.signatures) bs (beside j d there kind).1
+          (λ n. dropped (first_method e m j d type) e.here.signatures n ∙ ap (λ k. slice_get e.here.signatures (first_method e m j d type + k)) (zero_more n));
+      started = λ u is_start. started e m j d type is ready below headings modules objects u is_start;
     }
       where
         bs : List Stats
@@ -192,6 +197,9 @@ module _ (hs : List Home) (types : List TypeRow) (ms more : List Module) (os : L
     nothing_meant : (w : Word) → own_meant e plain w ≡ None
     nothing_meant w = own_meant_is e plain w ∙ ap (option_and_then (λ o. in_home e o w (env.home e o.home))) none
 
+    nothing_started : own_start e plain ≡ None
+    nothing_started = own_start_is e plain ∙ ap (option_and_then (λ o. start_in e o (env.home e o.home))) none
+
     no_words : own_words e plain ≡ []
     no_words = ap words (own_methods_are e plain) ∙ ap (λ o. words (named_in e (option_and_then (λ o. env.scope e (env.object_place o)) o))) none
 
@@ -201,6 +209,8 @@ module _ (hs : List Home) (types : List TypeRow) (ms more : List Module) (os : L
           subst (λ vs. AreOwnOf e modules objects plain vs (own_of plain)) (sym no_words)
           (subst (AreOwnOf e modules objects plain []) (sym (own_beside j x at ∙ ap (map (method_beside (length os + j))) (bare j x at never))) tt);
       only = λ w u is. absurd (none-some u (sym (nothing_meant w) ∙ is));
+      starts = ap initial_slot (own_beside j x at ∙ ap (map (method_beside (length os + j))) (bare j x at never)) ∙ ap (option_map (λ (m : Meant). m.slot)) (sym nothing_started);
+      started = λ u is. absurd (none-some u (sym nothing_started ∙ is));
     }
 
   -- All types.

@@ -4,7 +4,7 @@ use Rattle.std.proofs.lemmas.Option.{none-some, same_Some, slice_get_within}
 use Rattle.aos_types.specs.declared.row.TypeId.{TypeId}
 use Rattle.aos_types.specs.declared.row.TypeRow.{TypeRow}
 use Rattle.aos_types.specs.declared.row.TypeRow.TheVariants as row
-use Rattle.aos_types.specs.Table.{row_of, base_of, is_open, on_both}
+use Rattle.aos_types.specs.Table.{row_of, base_of, is_open, is_procedure, on_both}
 use Rattle.aos_types.specs.Extension.{on_base, comes_by, comes_to}
 use Rattle.aos_types.specs.Sameness.{are_one, are_predeclared, element_of, same_by, same}
 use Rattle.aos_types.specs.Chain.{IsRanked}
@@ -14,11 +14,11 @@ use Rattle.aos_typed.specs.declared.tree.TType.{TType}
 use Rattle.aos_typed.specs.declared.tree.TType.TheVariants.{Any}
 use Rattle.aos_typed.specs.Numbers.{id_of}
 use Rattle.aos_typed.specs.Open.{first_from, first_same}
-use Rattle.aos_typed.specs.WellTyped.{Fits, fields_by, fields_in, field_type, is_whole, is_any, is_basic, is_reference, is_value, target, target_in}
+use Rattle.aos_typed.specs.WellTyped.{FitsObject, fields_by, fields_in, field_type, is_whole, is_any, is_basic, is_reference, is_procedural, is_value, target, target_in}
 use Rattle.aos_symbols.proofs.Told.{PartsAreTold}
 use Rattle.aos_check_expr.proofs.Opens.{OpensFall, open_is}
 use Rattle.aos_check_decl.proofs.Typing.{AreReady}
-use Rattle.aos_compile.proofs.TypingTypes.{RowsStay, longer, bases_there}
+use Rattle.aos_compile.proofs.TypingTypes.{RowsStay, longer, fact_stays, bases_there}
 use Rattle.aos_compile.proofs.TypingFields.{fields_same}
 
 not_both : true ≡ false → ⊥
@@ -206,16 +206,26 @@ module _ (ts us : List TypeRow) (stay : RowsStay ts us) where
           by false None is h = absurd (not_both (sym h))
           by false (Some u) is h = ap is_some (target_stays t u is)
 
+      pub procedural_stays : (t : TType) → is_procedural ts t ≡ true → is_procedural us t ≡ true
+      procedural_stays t h = fact_stays ts us stay is_procedure refl (id_of t).0 h
+
       pub value_stays : (t : TType) → is_value ts t ≡ true → is_value us t ≡ true
       value_stays t h = by (is_basic t) h
         where
-          by : (x : Bool) → (x || is_reference ts t) ≡ true → (x || is_reference us t) ≡ true
-          by true h = refl
-          by false h = reference_stays t h
+          behind : (x : Bool) → x ≡ true → (y : Bool) → (y || x) ≡ true
+          behind x is true = refl
+          behind x is false = is
 
-      pub fits_stays : (t u : TType) → Fits ts t u → Fits us t u
-      fits_stays t u (inl h) = inl h
-      fits_stays t u (inr h) = inr (reference_stays u h.0, by h.1)
+          either : (x : Bool) → is_reference ts t ≡ x → (x || is_procedural ts t) ≡ true → (is_reference us t || is_procedural us t) ≡ true
+          either true is h = ap (λ x. x || is_procedural us t) (reference_stays t is)
+          either false is h = behind (is_procedural us t) (procedural_stays t h) (is_reference us t)
+
+          by : (x : Bool) → (x || (is_reference ts t || is_procedural ts t)) ≡ true → (x || (is_reference us t || is_procedural us t)) ≡ true
+          by true h = refl
+          by false h = either (is_reference ts t) refl h
+
+      pub object_fits : (t u : TType) → FitsObject ts t u → FitsObject us t u
+      object_fits t u h = (reference_stays u h.0, by h.1)
         where
           by : (t ≡ Any) ⊎ ((a : TypeId) × (b : TypeId) × (target ts t ≡ Some a) × (target ts u ≡ Some b) × (comes_to ts b a ≡ true)) →
               (t ≡ Any) ⊎ ((a : TypeId) × (b : TypeId) × (target us t ≡ Some a) × (target us u ≡ Some b) × (comes_to us b a ≡ true))

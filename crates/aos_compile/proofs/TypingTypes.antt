@@ -83,13 +83,13 @@ bases_there types table t b is = by (row_of types b) refl (table.sound.bases t b
 -- The predeclared types.
 
 -- rows without parts
-abbrev IsFlat : Option TypeRow → Type 0
+abbrev pub IsFlat : Option TypeRow → Type 0
 IsFlat (Some (row.Basic b)) = Unit {0}
 IsFlat (Some row.Any) = Unit {0}
 IsFlat None = Unit {0}
 IsFlat _ = ⊥
 
-basic_flat : (k : ℕ) → IsFlat (slice_get basic_rows k)
+pub basic_flat : (k : ℕ) → IsFlat (slice_get basic_rows k)
 basic_flat zero = tt
 basic_flat (suc zero) = tt
 basic_flat (suc (suc zero)) = tt

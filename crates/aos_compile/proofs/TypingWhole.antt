@@ -1,16 +1,20 @@
 -- The environment of bodies: what is known of it where the modules before and this one break no rule.
-use Rattle.std.proofs.Common.{◌≡◌, ℕ, ◌+◌, ◌<◌, ◌==◌, List, [], ◌∷◌, length, map, Bool, true, false, is_some, if◌then◌else◌, Option, Some, None, option_map, option_and_then, slice_get, refl, sym, ap, ◌∙◌, subst, eqb-true, arith}
+use Rattle.std.proofs.Common.{◌≡◌, ℕ, ◌+◌, ◌<◌, ◌==◌, ◌-◌, ◌^◌, List, [], ◌∷◌, length, map, Bool, true, false, is_some, if◌then◌else◌, Option, Some, None, option_map, option_and_then, slice_get, refl, sym, ap, ◌∙◌, subst, eqb-true, arith}
 use Rattle.std.proofs.lemmas.Bool.{and_parts}
 use Rattle.std.proofs.lemmas.List.{length-map}
-use Rattle.std.proofs.lemmas.Option.{none-some, same_Some, slice_get-map}
+use Rattle.std.proofs.lemmas.Option.{none-some, same_Some, slice_get-map, slice_get_past, slice_get_within}
 use Rattle.aos_types.specs.declared.row.TypeId.{TypeId}
+use Rattle.aos_types.specs.declared.row.TypeRow.TheVariants as row
 use Rattle.aos_types.specs.Table.{row_of, is_object}
 use Rattle.aos_types.specs.Extension.{comes_to}
 use Rattle.aos_types.proofs.Ranks.{ranked}
-use Rattle.aos_typed.specs.Methods.{methods_of}
+use Rattle.aos_typed.specs.declared.tree.TType.TheVariants.{Named}
+use Rattle.aos_typed.specs.Numbers.{id_of}
+use Rattle.aos_typed.specs.Formals.{pattern_in, pattern_of}
+use Rattle.aos_typed.specs.Methods.{methods_of, initializer}
 use Rattle.aos_typed.specs.Program.{ModuleVar, Procedure as TypedProcedure, ObjectType, Module}
 use Rattle.aos_typed.specs.Routines.{self_type, result_of}
-use Rattle.aos_typed.specs.WellTyped.{procedure_in, field_type}
+use Rattle.aos_typed.specs.WellTyped.{procedure_in, field_type, IsPattern}
 use Rattle.aos_symbols.specs.declared.scope.Entry.{Entry}
 use Rattle.aos_symbols.specs.declared.scope.Meaning.TheVariants as means
 use Rattle.aos_symbols.specs.declared.home.ObjectScope.{ObjectScope}
@@ -28,12 +32,15 @@ use Rattle.aos_check_expr.specs.Known.{object_number, type_of}
 use Rattle.aos_check_expr.specs.Designators as desig
 use Rattle.aos_check_expr.proofs.Inside.{Inside}
 use Rattle.aos_check_expr.proofs.Opens.{some_there}
-use Rattle.aos_check_expr.proofs.Whole.{IsTyped, closed, IsSigned, IsSearched, HasBody, IsWhole, NarrowsWell, opens_told}
+use Rattle.aos_check_expr.proofs.Whole.{IsTyped, closed, IsResultOf, IsSigned, IsSearched, IsWhole, NarrowsWell, opens_told}
 use Rattle.aos_check_decl.proofs.Typing.{AreGood, AreReady}
+use Rattle.aos_compile.specs.Modules.{pattern, body_beside}
 use Rattle.aos_compile.proofs.Slots.{Word}
 use Rattle.aos_compile.proofs.TypingFields.{fields_told, row_with, has_row, parts_of, own_behind, fields_extend, object_fielded}
 use Rattle.aos_compile.proofs.TypingHomes.{IsHome, AreHomes, home_at}
-use Rattle.aos_compile.proofs.TypingMethods.{Meant, bare, meant, IsMeant}
+use Rattle.aos_compile.proofs.TypingMethods.{Meant, bare, meant, start, IsMeant}
+use Rattle.aos_compile.proofs.TypingObjects.{IsShaped}
+use Rattle.aos_compile.proofs.TypingPatterns.{is_pattern, procedure_high}
 use Rattle.aos_compile.proofs.TypingProcedures.{IsSignature, signed}
 use Rattle.aos_compile.proofs.TypingTypes.{bases_there}
 
@@ -50,6 +57,12 @@ pub record IsPlaced (p : Inside) (e : Env) : Type 0 where
   pub own_body : env.own_signature e ≡ None → result_of p.own ≡ None
   pub itself : (t : TypeId) → e.self_type ≡ Some t → (self_type p.own ≡ Some (object_number t)) × (is_object (row_of e.types t) ≡ true)
 
+-- the initializer of a type is that of the program, in its slot
+pub record IsBegun (p : Inside) (e : Env) (t : TypeId) : Type 0 where
+  pub is : initializer p.program (object_number t) ≡ option_map (λ (m : Meant). m.slot) (start e t)
+  pub there : (m : Meant) → start e t ≡ Some m →
+      (q : TypedProcedure) × (slice_get (methods_of p.program (object_number t)) m.slot ≡ Some q) × (q.is_initializer ≡ true) × IsMeant e p.program.modules p.program.objects m q
+
 -- the first of some types for which something is so
 first_is : (test : TypeId → Bool) (ts : List TypeId) (t : TypeId) → env.first_along test ts ≡ Some t → test t ≡ true
 first_is test [] t found = absurd (none-some t found)
@@ -63,9 +76,10 @@ module _ (p : Inside) (e : Env) (hs : List Home) (are : AreHomes e.types 0 hs p.
     (table : AreReady e.types) (here : FieldsAgree e.types e.here) (before : (m : ℕ) (h : Home) → slice_get e.before m ≡ Some h → FieldsAgree e.types h)
     (none : e.narrowed ≡ []) (rows : p.program.types ≡ e.types) (count : length e.types ≡ 10 + length p.program.objects)
     (known : (t : TypeId) (o : ObjectScope) → env.object e t ≡ Some o → (h : Home) × (env.home e o.home ≡ Some h) × (object_of h t ≡ Some o))
-    (bodied : (t : TypeId) (o : ObjectScope) → env.object e t ≡ Some o → option_map (λ (z : ObjectType). z.has_body) (slice_get p.program.objects (object_number t)) ≡ Some o.has_body)
+    (shapes : (k : ℕ) (o : ObjectType) → slice_get p.program.objects k ≡ Some o → IsShaped e.types k o) (few : length e.types < 2 ^ 32)
     (called : (t : TypeId) (w : Word) (m : Meant) → is_object (row_of e.types t) ≡ true → meant e t w ≡ Some m →
     (q : TypedProcedure) × (slice_get (methods_of p.program (object_number t)) m.slot ≡ Some q) × IsMeant e p.program.modules p.program.objects m q)
+    (begun : (t : TypeId) → is_object (row_of e.types t) ≡ true → IsBegun p e t)
     (placed : IsPlaced p e) where
   home_of : (m : ℕ) (h : Home) → env.home e m ≡ Some h → (x : Module) × (slice_get p.program.modules m ≡ Some x) × IsHome e.types m h x
   home_of m h there = home_at e.types hs p.program.modules are m h (at m h there)
@@ -156,14 +170,50 @@ module _ (p : Inside) (e : Env) (hs : List Home) (are : AreHomes e.types 0 hs p.
             each_at (IsTold e.types) row.own k u.0 (parts_of e.types above table.parts (bases_there e.types table) b row).1 u.1,
           )
 
-  -- Bodies of objects.
+  -- Initializers.
 
-  has_body : (t : TypeId) → env.body_of e t ≡ Some t → HasBody p.program (object_number t)
-  has_body t found = by (env.object e t) refl (first_is (λ u. env.is_with_body (env.object e u)) (env.chain e.types t) t found)
-    where
-      by : (o : Option ObjectScope) → env.object e t ≡ o → env.is_with_body o ≡ true → HasBody p.program (object_number t)
-      by None object is = absurd (not_both (sym is))
-      by (Some o) object is = bodied t o object ∙ ap (λ b. Some b) is
+  slots_bare : (o : Option Method) → option_map (λ (m : Meant). m.slot) (option_map bare o) ≡ option_map (λ (m : Method). m.slot) o
+  slots_bare None = refl
+  slots_bare (Some m) = refl
+
+  initials : (t : TypeId) → is_object (row_of e.types t) ≡ true → initializer p.program (object_number t) ≡ option_map (λ (m : Method). m.slot) (env.initializer e t)
+  initials t object = (begun t object).is ∙ slots_bare (env.initializer e t)
+
+  initial : (t : TypeId) (m : Method) → env.initializer e t ≡ Some m → is_object (row_of e.types t) ≡ true → (s : Signature) → env.signature e m.home m.number ≡ Some s →
+      (q : TypedProcedure) × (slice_get (methods_of p.program (object_number t)) m.slot ≡ Some q) × (q.result ≡ None) × IsSigned e s q
+  initial t m found object s is =
+      let one = (begun t object).there (bare m) (ap (option_map bare) found) in
+      let told = one.3.typed in
+      let proper = told.proper (sym told.mark ∙ one.2) in (
+        one.0,
+        one.1,
+        subst (λ g. IsResultOf g one.0.result) proper told.result,
+        signed e s one.0 (subst (λ (g : Signature). IsSignature e.types g one.0) (same_Some one.3.signature s (sym one.3.is ∙ is)) told),
+      )
+
+  -- Procedure types.
+
+  patterns : (t : TypeId) (fs : List (Bool × TypeId)) (r : Option TypeId) → row_of e.types t ≡ Some (row.Procedure fs r) →
+      (q : TypedProcedure) × (pattern_of p.program (Named (object_number t)) ≡ Some q) × IsPattern q fs r
+  patterns t fs r is =
+      let high = procedure_high e.types table t fs r is in
+      let below = slice_get_within e.types t.0 (row.Procedure fs r) is in
+      let k = object_number t in
+      let id_is : id_of (Named k) ≡ t = ap (λ (n : ℕ). record { 0 = n }) (let same : (t.0 - 10) + 10 ≡ t.0 = omega (arith, high) in same) in
+      let beside = some_there p.program.objects k (omega (arith, high, below, count)) in
+      let shape = shapes k beside.0 beside.1 in
+      let row_is : row_of e.types (id_of (Named k)) ≡ Some (row.Procedure fs r) = ap (row_of e.types) id_is ∙ is in
+      let body_is : beside.0.body ≡ pattern fs r = shape.1 ∙ ap (λ x. body_beside x k shape.0) row_is in (
+        pattern fs r,
+        ap (λ rows. pattern_in p.program (row_of rows (id_of (Named k))) k) rows
+            ∙ ap (λ x. pattern_in p.program x k) row_is
+            ∙ ap (option_map (λ (o : ObjectType). o.body)) beside.1
+            ∙ ap (λ z. Some z) body_is,
+        is_pattern e.types table t fs r is,
+      )
+
+  unnamed : row_of e.types env.procedure ≡ None
+  unnamed = slice_get_past e.types 4294967295 (omega (arith, few))
 
   by_method : (t : TypeId) (w : Word) (m : Method) → env.method_named e t w ≡ Some m → is_object (row_of e.types t) ≡ true → (s : Signature) → env.signature e m.home m.number ≡ Some s →
       (q : TypedProcedure) × (slice_get (methods_of p.program (object_number t)) m.slot ≡ Some q) × IsSigned e s q
@@ -190,7 +240,10 @@ module _ (p : Inside) (e : Env) (hs : List Home) (are : AreHomes e.types 0 hs p.
     itself = placed.itself;
     own_fields = λ t b o s w x k self comes stands there found means. own_field t b o s w x k comes stands there found means;
     methods = λ t n m found object s is. by_method t (word e.here.text n) m found object s is;
-    bodies = has_body;
+    initials = initials;
+    initial = initial;
+    patterns = patterns;
+    unnamed = unnamed;
     signatures = by_signature;
     strings = λ m h there. let one = home_of m h there in (one.0, one.1, counted m h one.0 there one.2, one.2.texts);
   }

@@ -1,5 +1,5 @@
 -- Worlds whose modules break no rule, and what one module more declares.
-use Rattle.std.proofs.Common.{◌≡◌, ℕ, suc, ◌+◌, ◌<◌, ◌≤◌, List, [], ◌∷◌, length, map, true, All, Option, Some, None, option_map, slice_get, zip, refl, sym, ap, ◌∙◌, subst, length-append, arith}
+use Rattle.std.proofs.Common.{◌≡◌, ℕ, suc, ◌+◌, ◌^◌, ◌<◌, ◌≤◌, List, [], ◌∷◌, length, map, true, All, Option, Some, None, slice_get, zip, refl, sym, ap, ◌∙◌, subst, length-append, arith}
 use Rattle.std.specs.List.{flat_map}
 use Rattle.std.proofs.lemmas.Option.{none-some, same_Some, slice_get_within}
 use Rattle.aos_tree.specs.declared.decl.Def.{Def}
@@ -16,10 +16,8 @@ use Rattle.aos_symbols.specs.declared.env.Env.{Env}
 use Rattle.aos_symbols.specs.Declarations.{Procedure, procedures, methods_in, all_procedures, type_defs, single_variables, procedure_defs}
 use Rattle.aos_symbols.specs.Scope.{Scope, find}
 use Rattle.aos_symbols.specs.Home.{object_of}
-use Rattle.aos_symbols.specs.Env.{object_among}
 use Rattle.aos_symbols.proofs.Each.{Each}
 use Rattle.aos_symbols.proofs.Told.{get_front}
-use Rattle.aos_check_expr.specs.Known.{object_number}
 use Rattle.aos_check_expr.proofs.Opens.{some_there}
 use Rattle.aos_check_decl.proofs.Typing.{AreReady, IsReady, IsHeading, IsDeclared}
 use Rattle.aos_compile.specs.Modules.{World, no_modules, program_of, first_scope, Bodies, variables_of, variable_of, procedure_of, module_of}
@@ -27,33 +25,35 @@ use Rattle.aos_compile.proofs.OwnMethods.{AreNamed, are_named}
 use Rattle.aos_compile.proofs.TypingHomes.{IsHome, AreHomes, home_at}
 use Rattle.aos_compile.proofs.TypingLocals.{types_beside}
 use Rattle.aos_compile.proofs.TypingMethods.{HasOwn}
-use Rattle.aos_compile.proofs.TypingObjects.{IsBeside}
+use Rattle.aos_compile.proofs.TypingObjects.{IsShaped, IsBeside}
 use Rattle.aos_compile.proofs.TypingOutlook.{outlook}
 use Rattle.aos_compile.proofs.TypingProcedures.{IsSignature, heading_signature, procedures_long, signatures_are}
 use Rattle.aos_compile.proofs.TypingScopes.{variables_are, procedures_are}
 use Rattle.aos_compile.proofs.TypingTypes.{basic_ready}
 
+-- what is typed of it
+pub record AreTyped (w : World) : Type 0 where
+  pub bodies : Each (λ m. AreStatements (program_of w) None m.body) w.modules
+  pub objects : (k : ℕ) (o : ObjectType) → slice_get w.objects k ≡ Some o → IsBeside (program_of w) k o
+  pub procedures : Each (λ m. All (λ q. IsProcedure (program_of w) q × (q.of ≡ None)) m.procedures) w.modules
+
+-- where its types are few, all is well typed: no type has the number that a procedure which is named has in the place of one
 pub record IsWorld (w : World) : Type 0 where
   pub homes : AreHomes w.types 0 w.before w.modules
   pub count : length w.types ≡ 10 + length w.objects
-  pub bodies : Each (λ m. AreStatements (program_of w) None m.body) w.modules
-  pub objects : (k : ℕ) (o : ObjectType) → slice_get w.objects k ≡ Some o → IsBeside (program_of w) k o
+  pub shapes : (k : ℕ) (o : ObjectType) → slice_get w.objects k ≡ Some o → IsShaped w.types k o
   pub own : (t : TypeId) → 10 ≤ t.0 → t.0 < length w.types → HasOwn (outlook w.before w.types) w.modules w.objects t
-  pub bodied : (t : TypeId) (o : ObjectScope) → object_among w.before t ≡ Some o →
-      option_map (λ (z : ObjectType). z.has_body) (slice_get w.objects (object_number t)) ≡ Some o.has_body
   pub table : AreReady w.types
-  pub procedures : Each (λ m. All (λ q. IsProcedure (program_of w) q × (q.of ≡ None)) m.procedures) w.modules
+  pub typed : length w.types < 2 ^ 32 → AreTyped w
 
 pub no_world : IsWorld no_modules
 no_world = record {
   homes = tt;
   count = refl;
-  bodies = tt;
-  objects = λ k o there. absurd (none-some o there);
+  shapes = λ k o there. absurd (none-some o there);
   own = λ t high below. absurd (omega (arith, high, below));
-  bodied = λ t o found. absurd (none-some o found);
   table = basic_ready;
-  procedures = tt;
+  typed = λ few. record { bodies = tt; objects = λ k o there. absurd (none-some o there); procedures = tt };
 }
 
 module _ (w : World) (sound : IsWorld w) (text : List ℕ) (m : Tree) where

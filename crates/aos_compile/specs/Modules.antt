@@ -1,7 +1,7 @@
 -- Modules in load order, each in three passes of which the first that breaks a rule refuses: names; constants, types and
 -- headings; bodies.
 use Rattle.std.specs.Prelude.{ℕ, suc, ◌+◌, List, [], ◌∷◌, ◌++◌, length, map, drop, Bool, true, false, Option, Some, None, is_some, option_map, option_and_then, slice_get}
-use Rattle.std.specs.List.{zip}
+use Rattle.std.specs.List.{zip, list_any}
 use Rattle.std.specs.Str.Lossy.{utf8_lossy}
 use Rattle.aos_base.specs.declared.text.Pos.{Pos}
 use Rattle.aos_tree.specs.declared.name.Name.{Name}
@@ -13,7 +13,11 @@ use Rattle.aos_tree.specs.declared.decl.TypeExpr.TheVariants as type
 use Rattle.aos_tree.specs.declared.module.Module.{Module as Tree}
 use Rattle.aos_types.specs.declared.row.TypeId.{TypeId}
 use Rattle.aos_types.specs.declared.row.TypeRow.{TypeRow}
+use Rattle.aos_types.specs.declared.row.TypeRow.TheVariants as row
+use Rattle.aos_types.specs.Table.{row_of}
 use Rattle.aos_typed.specs.declared.tree.TType.{TType}
+use Rattle.aos_typed.specs.declared.tree.TType.TheVariants.{Named}
+use Rattle.aos_typed.specs.Numbers.{id_of}
 use Rattle.aos_typed.specs.Program.{Stat, Stats, Nothing, Variable, Parameter, Procedure as TypedProcedure, Method, ObjectType, Module, Program}
 use Rattle.aos_symbols.specs.declared.home.Parameter.{Parameter as Formal}
 use Rattle.aos_symbols.specs.declared.home.Gives.{Gives}
@@ -23,13 +27,13 @@ use Rattle.aos_symbols.specs.declared.home.ObjectScope.{ObjectScope}
 use Rattle.aos_symbols.specs.declared.env.Env.{Env}
 use Rattle.aos_symbols.specs.Judged.{Judged, judged, kept, bind, walk}
 use Rattle.aos_symbols.specs.Outcome.{Outcome, went, then, passed}
-use Rattle.aos_symbols.specs.Spelling.{word}
+use Rattle.aos_symbols.specs.Spelling.{word, is_active}
 use Rattle.aos_symbols.specs.Declarations.{Procedure, procedures, methods_in, all_procedures, type_defs, local_types, single_variables, formal_names}
 use Rattle.aos_symbols.specs.Scope.{Scope}
 use Rattle.aos_symbols.specs.Home.{Home, slot_at, texts_of}
 use Rattle.aos_symbols.specs.Names.{name_breaches}
 use Rattle.aos_symbols.specs.Env as env
-use Rattle.aos_check_expr.specs.Known.{type_of}
+use Rattle.aos_check_expr.specs.Known.{type_as, type_of}
 use Rattle.aos_check_decl.specs.Methods.{defined_type}
 use Rattle.aos_check_decl.specs.Pass.{declare}
 use Rattle.aos_check_stat.specs.Bodies.{listed, body_of}
@@ -55,21 +59,28 @@ abbrev pub object_body : TypeExpr → Option Block
 object_body (type.Object' p base shape row body end) = body
 object_body t = None
 
--- What a module says beside its types: a name, whether there is a body and its statements, and the methods, each with its slot. First
--- stand those that the module's own declarations define; then those of its procedures and methods, and those that are written elsewhere.
+-- a body has the modifier ACTIVE
+abbrev pub has_active : List ℕ → Option Block → Bool
+has_active text None = false
+has_active text (Some b) = list_any (is_active text) b.modifiers
+
+-- What a module says beside its types: a name, whether there is a body, whether that is active and its statements, and the methods, each
+-- with its slot. First stand those that the module's own declarations define; then those of its procedures and methods, and those that
+-- are written elsewhere.
 
 pub record Beside : Type 0 where
   pub name : List ℕ
   pub has_body : Bool
+  pub is_active : Bool
   pub body : Stats
   pub methods : List Method
 
 -- a type that isn't an object type with a name
 abbrev pub local_type : Env → TypeDef → Beside
-local_type e d = record { name = spelling e.here.text d.def.name; has_body = false; body = Nothing; methods = [] }
+local_type e d = record { name = spelling e.here.text d.def.name; has_body = false; is_active = false; body = Nothing; methods = [] }
 
 abbrev pub unnamed_type : Pos → Beside
-unnamed_type at = record { name = []; has_body = false; body = Nothing; methods = [] }
+unnamed_type at = record { name = []; has_body = false; is_active = false; body = Nothing; methods = [] }
 
 abbrev pub other_types : Env → Tree → List Beside
 other_types e m = map (local_type e) (local_types (all_procedures m.decls)) ++ map unnamed_type e.places
@@ -102,6 +113,7 @@ procedure_of text p s variables body =
     record {
       name = spelling text p.name;
       of = None;
+      is_initializer = is_some p.initializer;
       parameters = map (parameter_of text) (zip names s.parameters);
       locals = map (variable_of text) (zip (single_variables p.decls) (drop (length names) variables));
       result = result_of s.gives;
@@ -141,6 +153,7 @@ beside_in e first d (Some x) =
     kept (record {
       name = spelling e.here.text d.def.name;
       has_body = is_some (object_body d.value);
+      is_active = has_active e.here.text (object_body d.value);
       body = listed ss;
       methods = methods_of e first x.1 (methods_in d) bs;
     })))
@@ -152,11 +165,31 @@ object_in e first xs d = bind (beside_in e first d (defined_object e d)) (λ x. 
 abbrev pub first_scope : Tree → ℕ
 first_scope m = suc (length (type_defs m.decls))
 
--- The types of a program have their numbers in load order. The objects of each object type carry out its body, which is that of a
--- procedure with nothing of its own.
+-- The types of a program have their numbers in load order. The body of an object type is that of a procedure with nothing of its own;
+-- beside a procedure type stands what has its formals, and nothing else.
 
-abbrev pub body_beside : (type : ℕ) → Stats → TypedProcedure
-body_beside k body = record { name = []; of = Some k; parameters = []; locals = []; result = None; body = body }
+abbrev pub object_procedure : (type : ℕ) → Stats → TypedProcedure
+object_procedure k body =
+    record { name = []; of = Some k; is_initializer = false; parameters = []; locals = []; result = None; body = body }
+
+abbrev pub formal_of : Bool × TypeId → Parameter
+formal_of f = record { name = []; by_reference = f.0; of = type_as f.1 }
+
+abbrev pub pattern : List (Bool × TypeId) → Option TypeId → TypedProcedure
+pattern formals r =
+    record {
+      name = [];
+      of = None;
+      is_initializer = false;
+      parameters = map formal_of formals;
+      locals = [];
+      result = option_map type_as r;
+      body = Nothing;
+    }
+
+abbrev pub body_beside : Option TypeRow → (type : ℕ) → Stats → TypedProcedure
+body_beside (Some (row.Procedure formals r)) k body = pattern formals r
+body_beside r k body = object_procedure k body
 
 -- its methods are called on its objects
 abbrev pub method_beside : (type : ℕ) → Method → Method
@@ -168,7 +201,8 @@ object_of e k x =
       name = x.name;
       home = e.number;
       has_body = x.has_body;
-      body = body_beside k x.body;
+      is_active = x.is_active;
+      body = body_beside (row_of e.types (id_of (Named k))) k x.body;
       methods = map (method_beside k) x.methods;
     }
 

@@ -21,6 +21,7 @@ seen_beside x =
     record {
       name = string_bytes x.name;
       has_body = x.has_body;
+      is_active = x.is_active;
       body = seen_stats x.body.items;
       methods = map seen_method x.methods.items;
     }

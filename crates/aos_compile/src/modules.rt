@@ -1,8 +1,9 @@
 // Modules in load order, each in three passes.
 
 ghost use Rattle.std.specs.Prelude.{◌≡◌, ◌≤◌, ◌^◌, ◌+◌, ◌++◌, [], None, length, map, IfOk, IfErr, OnOk};
+ghost use Rattle.std.specs.Option.{option_copied};
 ghost use Rattle.aos_types.specs.declared.row.TypeRow.TheVariants as row;
-ghost use Rattle.aos_typed.specs.Seen.{seen_stat, seen_stats, seen_method, seen_module, seen_object, seen_procedure, seen_program};
+ghost use Rattle.aos_typed.specs.Seen.{seen_stat, seen_stats, seen_method, seen_module, seen_object, seen_parameter, seen_procedure, seen_program};
 ghost use Rattle.aos_symbols.specs.Breaches.{first};
 ghost use Rattle.aos_symbols.specs.Judged.{judged};
 ghost use Rattle.aos_symbols.specs.Outcome.{went, refused, passed, refusal_of};
@@ -14,16 +15,17 @@ ghost use Rattle.aos_compile.specs.Modules as judge;
 ghost use Rattle.aos_compile.specs.Seen.{seen_world, seen_beside, seen_bodies};
 
 use crate::compile_err::CompileErr;
-use crate::objects::{Beside, Bodies, bodies_of, number_behind, spelling_of};
+use crate::objects::{Beside, Bodies, bodies_of, number_at, number_behind, spelling_of};
 use crate::procedures::{count_types, procedures_of};
 use crate::texts::texts_of;
 use crate::variables::variables_of;
 use aos_base::{NoMemory, Refusal};
 use aos_check_decl::declare;
+use aos_check_expr::type_of;
 use aos_symbols::{Breach, Env, Home, check_names};
 use aos_tree::{Items, Module};
-use aos_typed::{Program, TMethod, TModule, TObject, TProcedure, TStat};
-use aos_types::{Basic, TypeRow, Types};
+use aos_typed::{Program, TMethod, TModule, TObject, TParameter, TProcedure, TStat};
+use aos_types::{Basic, TypeId, TypeRow, Types};
 use std::alloc::{AllocError, Global};
 
 /// The basic types, in the order of their numbers; ANY and the type of string constants stand behind them.
@@ -37,6 +39,9 @@ const BASIC_TYPES: [Basic; 8] = [
     Basic::Set,
     Basic::Nil,
 ];
+
+/// The types that are predeclared stand before all others in the table.
+const PREDECLARED_TYPES: u32 = 10;
 
 /// The modules that are elaborated, in load order: what they declare, the types of all, and their part of the typed program.
 #[derive(Drop)]
@@ -171,17 +176,78 @@ fn module_of(
     })
 }
 
-/// The body beside the type with a number in the program.
-fn body_beside(alloc: Global, number: u32, body: Vec<TStat>) -> TProcedure
-    ensures { seen_procedure result ≡ judge.body_beside number (seen_stats body.items) }
+/// The body of the object type with a number in the program.
+fn object_procedure(alloc: Global, number: u32, body: Vec<TStat>) -> TProcedure
+    ensures { seen_procedure result ≡ judge.object_procedure number (seen_stats body.items) }
 {
     TProcedure {
         name: String::new(alloc),
         of: Some(number),
+        is_initializer: false,
         parameters: Vec::new(alloc),
         locals: Vec::new(alloc),
         result: None,
         body,
+    }
+}
+
+/// A parameter of a procedure type, which has no name.
+fn formal_of(alloc: Global, formal: (bool, TypeId)) -> TParameter
+    ensures { seen_parameter result ≡ judge.formal_of formal }
+{
+    let (by_reference, of) = formal;
+    TParameter {
+        name: String::new(alloc),
+        by_reference,
+        of: type_of(Some(of)),
+    }
+}
+
+fn formals_of(alloc: Global, formals: &[(bool, TypeId)]) -> Result<Vec<TParameter>, AllocError>
+    ensures { IfOk result (λ ps. map seen_parameter ps.items ≡ map judge.formal_of formals.now) }
+{
+    let mut all = Vec::new(alloc);
+    for formal in formals {
+        all.push(formal_of(alloc, *formal))?;
+    }
+    Ok(all)
+}
+
+/// What stands for all procedures with the formals of a procedure type.
+fn pattern(
+    alloc: Global,
+    formals: &[(bool, TypeId)],
+    gives: Option<TypeId>,
+) -> Result<TProcedure, AllocError>
+    ensures { IfOk result (λ p. seen_procedure p ≡ judge.pattern formals.now gives) }
+{
+    Ok(TProcedure {
+        name: String::new(alloc),
+        of: None,
+        is_initializer: false,
+        parameters: formals_of(alloc, formals)?,
+        locals: Vec::new(alloc),
+        result: match gives {
+            Some(of) => Some(type_of(Some(of))),
+            None => None,
+        },
+        body: Vec::new(alloc),
+    })
+}
+
+/// The body beside the type with this row and a number in the program.
+fn body_beside(
+    alloc: Global,
+    row: Option<&TypeRow>,
+    number: u32,
+    body: Vec<TStat>,
+) -> Result<TProcedure, AllocError>
+    ensures { IfOk result (λ p. seen_procedure p ≡
+        judge.body_beside (option_copied row.entry) number (seen_stats body.items)) }
+{
+    match row {
+        Some(TypeRow::Procedure(formals, gives)) => pattern(alloc, formals.as_slice(), *gives),
+        _ => Ok(object_procedure(alloc, number, body)),
     }
 }
 
@@ -225,14 +291,17 @@ fn object_of(
     let Beside {
         name,
         has_body,
+        is_active,
         body,
         methods,
     } = beside;
+    let row = env.row(Some(TypeId(number_at(number, PREDECLARED_TYPES)?)));
     Ok(TObject {
         name,
         home: env.number,
         has_body,
-        body: body_beside(alloc, number, body),
+        is_active,
+        body: body_beside(alloc, row, number, body)?,
         methods: methods_beside(alloc, number, methods)?,
     })
 }

@@ -1,12 +1,14 @@
 // The third pass over a module: the bodies of its object types and their methods, those of its procedures, and its own.
 
 ghost use Rattle.std.specs.Prelude.{◌≡◌, ◌+◌, ◌++◌, suc, [], Some, true, false, is_some, length, OnOk, IfOk, map};
+ghost use Rattle.std.specs.List.{list_any};
 ghost use Rattle.std.specs.String.{string_bytes};
 ghost use Rattle.aos_typed.specs.Seen.{seen_stat, seen_stats, seen_method, seen_procedure};
 ghost use Rattle.aos_symbols.specs.Breaches.{first_after};
 ghost use Rattle.aos_symbols.specs.Judged.{walk};
 ghost use Rattle.aos_symbols.specs.Declarations.{type_defs, procedures, methods_in, all_procedures as procedures_of_all, local_types as types_of_procedures, seen_procedures, seen_types};
 ghost use Rattle.aos_symbols.specs.Env as env_of;
+ghost use Rattle.aos_symbols.specs.Spelling.{is_active as is_active_modifier};
 ghost use Rattle.aos_check_stat.specs.Bodies.{body_of as body_of_env, listed};
 ghost use Rattle.aos_compile.specs.Modules as judge;
 ghost use Rattle.aos_compile.specs.Seen.{seen_beside, seen_bodies};
@@ -16,19 +18,20 @@ use aos_base::Pos;
 use aos_check_decl::defined_type;
 use aos_check_stat::body_of;
 use aos_symbols::{
-    Breach, Env, Home, ObjectScope, all_procedures, inner_decls, type_definitions, word,
+    Breach, Env, Home, ObjectScope, all_procedures, inner_decls, is_active, type_definitions, word,
 };
-use aos_tree::{Block, Decl, Module, Name, Proc, TypeDef, TypeExpr};
+use aos_tree::{Block, Decl, Modifier, Module, Name, Proc, TypeDef, TypeExpr};
 use aos_typed::{TMethod, TProcedure, TStat};
 use aos_types::TypeId;
 use std::alloc::{AllocError, Global};
 
-/// What a module says beside one of its types: its name, which is empty where it has none, whether it has a body and the statements
-/// of that, and its methods.
+/// What a module says beside one of its types: its name, which is empty where it has none, whether it has a body, whether that is
+/// active and its statements, and its methods.
 #[derive(Drop)]
 pub struct Beside {
     pub name: String,
     pub has_body: bool,
+    pub is_active: bool,
     pub body: Vec<TStat>,
     pub methods: Vec<TMethod>,
 }
@@ -79,7 +82,7 @@ pub fn number_behind(number: u32) -> Result<u32, AllocError>
 }
 
 /// The number behind so many others.
-fn number_at(number: u32, behind: u32) -> Result<u32, AllocError>
+pub fn number_at(number: u32, behind: u32) -> Result<u32, AllocError>
     ensures { IfOk result (λ n. n ≡ number + behind) }
 {
     match number.checked_add(behind) {
@@ -210,6 +213,33 @@ fn has_body(of: &TypeExpr) -> bool
     }
 }
 
+/// Whether one of these modifiers is ACTIVE.
+fn has_modifier(text: &[u8], modifiers: &[Modifier]) -> bool
+    ensures { result ≡ list_any (is_active_modifier text.now) modifiers.now }
+{
+    modifiers.iter().any(|modifier| is_active(text, modifier))
+}
+
+/// Whether a body is active.
+fn is_active_body(text: &[u8], body: &Option<Block>) -> bool
+    ensures { result ≡ judge.has_active text.now body.now }
+{
+    match body {
+        Some(body) => has_modifier(text, body.modifiers.as_slice()),
+        None => false,
+    }
+}
+
+/// Whether a type has a body that is active.
+fn has_active(text: &[u8], of: &TypeExpr) -> bool
+    ensures { result ≡ judge.has_active text.now (judge.object_body of.now) }
+{
+    match of {
+        TypeExpr::Object(_, _, _, body, _) => is_active_body(text, body),
+        _ => false,
+    }
+}
+
 /// What stands beside the object type that a definition defines.
 fn object_beside(
     alloc: Global,
@@ -233,6 +263,7 @@ fn object_beside(
     Ok(Beside {
         name,
         has_body: has_body(&def.value),
+        is_active: has_active(env.here.text(), &def.value),
         body,
         methods,
     })
@@ -245,6 +276,7 @@ fn local_type(alloc: Global, env: &Env<'_>, def: &TypeDef) -> Result<Beside, All
     Ok(Beside {
         name: spelling_of(alloc, env.here.text(), def.def.name)?,
         has_body: false,
+        is_active: false,
         body: Vec::new(alloc),
         methods: Vec::new(alloc),
     })
@@ -360,6 +392,7 @@ fn add_unnamed(alloc: Global, objects: &mut Vec<Beside>, places: &[Pos]) -> Resu
         objects.push(Beside {
             name: String::new(alloc),
             has_body: false,
+            is_active: false,
             body: Vec::new(alloc),
             methods: Vec::new(alloc),
         })?;

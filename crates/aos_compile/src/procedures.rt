@@ -130,6 +130,7 @@ fn procedure_of(
     Ok(TProcedure {
         name,
         of: None,
+        is_initializer: proc.initializer.is_some(),
         parameters,
         locals,
         result: result_of(signature.gives),

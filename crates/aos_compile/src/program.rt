@@ -17,8 +17,8 @@ use aos_image::link;
 use aos_typed::Program;
 use std::alloc::Global;
 
-/// The most object types of which an image is made. No texts that are compiled have as many.
-const MOST_OBJECT_TYPES: usize = 67_108_864;
+/// The most types of which an image is made, with those that are predeclared. No texts that are compiled have as many.
+const MOST_TYPES: usize = 67_108_874;
 
 /// The program of texts, and its image.
 fn with_image(
@@ -37,7 +37,7 @@ fn with_image(
     ensures memory { IfErr result (λ e. e ≡ CompileErr.NoMemory) }
 {
     law_of_typing();
-    if program.objects.len() > MOST_OBJECT_TYPES {
+    if program.types.len() > MOST_TYPES {
         return Err(CompileErr::NoMemory);
     }
     let bodies = bodies_of(alloc, &program)?;
