@@ -59,7 +59,6 @@ PROCEDURE F(): A; END F; TYPE A = ARRAY 2 OF CHAR; => 16: rule 25: type not allo
 PROCEDURE P; TYPE O = OBJECT END; END P; => 23: rule 26: object type not at module level
 PROCEDURE P; VAR o: OBJECT BEGIN {ACTIVE} END; END P; => 21: rule 26: object type not at module level
 VAR v: RECORD o: OBJECT END END; => 18: rule 99: not built yet
-VAR p: PROCEDURE; => 8: rule 99: not built yet
 TYPE A = U; => 10: rule 14: unknown name
 CONST c = 1; TYPE A = c; => 23: rule 16: name of another kind
 VAR a: ARRAY 2 OF U; => 19: rule 14: unknown name

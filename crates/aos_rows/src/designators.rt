@@ -138,7 +138,6 @@ i := m[0](A)[1] => 10: rule 41: wrong type test
 NEW(r) => 1: rule 47: wrong NEW
 NEW(a) => 1: rule 47: wrong NEW
 NEW(a[0]) => 1: rule 47: wrong NEW
-NEW(os[0]) => 1: rule 99: not built yet
 i := o => 3: rule 31: value doesn't fit";
 
 // What another module declares.

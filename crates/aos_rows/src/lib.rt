@@ -2,6 +2,8 @@
 #![tactic(auto)]
 
 #[cfg(test)]
+mod creation;
+#[cfg(test)]
 mod declarations;
 #[cfg(test)]
 mod designators;
@@ -27,3 +29,5 @@ mod runs;
 mod statements;
 #[cfg(test)]
 mod texts;
+#[cfg(test)]
+mod values;

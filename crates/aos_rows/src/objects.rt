@@ -115,6 +115,10 @@ NEW(b); a := b | i := a.F() DIV b.b => 6";
 const INNER_TRAPS: &str = "\
 TYPE A = OBJECT VAR o: A; PROCEDURE P(k: LONGINT); BEGIN IF k = 0 THEN Out.Char(\"z\") ELSE | o.P(k - 1) | END END P; END A; VAR a: A; BEGIN NEW(a); NEW(a.o); a.P(5) => 1 0
 TYPE A = OBJECT PROCEDURE F(k: LONGINT): LONGINT; BEGIN | IF k = 1 THEN RETURN 1 END | END F; END A; VAR a: A; i: LONGINT; BEGIN NEW(a); i := a.F(1) + a.F(2) => 10 0
+TYPE A = OBJECT PROCEDURE &I; BEGIN | HALT(4) | END I; END A; VAR a: A; BEGIN NEW(a) => 8 4
+TYPE A = OBJECT BEGIN | HALT(5) | END A; B = OBJECT (A) END B; VAR b: B; BEGIN NEW(b) => 8 5
+TYPE F = PROCEDURE (k: LONGINT); VAR v: F; PROCEDURE D(k: LONGINT); BEGIN IF k > 0 THEN | v(k - 1) | END END D; BEGIN v := D; D(510); D(511) => 11 0
+TYPE F = PROCEDURE (): LONGINT; VAR f: F; i: LONGINT; PROCEDURE N(): LONGINT; BEGIN END N; BEGIN f := N; | i := f() |  => 10 0
 TYPE A = OBJECT PROCEDURE F(): LONGINT; END F; END A; VAR a: A; i: LONGINT; BEGIN NEW(a); | i := a.F() |  => 10 0
 TYPE A = OBJECT PROCEDURE D(k: LONGINT); BEGIN IF k > 0 THEN | SELF.D(k - 1) | END END D; END A; VAR a: A; BEGIN NEW(a); a.D(510); a.D(511) => 11 0
 TYPE A = OBJECT PROCEDURE D(k: LONGINT); END D; END A; B = OBJECT (A) PROCEDURE D(k: LONGINT); BEGIN | SELF.D(k + 1) | END D; END B; VAR a: A; b: B; BEGIN NEW(b); a := b; a.D(1) => 11 0
@@ -199,8 +203,6 @@ B = OBJECT PROCEDURE P(x: zz); BEGIN END P; END B; => 27: rule 14: unknown name
 B = OBJECT VAR T: SET; PROCEDURE P(x: T); BEGIN END P; END B; T = CHAR; => 39: rule 16: name of another kind
 B = OBJECT PROCEDURE P(): R; BEGIN END P; END B; R = RECORD x: LONGINT END; => 27: rule 25: type not allowed
 B = OBJECT TYPE T = LONGINT; END B; => 12: rule 99: not built yet
-B = OBJECT PROCEDURE &Init; BEGIN END Init; END B; => 22: rule 99: not built yet
-B = OBJECT BEGIN END B; => 5: rule 99: not built yet
 B = ARRAY 2 OF OBJECT END; => 16: rule 99: not built yet
 B = OBJECT VAR o: OBJECT END; END B; => 19: rule 26: object type not at module level
 B = OBJECT PROCEDURE P; TYPE T = OBJECT END T; BEGIN END P; END B; => 34: rule 26: object type not at module level
@@ -235,7 +237,7 @@ a.Q => 2: rule 42: wrong selector
 a.F => 1: rule 36: wrong call
 a.F() => 1: rule 36: wrong call
 i := a.P(1) => 6: rule 36: wrong call
-i := a.F => 6: rule 99: not built yet
+i := a.F => 3: rule 31: value doesn't fit
 a.P => 1: rule 34: number of arguments
 a.P(1, 2) => 1: rule 34: number of arguments
 a.P(k) => 5: rule 35: argument type
@@ -291,13 +293,13 @@ Out.Ln()() => 1: rule 36: wrong call
 INC(i)() => 1: rule 36: wrong call
 i := X(1) => 6: rule 36: wrong call
 i := X(1).P => 6: rule 36: wrong call
-i := G => 6: rule 99: not built yet
+i := G => 3: rule 31: value doesn't fit
 G := NIL => 1: rule 32: not a variable
 NEW(G()) => 1: rule 47: wrong NEW
 G().o.zz => 6: rule 42: wrong selector
 c := c.P() => 6: rule 36: wrong call
 c := c.Q(1).o => 6: rule 36: wrong call
-i := c.F => 6: rule 99: not built yet
+i := c.F => 3: rule 31: value doesn't fit
 i := c.F(1) => 3: rule 31: value doesn't fit
 c.F(1)(C) => 1: rule 36: wrong call
 i := c.F(1)(LONGINT) => 12: rule 41: wrong type test";
@@ -306,15 +308,15 @@ const CALLED: &str = "MODULE M; IMPORT Out;
 TYPE A = OBJECT VAR n: LONGINT; PROCEDURE P; BEGIN END P; PROCEDURE F(): LONGINT; BEGIN RETURN 1 END F; END A; VAR a: A; i: LONGINT; v: ANY; k: BOOLEAN; PROCEDURE T(x: LONGINT); END T; BEGIN 
 ";
 
-// Methods that are no values, and what is no method.
+// Methods as values, and what is no method.
 const UNCALLED: &str = "\
-i := a.F => 6: rule 99: not built yet
-v := a.P => 6: rule 99: not built yet
-k := a.P = NIL => 6: rule 99: not built yet
-T(a.F) => 3: rule 99: not built yet
-i := a.F + 1 => 6: rule 99: not built yet
-Out.Int(a.F, 0) => 9: rule 99: not built yet
-IF a.F = 1 THEN END => 4: rule 99: not built yet
+i := a.F => 3: rule 31: value doesn't fit
+v := a.P => 3: rule 31: value doesn't fit
+k := a.P = a => 10: rule 30: operand types
+T(a.F) => 3: rule 35: argument type
+i := a.F + 1 => 10: rule 30: operand types
+Out.Int(a.F, 0) => 9: rule 35: argument type
+IF a.F = 1 THEN END => 8: rule 30: operand types
 a.P := a.P => 1: rule 32: not a variable
 NEW(a.P) => 1: rule 47: wrong NEW
 i := a.F()[0] => 11: rule 42: wrong selector
@@ -491,16 +493,11 @@ TYPE P = POINTER TO OBJECT END; => 21: rule 25: type not allowed
 TYPE A = OBJECT PROCEDURE P; VAR o: OBJECT END; END P; END A; => 37: rule 26: object type not at module level
 TYPE A = OBJECT VAR v: ARRAY 2 OF OBJECT END; END A; => 35: rule 26: object type not at module level
 TYPE A = OBJECT CONST k = 1; TYPE T = SET; VAR x: T; END A; => 30: rule 99: not built yet
-TYPE A = OBJECT VAR x: SET; BEGIN x := {} END A; => 10: rule 99: not built yet
-TYPE A = OBJECT PROCEDURE &I(k: SET); END I; END A; => 27: rule 99: not built yet
 PROCEDURE &P; END P; => 11: rule 24: wrong initializer
 TYPE A = POINTER TO B; B = OBJECT END B; => 21: rule 25: type not allowed
 TYPE A = OBJECT END A; PROCEDURE F(): A; BEGIN RETURN NIL END F; VAR x: ARRAY 2 OF OBJECT (A) END; => 84: rule 99: not built yet
-TYPE A = OBJECT BEGIN {ACTIVE} END A; B = OBJECT (A) END B; VAR a: A; b: B; BEGIN NEW(a); NEW(b) => 91: rule 99: not built yet
 TYPE A = OBJECT PROCEDURE P; BEGIN {EXCLUSIVE} END P; END A; => 37: rule 99: not built yet
 TYPE A = OBJECT PROCEDURE P; BEGIN AWAIT(TRUE) END P; END A; => 36: rule 99: not built yet
-TYPE A = OBJECT PROCEDURE P; BEGIN {ACTIVE} END P; END A; => 37: rule 99: not built yet
-TYPE A = OBJECT VAR p: PROCEDURE; END A; => 24: rule 99: not built yet
 TYPE A = OBJECT PROCEDURE P(): R; END P; END A; R = RECORD END; => 32: rule 25: type not allowed
 TYPE A = OBJECT VAR p: POINTER TO SET; END A; => 35: rule 25: type not allowed
 TYPE A = OBJECT VAR v: ARRAY OF SET; END A; => 24: rule 21: open array not allowed
@@ -546,11 +543,11 @@ TYPE A = OBJECT PROCEDURE P; BEGIN FOR P := 1 TO 2 DO END END P; END A; => 40: r
 TYPE A = OBJECT PROCEDURE P; BEGIN WITH P: A DO END END P; END A; => 41: rule 49: wrong WITH
 TYPE A = OBJECT CONST k = 1; PROCEDURE P; BEGIN k := 2 END P; END A; => 49: rule 32: not a variable
 TYPE A = OBJECT CONST k = 1; PROCEDURE P; BEGIN FOR k := 1 TO 2 DO END END P; END A; => 53: rule 48: wrong FOR
-TYPE A = OBJECT PROCEDURE P(): LONGINT; BEGIN RETURN P END P; END A; => 54: rule 99: not built yet
-TYPE A = OBJECT PROCEDURE P(k: LONGINT); BEGIN P(P) END P; END A; => 50: rule 99: not built yet
+TYPE A = OBJECT PROCEDURE P(): LONGINT; BEGIN RETURN P END P; END A; => 47: rule 40: wrong RETURN
+TYPE A = OBJECT PROCEDURE P(k: LONGINT); BEGIN P(P) END P; END A; => 50: rule 35: argument type
 TYPE A = OBJECT PROCEDURE P; VAR a: A; BEGIN NEW(a, 1) END P; END A; => 46: rule 34: number of arguments
-TYPE A = OBJECT PROCEDURE P; BEGIN P.x END P; END A; => 36: rule 36: wrong call
-TYPE A = OBJECT PROCEDURE P; BEGIN P[0] END P; END A; => 36: rule 36: wrong call
+TYPE A = OBJECT PROCEDURE P; BEGIN P.x END P; END A; => 37: rule 42: wrong selector
+TYPE A = OBJECT PROCEDURE P; BEGIN P[0] END P; END A; => 37: rule 42: wrong selector
 TYPE A = OBJECT PROCEDURE P; BEGIN P() () END P; END A; => 36: rule 36: wrong call
 TYPE A = OBJECT PROCEDURE P; BEGIN SELF.P.x := 1 END P; END A; => 42: rule 42: wrong selector
 TYPE A = OBJECT PROCEDURE P(): A; BEGIN RETURN P().x END P; END A; => 51: rule 42: wrong selector
@@ -605,7 +602,7 @@ VAR i: LONGINT; PROCEDURE Inc(VAR k: LONGINT); END Inc; BEGIN A.New(A.t.o) => 69
 VAR i: LONGINT; PROCEDURE Inc(VAR k: LONGINT); END Inc; BEGIN Inc(A.t.y) => 67: rule 33: read only
 VAR i: LONGINT; PROCEDURE Inc(VAR k: LONGINT); END Inc; BEGIN Inc(A.t.a[1]) => 67: rule 33: read only
 VAR i: LONGINT; PROCEDURE Inc(VAR k: LONGINT); END Inc; BEGIN i := A.t.z => 72: rule 15: name not exported
-VAR i: LONGINT; PROCEDURE Inc(VAR k: LONGINT); END Inc; BEGIN i := A.t.Total => 68: rule 99: not built yet
+VAR i: LONGINT; PROCEDURE Inc(VAR k: LONGINT); END Inc; BEGIN i := A.t.Total => 65: rule 31: value doesn't fit
 VAR i: LONGINT; PROCEDURE Inc(VAR k: LONGINT); END Inc; BEGIN A.t.Total() => 63: rule 36: wrong call
 VAR i: LONGINT; PROCEDURE Inc(VAR k: LONGINT); END Inc; BEGIN i := A.t.c => 71: rule 42: wrong selector
 VAR i: LONGINT; PROCEDURE Inc(VAR k: LONGINT); END Inc; BEGIN i := A.u.v => 71: rule 42: wrong selector
@@ -645,7 +642,7 @@ TYPE T = OBJECT (A.t) END T; BEGIN => 20: rule 16: name of another kind";
 
 // What stands before a statement whose turns are counted.
 const STEPPED: &str =
-    "MODULE M; IMPORT Out; TYPE C = OBJECT VAR n, m: LONGINT; o: C; v: ARRAY 3 OF LONGINT; PROCEDURE P(k: LONGINT); BEGIN n := k END P; PROCEDURE E; END E; PROCEDURE F(): LONGINT; BEGIN RETURN n END F; PROCEDURE Me(): C; BEGIN RETURN SELF END Me; PROCEDURE Own; BEGIN P(1); SELF.P(2) END Own; PROCEDURE Inn; BEGIN INC(n); o := SELF; m := F() + n; v[n] := o.m END Inn; PROCEDURE Loop; BEGIN FOR n := 1 TO 2 DO END END Loop; PROCEDURE Vr(VAR k: LONGINT); BEGIN k := 3 END Vr; END C; D = OBJECT (C) PROCEDURE E; BEGIN E^ END E; PROCEDURE F(): LONGINT; BEGIN RETURN F^() + 1 END F; PROCEDURE Q; BEGIN NEW(o); WITH o: C DO o.n := 1 END END Q; END D; A = OBJECT PROCEDURE P; END P; BEGIN {ACTIVE} P END A; VAR c: C; d: D; i: LONGINT; x: ANY; a: A; PROCEDURE G(): C; BEGIN RETURN c END G; BEGIN NEW(c); NEW(d); NEW(d.o); c.o := d; x := d; ";
+    "MODULE M; IMPORT Out; TYPE C = OBJECT VAR n, m: LONGINT; o: C; v: ARRAY 3 OF LONGINT; PROCEDURE P(k: LONGINT); BEGIN n := k END P; PROCEDURE E; END E; PROCEDURE F(): LONGINT; BEGIN RETURN n END F; PROCEDURE Me(): C; BEGIN RETURN SELF END Me; PROCEDURE Own; BEGIN P(1); SELF.P(2) END Own; PROCEDURE Inn; BEGIN INC(n); o := SELF; m := F() + n; v[n] := o.m END Inn; PROCEDURE Loop; BEGIN FOR n := 1 TO 2 DO END END Loop; PROCEDURE Vr(VAR k: LONGINT); BEGIN k := 3 END Vr; END C; D = OBJECT (C) PROCEDURE E; BEGIN E^ END E; PROCEDURE F(): LONGINT; BEGIN RETURN F^() + 1 END F; PROCEDURE Q; BEGIN NEW(o); WITH o: C DO o.n := 1 END END Q; END D; A = OBJECT PROCEDURE P; END P; BEGIN {ACTIVE} P END A; K = PROCEDURE (k: LONGINT); I = OBJECT VAR n: LONGINT; PROCEDURE &Init(k: LONGINT); BEGIN n := k END Init; BEGIN n := 1 END I; J = OBJECT (I) BEGIN {ACTIVE} n := 2 END J; VAR c: C; d: D; i: LONGINT; x: ANY; a: A; f: K; b: I; j: J; PROCEDURE G(): C; BEGIN RETURN c END G; PROCEDURE H(k: LONGINT); END H; BEGIN NEW(c); NEW(d); NEW(d.o); c.o := d; x := d; ";
 
 // A statement, and how many steps are one too few and enough for the whole.
 const STEPS: &str = "\
@@ -676,7 +673,14 @@ WITH x: D DO x.E END => 28 | 29
 d.Q => 31 | 32
 NEW(a) => 29 | 30
 IF c = c.o THEN END => 23 | 24
-x := c(C) => 22 | 23";
+x := c(C) => 22 | 23
+f := c.P => 22 | 23
+f := c.P; f(2) => 29 | 30
+f := H; f(i) => 26 | 27
+IF f = NIL THEN END => 21 | 22
+NEW(b, i) => 32 | 33
+NEW(c.o) => 23 | 24
+NEW(j, 3) => 33 | 34";
 
 // Two activities add 1 by a method of one object.
 const LOST: &str =
@@ -742,7 +746,8 @@ fn extends_through_modules(rt: HostRuntime) -> Result<(), Fail> {
     Ok(())
 }
 
-// Each call is a turn, each field that is read or stored, and each end of a method; SELF is none.
+// Each call is a turn, also of an initializer or a body, each field that is read or stored, and each end of a method; SELF is none, nor is
+// a value that is made.
 #[test]
 fn counts_steps_of_methods(rt: HostRuntime) -> Result<(), Fail> {
     let alloc = rt.alloc();

@@ -99,8 +99,8 @@ Z(t) => 3: rule 35: argument type
 S(\"abcd\") => 3: rule 35: argument type
 S(\"abc\") => 3: rule 99: not built yet
 Y(q) => 3: rule 35: argument type
-i := P => 6: rule 99: not built yet
-i := F => 6: rule 99: not built yet
+i := P => 3: rule 31: value doesn't fit
+i := F => 3: rule 31: value doesn't fit
 i := F(1).x => 10: rule 42: wrong selector
 P(1).x => 1: rule 36: wrong call";
 

@@ -50,7 +50,7 @@ fn refuses_texts(rt: HostRuntime) -> Result<(), Fail> {
         ),
         (
             "MODULE M; VAR x: SET; PROCEDURE P; END P; BEGIN x := P END M.",
-            "M.Mod:1:54: rule 99: not built yet\n",
+            "M.Mod:1:51: rule 31: value doesn't fit\n",
         ),
         (
             "MODULE M; BEGIN AWAIT(TRUE) END M.",
@@ -65,7 +65,7 @@ fn refuses_texts(rt: HostRuntime) -> Result<(), Fail> {
             "M.Mod:1:34: rule 42: wrong selector\n",
         ),
         (
-            "MODULE M;\nVAR a: PROCEDURE;\nEND M.",
+            "MODULE M;\nVAR a: OBJECT END;\nEND M.",
             "M.Mod:2:8: rule 99: not built yet\n",
         ),
         (
