@@ -48,6 +48,8 @@ pub data Ask (P V K C : Type 0) : Type 0 where
   Ends : (result : Option V) → Ask P V K C  -- the end of the frame, which has no answer
   Makes : (type : ℕ) → (lengths : List V) → Ask P V K C  -- a new object of this type, an open array of these lengths, which is the answer
   Starts : (object : V) → Ask P V K C  -- the activity of an object
+  Enters : Ask P V K C  -- the region of the frame's lock, that of the object or of the module in which its text stands
+  Leaves : Ask P V K C  -- the end of that region
   PutsInt : (value places : V) → Ask P V K C
   PutsChar : (code : V) → Ask P V K C
   PutsString : (from : P) → (length : V) → Ask P V K C

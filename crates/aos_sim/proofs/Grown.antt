@@ -4,7 +4,7 @@ use Rattle.std.specs.Prelude.{unsigned_abs}
 use Rattle.aos_base.specs.declared.place.Root.{Root}
 use Rattle.aos_base.specs.declared.place.Root.TheVariants.{Frame as FrameRoot, Module as ModuleRoot, Object as ObjectRoot}
 use Rattle.aos_base.specs.Rooted.{Made, by_number}
-use Rattle.aos_base.specs.Question.{Val, Asks, Traps, feed, Reads, Stores, Copies, PutsText, ComparesTexts, Calls, Ends, Makes, Starts, PutsInt, PutsChar, PutsString, PutsLn, PutsNothing, Places, Lengths, Opens, Sizes, Tests}
+use Rattle.aos_base.specs.Question.{Val, Asks, Traps, feed, Reads, Stores, Copies, PutsText, ComparesTexts, Calls, Ends, Makes, Starts, Enters, Leaves, PutsInt, PutsChar, PutsString, PutsLn, PutsNothing, Places, Lengths, Opens, Sizes, Tests}
 use Rattle.aos_types.specs.Shape.{Shape}
 use Rattle.aos_base.specs.Number.{array_lengths}
 use Rattle.aos_types.specs.Content.{Content, Scalar, placed, overlay, first_content}
@@ -86,6 +86,8 @@ module _ (program : Program) (following : List ℕ) where
   answer_grown (Ends result) f fs s = ends_grown following result fs s
   answer_grown (Makes t vs) f fs s = makes_with_grown (array_lengths (map number_of vs)) t f fs s
   answer_grown (Starts v) f fs s = starts_grown following v f fs s
+  answer_grown Enters f fs s = none s.made
+  answer_grown Leaves f fs s = none s.made
   answer_grown (PutsInt v n) f fs s = prints_grown following (written v n) f fs s
   answer_grown (Reads t p) f fs s = none s.made
   answer_grown (PutsChar v) f fs s = none s.made

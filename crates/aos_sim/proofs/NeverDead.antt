@@ -6,7 +6,7 @@ use Rattle.aos_base.specs.Machine.{Choice, execution}
 use Rattle.aos_base.specs.Observation.{observation}
 use Rattle.aos_base.specs.Number.{array_lengths}
 use Rattle.aos_base.specs.Rooted.{Made, by_number}
-use Rattle.aos_base.specs.Question.{Val, Asks, Traps, feed, Reads, Stores, Copies, PutsText, ComparesTexts, Calls, Ends, Makes, Starts, PutsInt, PutsChar, PutsString, PutsLn, PutsNothing, Places, Lengths, Opens, Sizes, Tests}
+use Rattle.aos_base.specs.Question.{Val, Asks, Traps, feed, Reads, Stores, Copies, PutsText, ComparesTexts, Calls, Ends, Makes, Starts, Enters, Leaves, PutsInt, PutsChar, PutsString, PutsLn, PutsNothing, Places, Lengths, Opens, Sizes, Tests}
 use Rattle.aos_types.specs.Shape.{Shape}
 use Rattle.aos_types.specs.Content.{Content, first_content}
 use Rattle.aos_types.specs.World.{read}
@@ -20,6 +20,7 @@ use Rattle.aos_typed.specs.Store.{Store, has_room, made_in}
 use Rattle.aos_typed.specs.Routines.{Routine, routines}
 use Rattle.aos_typed.specs.Meaning.{Question, Doing, Item, Do, Rounds, Round, Until, After, Into, Exits, Returns, leave, item_of, value_of}
 use Rattle.aos_typed.specs.Source.{here_of, Frame, Turned, answered, done, all_rooted, begins, ends, finishes, tests, settles, first_value, made_shape, written, prints, makes, makes_with, starts, copies, stores_text, is_deep, enters, called_frame, calls, calm, noted, answer, goes, item_turn, turn_at, opened, source, first_state, first_store, first_frames}
+use Rattle.aos_sim.proofs.NeverLost.{Comes, comes_fed, value_comes, item_comes, calm_comes}
 use Rattle.aos_concurrency.specs.Spot.{NoOne}
 use Rattle.aos_concurrency.specs.Waits.{MayWait}
 use Rattle.aos_concurrency.proofs.Itself.{Any, anything}
@@ -78,40 +79,42 @@ module _ (program : Program) (following : List ℕ) where
       let m : Made = record { type = t; lengths = ns } in
       let c = first_content (first_value program) (made_shape program.types m) in makes_lively following (has_room m c s) m c f fs s
 
-  answer_lively : (q : Question) (f : Frame) (fs : List Frame) (s : Store) → Lively (answer program following q f fs s)
-  answer_lively (Ends result) f fs s = ends_lively following result fs s
-  answer_lively (Makes t vs) f fs s = makes_with_lively (array_lengths (map number_of vs)) t f fs s
-  answer_lively (Starts v) f fs s = starts_lively following v f fs s
-  answer_lively (PutsInt v n) f fs s = prints_lively following (written v n) f fs s
-  answer_lively (Reads t p) f fs s = λ h. h
-  answer_lively (Stores p v) f fs s = λ h. h
-  answer_lively (PutsChar v) f fs s = λ h. h
-  answer_lively PutsNothing f fs s = λ h. h
-  answer_lively PutsLn f fs s = λ h. h
-  answer_lively (Copies t from to) f fs s =
+  answer_lively : {A : Type 0} (q : Question) (k : Value → Doing A) → Comes (Asks q k) → (f : Frame) (fs : List Frame) (s : Store) → Lively (answer program following q f fs s)
+  answer_lively (Ends result) k c f fs s = ends_lively following result fs s
+  answer_lively (Makes t vs) k c f fs s = makes_with_lively (array_lengths (map number_of vs)) t f fs s
+  answer_lively (Starts v) k c f fs s = starts_lively following v f fs s
+  answer_lively Enters k c f fs s = absurd c
+  answer_lively Leaves k c f fs s = absurd c
+  answer_lively (PutsInt v n) k c f fs s = prints_lively following (written v n) f fs s
+  answer_lively (Reads t p) k c f fs s = λ h. h
+  answer_lively (Stores p v) k c f fs s = λ h. h
+  answer_lively (PutsChar v) k c f fs s = λ h. h
+  answer_lively PutsNothing k c f fs s = λ h. h
+  answer_lively PutsLn k c f fs s = λ h. h
+  answer_lively (Copies t from to) k c f fs s =
       let x = all_rooted (f ∷ fs) s in
       copies_lively following (variable_shape program.types (id_of t)) (read from.root from.path x) (read to.root to.path x) to (answered done f ∷ fs) s
-  answer_lively (PutsText strict from n to room) f fs s =
+  answer_lively (PutsText strict from n to room) k c f fs s =
       let x = all_rooted (f ∷ fs) s in
       let text = fitted strict (unsigned_abs (number_of room)) (text_in (read from.root from.path x)) in
       stores_text_lively following text (read to.root to.path x) to f fs s
-  answer_lively (ComparesTexts r a n b m) f fs s = λ h. h
-  answer_lively (Calls how p vs) f fs s = calls_lively (by_number p (routines program)) vs f fs s
-  answer_lively (PutsString a n) f fs s = λ h. h
-  answer_lively (Places a) f fs s = λ h. h
-  answer_lively (Lengths a) f fs s = λ h. h
-  answer_lively (Opens v) f fs s = λ h. h
-  answer_lively (Sizes v d) f fs s = λ h. h
-  answer_lively (Tests v t) f fs s = λ h. h
+  answer_lively (ComparesTexts r a n b m) k c f fs s = λ h. h
+  answer_lively (Calls how p vs) k c f fs s = calls_lively (by_number p (routines program)) vs f fs s
+  answer_lively (PutsString a n) k c f fs s = λ h. h
+  answer_lively (Places a) k c f fs s = λ h. h
+  answer_lively (Lengths a) k c f fs s = λ h. h
+  answer_lively (Opens v) k c f fs s = λ h. h
+  answer_lively (Sizes v d) k c f fs s = λ h. h
+  answer_lively (Tests v t) k c f fs s = λ h. h
 
-  tests_lively : (d : Doing Value) (if_true if_false : Turned) (f : Frame) (fs : List Frame) (s : Store) → Lively if_true → Lively if_false → Lively (tests program following d if_true if_false f fs s)
-  tests_lively (Val v) if_true if_false f fs s h k = by (is_true v)
+  tests_lively : (d : Doing Value) (if_true if_false : Turned) (f : Frame) (fs : List Frame) (s : Store) → Comes d → Lively if_true → Lively if_false → Lively (tests program following d if_true if_false f fs s)
+  tests_lively (Val v) if_true if_false f fs s c h k = by (is_true v)
     where
       by : (b : Bool) → Lively (if b then if_true else if_false)
       by true = h
       by false = k
-  tests_lively (Asks q g) if_true if_false f fs s h k = answer_lively q f fs s
-  tests_lively (Traps n c) if_true if_false f fs s h k = λ x. x
+  tests_lively (Asks q g) if_true if_false f fs s c h k = answer_lively q g c f fs s
+  tests_lively (Traps n code) if_true if_false f fs s c h k = λ x. x
 
   finishes_lively : (function : Bool) (f : Frame) (fs : List Frame) (s : Store) → Lively (finishes program following function f fs s)
   finishes_lively true f fs s h = h
@@ -125,21 +128,24 @@ module _ (program : Program) (following : List ℕ) where
   settles_lively (Until at b e ∷ is) f fs s =
       let test = value_of program (here_of f fs) e in
       tests_lively (calm program.types (made_in s) f.variables test) (settles program following is f fs s) (begins following at (Do (Repeat at b e) ∷ is) f fs s)
-      (record f { items = Until at b e ∷ is; answers = Some (noted program.types (made_in s) f.variables test) }) fs s (settles_lively is f fs s) (λ h. h)
+      (record f { items = Until at b e ∷ is; answers = Some (noted program.types (made_in s) f.variables test) }) fs s
+      (calm_comes program.types (made_in s) f.variables test (value_comes program (here_of f fs) e)) (settles_lively is f fs s) (λ h. h)
 
-  goes_lively : (d : Doing After) (rest : List Item) (f : Frame) (fs : List Frame) (s : Store) → Lively (goes program following d rest f fs s)
-  goes_lively (Val (Into is)) rest f fs s = settles_lively (is ++ rest) f fs s
-  goes_lively (Val Exits) rest f fs s = settles_lively (leave rest) f fs s
-  goes_lively (Val (Returns r)) rest f fs s = ends_lively following r fs s
-  goes_lively (Asks q k) rest f fs s = answer_lively q f fs s
-  goes_lively (Traps n c) rest f fs s = λ h. h
+  goes_lively : (d : Doing After) (rest : List Item) (f : Frame) (fs : List Frame) (s : Store) → Comes d → Lively (goes program following d rest f fs s)
+  goes_lively (Val (Into is)) rest f fs s c = settles_lively (is ++ rest) f fs s
+  goes_lively (Val Exits) rest f fs s c = settles_lively (leave rest) f fs s
+  goes_lively (Val (Returns r)) rest f fs s c = ends_lively following r fs s
+  goes_lively (Asks q k) rest f fs s c = answer_lively q k c f fs s
+  goes_lively (Traps n code) rest f fs s c = λ h. h
 
   item_lively : (answers : Option (List Value)) (is : List Item) (f : Frame) (fs : List Frame) (s : Store) → Lively (item_turn program following answers is f fs s)
   item_lively None is f fs s = settles_lively is f fs s
   item_lively (Some vs) [] f fs s = λ h. h
   item_lively (Some vs) (i ∷ is) f fs s =
-      let left = feed vs (item_of program (here_of f fs) i) in
+      let doing = item_of program (here_of f fs) i in
+      let left = feed vs doing in
       goes_lively (calm program.types (made_in s) f.variables left) is (record f { answers = Some (vs ++ noted program.types (made_in s) f.variables left) }) fs s
+      (calm_comes program.types (made_in s) f.variables left (comes_fed vs doing (item_comes program (here_of f fs) i)))
 
   turn_at_lively : (fs : List Frame) (s : Store) → Lively (turn_at program following fs s)
   turn_at_lively [] s = λ h. h

@@ -15,7 +15,7 @@ use Rattle.aos_base.specs.Operators.{or_trap, or_undefined, set_of, on_sets, nat
 use Rattle.aos_base.specs.Machine.{Choice, execution}
 use Rattle.aos_base.specs.Observation.{Observation, observation}
 use Rattle.aos_base.specs.Rooted.{Made, by_number}
-use Rattle.aos_base.specs.Question.{Val, Asks, Traps, bind, ask, feed, Reads, Stores, Copies, PutsText, ComparesTexts, Calls, Ends, Makes, Starts, PutsInt, PutsChar, PutsString, PutsLn, PutsNothing, Places, Lengths, Opens, Sizes, Tests}
+use Rattle.aos_base.specs.Question.{Val, Asks, Traps, bind, ask, feed, Reads, Stores, Copies, PutsText, ComparesTexts, Calls, Ends, Makes, Starts, Enters as EntersRegion, Leaves as LeavesRegion, PutsInt, PutsChar, PutsString, PutsLn, PutsNothing, Places, Lengths, Opens, Sizes, Tests}
 use Rattle.aos_types.specs.declared.row.TypeRow.{TypeRow}
 use Rattle.aos_types.specs.Shape.{Shape}
 use Rattle.aos_types.specs.Content.{Content, first_content}
@@ -100,20 +100,26 @@ binary_gives In a b = undefined_gives (set_of b) _ (λ x. trap_gives 14 _ (omega
 
 -- Expressions and statements
 
--- whatever is answered, it comes to no other trap
-abbrev Comes : {A : Type 0} → Doing A → Type 0
+-- whatever is answered, it comes to no other trap; and it asks for no region
+abbrev pub Comes : {A : Type 0} → Doing A → Type 0
 Comes (Val a) = Unit {0}
+Comes (Asks EntersRegion f) = ⊥
+Comes (Asks LeavesRegion f) = ⊥
 Comes (Asks q f) = (v : Value) → Comes (f v)
 Comes (Traps n c) = IsKnown n
 
 comes_then : {A B : Type 0} (t : Doing A) (k : A → Doing B) → Comes t → ((a : A) → Comes (k a)) → Comes (bind t k)
 comes_then (Val a) k first each = each a
+comes_then (Asks EntersRegion f) k first each = absurd first
+comes_then (Asks LeavesRegion f) k first each = absurd first
 comes_then (Asks q f) k first each = λ v. comes_then (f v) k (first v) each
 comes_then (Traps n c) k first each = first
 
-comes_fed : {A : Type 0} (vs : List Value) (t : Doing A) → Comes t → Comes (feed vs t)
+pub comes_fed : {A : Type 0} (vs : List Value) (t : Doing A) → Comes t → Comes (feed vs t)
 comes_fed [] t h = h
 comes_fed (v ∷ vs) (Val a) h = omega arith
+comes_fed (v ∷ vs) (Asks EntersRegion f) h = absurd h
+comes_fed (v ∷ vs) (Asks LeavesRegion f) h = absurd h
 comes_fed (v ∷ vs) (Asks q f) h = comes_fed vs (f v) (h v)
 comes_fed (v ∷ vs) (Traps n c) h = h
 
@@ -252,7 +258,7 @@ module _ (program : Program) (here : Here) where
     receiver_comes (Upper t k) = tt
     receiver_comes (Through e t) = value_comes e
 
-    value_comes : (e : Expr) → Comes (value_of program here e)
+    pub value_comes : (e : Expr) → Comes (value_of program here e)
     value_comes (Lit l) = tt
     value_comes SelfRef = tt
     value_comes (Read t p) = comes_then (place_of program here p) _ (place_comes p) (λ s v. tt)
@@ -340,7 +346,7 @@ module _ (program : Program) (here : Here) where
   stat_comes (WithRecord at p body) = comes_then (place_of program here p) _ (place_comes p) (λ s. tt)
   stat_comes (Out at call) = out_comes call
 
-  item_comes : (i : Item) → Comes (item_of program here i)
+  pub item_comes : (i : Item) → Comes (item_of program here i)
   item_comes (Do s) = stat_comes s
   item_comes (Rounds at w p last step b) = comes_then _ _ (value_comes (Read (type.Integer w) p)) (λ v. tt)
   item_comes (Round s) = stat_comes s
@@ -348,7 +354,7 @@ module _ (program : Program) (here : Here) where
 
 -- what is left behind silent questions
 module _ (rows : List TypeRow) (made : ℕ → Option Made) (c : Content Value) where
-  calm_comes : {A : Type 0} (t : Doing A) → Comes t → Comes (calm rows made c t)
+  pub calm_comes : {A : Type 0} (t : Doing A) → Comes t → Comes (calm rows made c t)
   calm_comes (Val a) h = tt
   calm_comes (Traps n code) h = h
   calm_comes (Asks (Places s) k) h = calm_comes (k (known c s)) (h (known c s))
@@ -367,6 +373,8 @@ module _ (rows : List TypeRow) (made : ℕ → Option Made) (c : Content Value) 
   calm_comes (Asks (Ends r) k) h = h
   calm_comes (Asks (Makes t vs) k) h = h
   calm_comes (Asks (Starts v) k) h = h
+  calm_comes (Asks EntersRegion k) h = h
+  calm_comes (Asks LeavesRegion k) h = h
   calm_comes (Asks (PutsInt v n) k) h = h
   calm_comes (Asks (PutsChar v) k) h = h
   calm_comes (Asks (PutsString a n) k) h = h
@@ -432,6 +440,8 @@ module _ (program : Program) (following : List ℕ) where
   answer_known (Ends result) f fs s = ends_known following result fs s
   answer_known (Makes t vs) f fs s = makes_with_known (array_lengths (map number_of vs)) t f fs s
   answer_known (Starts v) f fs s = starts_known following v f fs s
+  answer_known EntersRegion f fs s = tt
+  answer_known LeavesRegion f fs s = tt
   answer_known (PutsInt v n) f fs s = prints_known following (written v n) f fs s
   answer_known (Reads t p) f fs s = tt
   answer_known (Stores p v) f fs s = tt

@@ -5,7 +5,7 @@ use Rattle.std.proofs.lemmas.Grind.{reverse_onto}
 use Rattle.std.proofs.Math.Dec.{leb-zero, leb-suc-zero, leb-suc-suc}
 use Rattle.std.specs.Prelude.{pos, nat_le, Option, None, is_some, slice_get, map, reverse, take}
 use Rattle.aos_base.specs.declared.text.Pos.{Pos}
-use Rattle.aos_base.specs.Question.{Tree, Val, Asks, Traps, feed, Reads, Stores, Copies, PutsText, ComparesTexts, ByName, Calls, Ends, Makes, Starts, PutsInt, PutsChar, PutsString, PutsNothing, PutsLn, Places, Lengths, Opens, Sizes, Tests}
+use Rattle.aos_base.specs.Question.{Tree, Val, Asks, Traps, feed, Reads, Stores, Copies, PutsText, ComparesTexts, ByName, Calls, Ends, Makes, Starts, Enters, Leaves, PutsInt, PutsChar, PutsString, PutsNothing, PutsLn, Places, Lengths, Opens, Sizes, Tests}
 use Rattle.aos_base.specs.Rooted.{Made}
 use Rattle.aos_base.specs.declared.place.Root.TheVariants.{Object as ObjectRoot}
 use Rattle.aos_base.specs.Operators.{flag}
@@ -118,6 +118,8 @@ module _ (tables : Tables) where
   past (Ends r) x at k s next = Traps 0 0
   past (Makes t ns) x at k s next = next 0 (at + 1) k (x ∷ s)
   past (Starts v) x at k s next = next 0 (at + 1) k s
+  past Enters x at k s next = next 0 (at + 1) k s
+  past Leaves x at k s next = next 0 (at + 1) k s
   past (PutsInt v n) x at k s next = next 0 (at + 1) k s
   past (PutsChar v) x at k s next = next 0 (at + 1) k s
   past (PutsString a n) x at k s next = next 0 (at + 1) k s
@@ -235,6 +237,8 @@ past_answered tables cells (Calls how p vs) v at k s next e = absurd (cc)
 past_answered tables cells (Ends r) v at k s next e = absurd (cc)
 past_answered tables cells (Makes t ns) v at k s next e = refl
 past_answered tables cells (Starts x) v at k s next e = absurd (cc)
+past_answered tables cells Enters v at k s next e = absurd (cc)
+past_answered tables cells Leaves v at k s next e = absurd (cc)
 past_answered tables cells (PutsInt x n) v at k s next e = absurd (cc)
 past_answered tables cells (PutsChar x) v at k s next e = absurd (cc)
 past_answered tables cells (PutsString a n) v at k s next e = absurd (cc)
@@ -254,6 +258,8 @@ past_same tables (Calls how p vs) x at k s next next' e = e (if gives_result (nu
 past_same tables (Ends r) x at k s next next' e = refl
 past_same tables (Makes t ns) x at k s next next' e = e (x ∷ s)
 past_same tables (Starts v) x at k s next next' e = e s
+past_same tables Enters x at k s next next' e = e s
+past_same tables Leaves x at k s next next' e = e s
 past_same tables (PutsInt v n) x at k s next next' e = e s
 past_same tables (PutsChar v) x at k s next next' e = e s
 past_same tables (PutsString a n) x at k s next next' e = e s
@@ -390,6 +396,8 @@ answered_noted types made cells (Calls how p vs) e = refl
 answered_noted types made cells (Ends r) e = refl
 answered_noted types made cells (Makes t ns) e = refl
 answered_noted types made cells (Starts v) e = refl
+answered_noted types made cells Enters e = refl
+answered_noted types made cells Leaves e = refl
 answered_noted types made cells (PutsInt v n) e = refl
 answered_noted types made cells (PutsChar v) e = refl
 answered_noted types made cells (PutsString a n) e = refl
@@ -415,6 +423,8 @@ object_unnoted cells (Calls how p vs) e = absurd (cc)
 object_unnoted cells (Ends r) e = absurd (cc)
 object_unnoted cells (Makes t ns) e = absurd (cc)
 object_unnoted cells (Starts v) e = absurd (cc)
+object_unnoted cells Enters e = absurd (cc)
+object_unnoted cells Leaves e = absurd (cc)
 object_unnoted cells (PutsInt v n) e = absurd (cc)
 object_unnoted cells (PutsChar v) e = absurd (cc)
 object_unnoted cells (PutsString a n) e = absurd (cc)

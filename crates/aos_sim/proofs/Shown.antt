@@ -42,7 +42,7 @@ use Rattle.aos_sim.proofs.References.{comes_same}
 use Rattle.aos_sim.proofs.Typed.{has_types}
 use Rattle.aos_sim.proofs.Runs.{tables_of}
 use Rattle.aos_sim.proofs.Does.{HasTypes, HasShapes, IsFrameOf, IsSelf}
-use Rattle.aos_sim.proofs.States.{world_of, IsFew, AreFew, number_get, SameStore, Placed, RoutinesRun, Follows, Waiting, SameFrames, Same, body_same, body_shown, opened_same, same_grows}
+use Rattle.aos_sim.proofs.States.{world_of, IsFew, AreFew, number_get, SameStore, Placed, RoutinesRun, Follows, Waiting, SameFrames, Same, frames_closed, body_same, body_shown, opened_same, same_grows}
 use Rattle.aos_sim.proofs.Routines.{module_there, object_there}
 use Rattle.aos_sim.proofs.Bodies.{alike_at, range_get, range_past, has_shapes, home_known, routines_run}
 use Rattle.aos_sim.proofs.Grown.{turn_grown}
@@ -202,7 +202,7 @@ module _ (p : Program) (image : Image) (well : IsWellTyped p) (ok : IsCodeOf p i
         };
     past = λ s mem w fs gs goes stores h. record { now = h.behind goes; behind = λ k. absurd k };
     verdict = λ s mem l c fs gs stores h. refl;
-    regions = λ s mem w fs gs may stores h. refl;
+    regions = λ s mem w fs gs may stores h. sym (frames_closed p image s.made fs.frames gs.frames h.now.frames);
     position = λ s mem w fs gs may stores h. position_same p image shaped s.made (S.opened p fs).frames (I.opened gs).frames (opened_same p image run s.made fs gs h.now).frames;
     anew = λ s mem w fs gs may stores h. tt;
     body = λ s mem o fs gs stores h. record { now = object_body_same s mem o stores; behind = λ k. absurd k };

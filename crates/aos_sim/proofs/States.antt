@@ -26,6 +26,7 @@ use Rattle.aos_code.specs.declared.instr.Cell.{Cell}
 use Rattle.aos_code.specs.declared.instr.Cell.TheVariants.{Num}
 use Rattle.aos_code.specs.declared.image.Image.{Image}
 use Rattle.aos_code.specs.Memory.{Memory}
+use Rattle.aos_code.specs.Numbered.{numbered}
 use Rattle.aos_code.specs.Silent.{Keeps, Stack}
 use Rattle.aos_code.specs.Machine as I
 use Rattle.aos_code.specs.Machine.{code_of}
@@ -86,8 +87,8 @@ with_answer w (Some t) v s = cell_of w v ∷ s
 
 module _ (program : Program) (image : Image) where
   -- a frame is one of the routine with its procedure's number, of the object of the other side's, has begun the same statement, and
-  -- counts alike
-  pub record SamePlace (made : ℕ → Option Made) (procedure home object : ℕ) (at : Option Pos) (function : Bool) (shape : Shape Sort) (counted of : ℕ) (begun : Option Pos) (many : ℕ) : Type 0 where
+  -- counts alike; its region isn't open
+  pub record SamePlace (made : ℕ → Option Made) (procedure home object : ℕ) (at : Option Pos) (function : Bool) (shape : Shape Sort) (counted of : ℕ) (begun : Option Pos) (many : ℕ) (is_open : Bool) : Type 0 where
     pub routine : Routine
     pub there : by_number procedure (routines program) ≡ Some routine
     pub home_is : routine.home ≡ home
@@ -95,11 +96,12 @@ module _ (program : Program) (image : Image) where
     pub at_is : begun ≡ at
     pub gives_is : function ≡ gives routine.own
     pub counted_is : many ≡ counted
+    pub closed_is : is_open ≡ false
     pub frame : IsFrameOf program routine.own shape
     pub self : IsSelf program made (self_type routine.own) object
 
   abbrev pub Placed : (ℕ → Option Made) → S.Frame → I.Frame → Type 0
-  Placed made f g = SamePlace made g.procedure f.home f.object f.at f.gives f.shape f.counted g.object g.at g.counted
+  Placed made f g = SamePlace made g.procedure f.home f.object f.at f.gives f.shape f.counted g.object g.at g.counted g.is_open
 
   -- as objects are made
   abbrev pub place_grows : (made made' : ℕ → Option Made) → ((o : ℕ) (m : Made) → made o ≡ Some m → made' o ≡ Some m) → (f : S.Frame) (g : I.Frame) → Placed made f g → Placed made' f g
@@ -112,6 +114,7 @@ module _ (program : Program) (image : Image) where
         at_is = h.at_is;
         gives_is = h.gives_is;
         counted_is = h.counted_is;
+        closed_is = h.closed_is;
         frame = h.frame;
         self = self_grows program made made' up (self_type h.routine.own) f.object h.self;
       }
@@ -180,6 +183,23 @@ module _ (program : Program) (image : Image) where
   Follows (m ∷ ms) (p ∷ ps) =
       ((x : Module) × (slice_get program.modules m ≡ Some x) × (by_number p (routines program) ≡ Some (record { home = m; own = None; body = x.body })))
       × Follows ms ps
+
+  -- no region of theirs is open
+  pub waiting_closed : (made : List Made) (result : Option TType) (fs : List S.Frame) (gs : List I.Frame) → Waiting made result fs gs → I.regions_of image gs ≡ []
+  waiting_closed made result [] [] h = refl
+  waiting_closed made result [] (g ∷ gs) h = absurd h
+  waiting_closed made result (f ∷ fs) [] h = absurd h
+  waiting_closed made result (f ∷ fs) (g ∷ gs) h =
+      ap (λ b. if b then I.lock_in (numbered image.shapes.items g.procedure) g ∷ I.regions_of image gs else I.regions_of image gs) h.0.place.closed_is
+      ∙ waiting_closed made (result_of h.0.place.routine.own) fs gs h.1
+
+  pub frames_closed : (made : List Made) (fs : List S.Frame) (gs : List I.Frame) → SameFrames made fs gs → I.regions_of image gs ≡ []
+  frames_closed made [] [] h = refl
+  frames_closed made [] (g ∷ gs) h = absurd h
+  frames_closed made (f ∷ fs) [] h = absurd h
+  frames_closed made (f ∷ fs) (g ∷ gs) h =
+      ap (λ b. if b then I.lock_in (numbered image.shapes.items g.procedure) g ∷ I.regions_of image gs else I.regions_of image gs) h.0.place.closed_is
+      ∙ waiting_closed made (result_of h.0.place.routine.own) fs gs h.1
 
   -- all of an activity, where these objects were made
   pub record Same (made : List Made) (x : S.Frames) (y : I.Frames) : Type 0 where
@@ -318,7 +338,7 @@ module _ (program : Program) (image : Image) where
   pub body_same : RoutinesRun → (made : List Made) (o p : ℕ) (r : Routine) → by_number p (routines program) ≡ Some r → false ≡ gives r.own → IsFrameOf program r.own Nothing → IsSelf program (λ o. by_number o made) (self_type r.own) o → SameFrames made (S.body_frame r.home o r.body ∷ []) (I.body_frame o p ∷ [])
   body_same runs made o p r there proper frame self = (
     record {
-      place = record { routine = r; there = there; home_is = refl; object_is = refl; at_is = refl; gives_is = proper; counted_is = refl; frame = frame; self = self };
+      place = record { routine = r; there = there; home_is = refl; object_is = refl; at_is = refl; gives_is = proper; counted_is = refl; closed_is = refl; frame = frame; self = self };
       remains = (refl, runs p r there (record { below = 0; self = o }));
     },
     tt,

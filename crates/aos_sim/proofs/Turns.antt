@@ -12,7 +12,7 @@ use Rattle.aos_base.specs.Text.{order}
 use Rattle.aos_base.specs.declared.text.Pos.{Pos}
 use Rattle.aos_base.specs.declared.kernel.Did.{Did}
 use Rattle.aos_base.specs.declared.kernel.Did.TheVariants.{Went, Ended as NoFrame, Trapped}
-use Rattle.aos_base.specs.Question.{Val, Asks, Traps, bind, feed, Reads, Stores, Copies, PutsText, ComparesTexts, Calls, Ends, Makes, Starts, PutsInt, PutsChar, PutsString, PutsNothing, PutsLn, Places, Lengths, Opens, Sizes, Tests, Manner}
+use Rattle.aos_base.specs.Question.{Val, Asks, Traps, bind, feed, Reads, Stores, Copies, PutsText, ComparesTexts, Calls, Ends, Makes, Starts, Enters, Leaves, PutsInt, PutsChar, PutsString, PutsNothing, PutsLn, Places, Lengths, Opens, Sizes, Tests, Manner}
 use Rattle.aos_base.specs.Rooted.{Made, Rooted, by_number, spliced}
 use Rattle.aos_types.specs.Table.{row_of as type_row, is_open}
 use Rattle.aos_types.specs.Shape.{Shape, One, leaves}
@@ -274,7 +274,7 @@ module _ (program : Program) (image : Image) where
             follows = follows;
             frames = (
               record {
-                place = record { routine = place.routine; there = place.there; home_is = place.home_is; object_is = place.object_is; at_is = refl; gives_is = place.gives_is; counted_is = place.counted_is; frame = place.frame; self = place.self };
+                place = record { routine = place.routine; there = place.there; home_is = place.home_is; object_is = place.object_is; at_is = refl; gives_is = place.gives_is; counted_is = place.counted_is; closed_is = place.closed_is; frame = place.frame; self = place.self };
                 remains = lasting is (run_from (b.at + 1) b.keeps []) (item i) b.does;
               },
               below,
@@ -653,6 +653,7 @@ module _ (program : Program) (image : Image) where
                       at_is = refl;
                       gives_is = refl;
                       counted_is = called_counted program typed.ranked ps ms s.made (top ∷ fs) s cells shows routine vs x.valid.2 n shape shape_is;
+                      closed_is = refl;
                       frame = called_frame_of program typed.ranked ps ms s.made (top ∷ fs) s cells shows routine vs x.valid.2 n shape shape_is few;
                       self = self_is;
                     };
@@ -694,6 +695,8 @@ module _ (program : Program) (image : Image) where
       work_alike (Starts v) x =
           subst (λ z. (y : Asking (Starts z)) → Alike (S.starts ms z top fs s) (I.starts ps (cell_of now z) y.at y.keeps y.stack low gs mem)) (sym x.valid.1)
           (starts_alike x.valid.0) x
+      work_alike Enters x = absurd x.valid
+      work_alike Leaves x = absurd x.valid
       work_alike (PutsInt v n) x =
           subst (λ o. Alike (S.prints ms (S.written v n) top fs s) (I.prints ps o x.at x.keeps x.stack low gs mem)) (written_alike now v n x.valid.0 x.valid.1)
           (prints_alike (S.written v n) x.at x.keeps x.stack (done_so (PutsInt v n) x tt refl))

@@ -6,14 +6,16 @@ use Rattle.aos_base.specs.declared.text.Pos.{Pos}
 use Rattle.aos_base.specs.declared.place.Root.{Root}
 use Rattle.aos_base.specs.declared.place.Root.TheVariants.{Frame as FrameRoot, Module as ModuleRoot, Object as ObjectRoot}
 use Rattle.aos_base.specs.declared.kernel.Did.{Did}
-use Rattle.aos_base.specs.declared.kernel.Did.TheVariants.{Went, Ended, Start, Trapped}
+use Rattle.aos_base.specs.declared.kernel.Did.TheVariants.{Went, Ended, Enter, Leave, Start, Trapped}
+use Rattle.aos_base.specs.declared.kernel.LockName.{LockName}
+use Rattle.aos_base.specs.declared.kernel.LockName.TheVariants.{Module as ModuleLock, Object as ObjectLock}
 use Rattle.aos_base.specs.declared.kernel.Verdict.TheVariants.{Fails}
 use Rattle.aos_base.specs.Number.{places_of, justified, holds, array_lengths}
 use Rattle.aos_base.specs.Text.{order}
 use Rattle.aos_base.specs.Book.{Where}
 use Rattle.aos_base.specs.Machine.{Turn, Machine, State, start_of}
 use Rattle.aos_base.specs.Rooted.{Made, Rooted, by_number, change_from_last}
-use Rattle.aos_base.specs.Question.{Val, Asks, Traps, feed, Reads, Stores, Copies, PutsText, ComparesTexts, Calls, Ends, Makes, Starts, PutsInt, PutsChar, PutsString, PutsNothing, PutsLn, Places, Lengths, Opens, Sizes, Tests}
+use Rattle.aos_base.specs.Question.{Val, Asks, Traps, feed, Reads, Stores, Copies, PutsText, ComparesTexts, Calls, Ends, Makes, Starts, Enters, Leaves, PutsInt, PutsChar, PutsString, PutsNothing, PutsLn, Places, Lengths, Opens, Sizes, Tests}
 use Rattle.aos_types.specs.declared.row.Basic.{Basic}
 use Rattle.aos_types.specs.declared.row.Basic.TheVariants as basic
 use Rattle.aos_types.specs.declared.row.TypeRow.{TypeRow}
@@ -58,6 +60,14 @@ pub record Frames : Type 0 where
 
 abbrev pub Turned : Type 0
 Turned = Turn Store Frames
+
+-- the lock of a frame's regions: that of the object whose method or body it is, or else of its module
+abbrev pub own_lock : (home object : ℕ) → LockName
+own_lock home zero = ModuleLock home
+own_lock home (suc k) = ObjectLock (suc k)
+
+abbrev pub lock_of : Frame → LockName
+lock_of f = own_lock f.home f.object
 
 -- where the statements of a frame above these are carried out
 abbrev pub here_of : Frame → List Frame → Here
@@ -304,6 +314,8 @@ module _ (p : Program) (following : List ℕ) where
   answer (Ends result) f fs s = ends following result fs s
   answer (Makes t vs) f fs s = makes_with (array_lengths (map number_of vs)) t f fs s
   answer (Starts v) f fs s = starts following v f fs s
+  answer Enters f fs s = leaves following (Enter (lock_of f)) (f ∷ fs) s
+  answer Leaves f fs s = leaves following (Leave (lock_of f)) (f ∷ fs) s
   answer (PutsInt v n) f fs s = prints following (written v n) f fs s
   answer (PutsChar v) f fs s = puts following (unsigned_abs (number_of v) ∷ []) (answered done f ∷ fs) s
   answer PutsNothing f fs s = puts following [] (answered done f ∷ fs) s
