@@ -6,7 +6,9 @@ use Rattle.aos_base.specs.declared.number.Relation.{Relation}
 use Rattle.aos_base.specs.declared.place.Root.{Root}
 use Rattle.aos_base.specs.declared.place.Root.TheVariants.{Frame as FrameRoot, Module as ModuleRoot, Object as ObjectRoot}
 use Rattle.aos_base.specs.declared.kernel.Did.{Did}
-use Rattle.aos_base.specs.declared.kernel.Did.TheVariants.{Went, Ended as NoFrame, Start, Trapped}
+use Rattle.aos_base.specs.declared.kernel.Did.TheVariants.{Went, Ended as NoFrame, Enter, Leave, Await, Start, Trapped}
+use Rattle.aos_base.specs.declared.kernel.LockName.{LockName}
+use Rattle.aos_base.specs.declared.kernel.LockName.TheVariants.{Module as ModuleLock, Object as ObjectLock}
 use Rattle.aos_base.specs.declared.kernel.Verdict.TheVariants.{Fails as NeverHolds}
 use Rattle.aos_base.specs.Number.{places_of, justified, holds, array_lengths}
 use Rattle.aos_base.specs.Operators.{natural, flag}
@@ -14,7 +16,7 @@ use Rattle.aos_base.specs.Text.{order, ended_within, cut_within}
 use Rattle.aos_base.specs.Book.{Where}
 use Rattle.aos_base.specs.Machine.{Turn, Machine, State, start_of}
 use Rattle.aos_base.specs.Rooted.{Made, Rooted, by_number, from_last, change_from_last, change_at, change_by_number, at_root, load, load_all, spliced}
-use Rattle.aos_base.specs.Question.{Reads, Stores, Copies, PutsText, ComparesTexts, Calls, Ends, Makes, Starts, PutsInt, PutsChar, PutsString, PutsNothing, PutsLn, Places, Lengths, Opens, Sizes, Tests}
+use Rattle.aos_base.specs.Question.{Reads, Stores, Copies, PutsText, ComparesTexts, Calls, Ends, Makes, Starts, Enters, Leaves, PutsInt, PutsChar, PutsString, PutsNothing, PutsLn, Places, Lengths, Opens, Sizes, Tests}
 use Rattle.aos_code.specs.declared.instr.Cell.{Cell}
 use Rattle.aos_code.specs.declared.instr.Cell.TheVariants.{Num, Ref, Call as CallCell, Place}
 use Rattle.aos_code.specs.declared.instr.Kind.{Kind}
@@ -37,6 +39,7 @@ pub record Frame : Type 0 where
   pub object : ℕ
   pub next : ℕ
   pub at : Option Pos
+  pub is_open : Bool
   pub cells : List Cell
   pub counted : ℕ
   pub keeps : Keeps
@@ -46,6 +49,15 @@ pub record Frame : Type 0 where
 pub record Frames : Type 0 where
   pub following : List ℕ
   pub frames : List Frame
+
+-- the lock of a frame's regions: that of the object on which its procedure is called, or else of the module in which that stands
+abbrev pub own_lock : (method : Bool) → (home object : ℕ) → LockName
+own_lock true m o = ObjectLock o
+own_lock false m o = ModuleLock m
+
+abbrev pub lock_in : Option ProcShape → Frame → LockName
+lock_in None f = own_lock false 0 f.object
+lock_in (Some shape) f = own_lock shape.method shape.module f.object
 
 -- where the instructions of a frame above these stand
 abbrev pub here_of : Frame → List Frame → Here
@@ -295,6 +307,7 @@ module _ (following : List ℕ) where
         object = o;
         next = 0;
         at = None;
+        is_open = false;
         cells = h.cells ++ (map first_cell (drop (length h.cells) f.kinds.items) ++ h.copies);
         counted = f.counted + length h.copies;
         keeps = λ c. Num (pos 0);
@@ -336,6 +349,8 @@ module _ (following : List ℕ) where
     answer (Ends result) at k s f fs mem = ends result fs mem
     answer (Makes t vs) at k s f fs mem = makes_of (numbered types t) (numbers_in vs) t at k s f fs mem
     answer (Starts v) at k s f fs mem = starts v at k s f fs mem
+    answer Enters at k s f fs mem = leaves (Enter (lock_in (numbered shapes f.procedure) f)) (before at k s f ∷ fs) mem
+    answer Leaves at k s f fs mem = leaves (Leave (lock_in (numbered shapes f.procedure) f)) (before at k s f ∷ fs) mem
     answer (PutsInt v n) at k s f fs mem = prints (written v n) at k s f fs mem
     answer (PutsChar v) at k s f fs mem = writes_out (option_map (λ c. c ∷ []) (code_in v)) at k s f fs mem
     answer (PutsString a n) at k s f fs mem = writes_out (text_at a n (rooted (f ∷ fs) mem)) at k s f fs mem
@@ -362,7 +377,7 @@ module _ (following : List ℕ) where
 
 -- a frame at the beginning of a body, which has no variables
 abbrev pub body_frame : (object procedure : ℕ) → Frame
-body_frame o p = record { procedure = p; object = o; next = 0; at = None; cells = []; counted = 0; keeps = λ c. Num (pos 0); stack = [] }
+body_frame o p = record { procedure = p; object = o; next = 0; at = None; is_open = false; cells = []; counted = 0; keeps = λ c. Num (pos 0); stack = [] }
 
 abbrev pub code_in_body : Option Body → List Instr
 code_in_body None = []
@@ -399,10 +414,26 @@ abbrev pub or_below : Option Pos → ℕ → Where → Where
 or_below None home below = below
 or_below (Some p) home below = record { module_ = home; pos = p }
 
--- past the work that was left to the kernel, to which silent work has come
+-- whether a frame's region is open behind the work that was left to the kernel
+abbrev pub opens : Question → Bool → Bool
+opens Enters is_open = true
+opens Leaves is_open = false
+opens q is_open = is_open
+
+-- past that work, to which silent work has come
 abbrev pub past_stop : Stop → Frame → Frame
-past_stop (Work q at k s) f = record f { next = at + 1; keeps = k; stack = s }
+past_stop (Work q at k s) f = record f { next = at + 1; is_open = opens q f.is_open; keeps = k; stack = s }
 past_stop (Ended end k) f = f
+
+-- work behind which the frame goes on, once the kernel has done it; no instruction awaits a condition
+abbrev pub is_passed : Did → Bool
+is_passed Went = false
+is_passed NoFrame = false
+is_passed (Enter l) = true
+is_passed (Leave l) = true
+is_passed (Await l c) = false
+is_passed (Start o) = true
+is_passed (Trapped n c) = false
 
 module _ (image : Image) where
   abbrev pub code_of : ℕ → List Instr
@@ -436,6 +467,11 @@ module _ (image : Image) where
   abbrev pub past : Frames → Frames
   past fs = let now = opened fs in record now { frames = past_all now.frames }
 
+  -- the locks of the open regions, the latest entered first
+  abbrev pub regions_of : List Frame → List LockName
+  regions_of [] = []
+  regions_of (f ∷ fs) = if f.is_open then lock_in (numbered image.shapes.items f.procedure) f ∷ regions_of fs else regions_of fs
+
   -- the frames with which an object's activity begins
   abbrev pub body_of : Memory → ℕ → Frames
   body_of mem o = object_frames o (option_and_then (numbered image.types.items) (type_of_object o mem))
@@ -459,7 +495,7 @@ module _ (image : Image) where
         turn = turn;
         past = past;
         verdict = λ mem fs c. NeverHolds;
-        regions = λ fs. [];
+        regions = λ fs. regions_of fs.frames;
         position = position;
         body = body_of;
         priority = λ mem o. 2;

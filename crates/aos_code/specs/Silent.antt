@@ -7,7 +7,7 @@ use Rattle.aos_base.specs.declared.place.Root.{Root}
 use Rattle.aos_base.specs.declared.place.Root.TheVariants.{Frame as FrameRoot, Module as ModuleRoot, Object as ObjectRoot}
 use Rattle.aos_base.specs.declared.operator.Given.{Given}
 use Rattle.aos_base.specs.declared.operator.Given.TheVariants.{Number, Trap, Undefined}
-use Rattle.aos_base.specs.Question.{Ask, ByName, Reads, Stores, Copies, PutsText, ComparesTexts, Calls, Ends, Makes, Starts, PutsInt, PutsChar, PutsString, PutsNothing, PutsLn, Places, Lengths, Opens, Sizes, Tests}
+use Rattle.aos_base.specs.Question.{Ask, ByName, Reads, Stores, Copies, PutsText, ComparesTexts, Calls, Ends, Makes, Starts, Enters, Leaves, PutsInt, PutsChar, PutsString, PutsNothing, PutsLn, Places, Lengths, Opens, Sizes, Tests}
 use Rattle.aos_base.specs.Rooted.{Made}
 use Rattle.aos_base.specs.Operators.{unary, binary, natural, flag}
 use Rattle.aos_code.specs.declared.instr.Cell.{Cell}
@@ -418,6 +418,8 @@ module _ (shapes : List ProcShape) (types : List TypeDesc) (own : ℕ) (here : H
   act (instr.NewObject t) code at s = Sees (Makes t []) s
   act (instr.NewArray t j) code at s = counted_on j [] (λ zs s'. Sees (Makes t (map (λ z. Num z) zs)) s') s
   act instr.Start code at s = on_kind R (λ o s'. Sees (Starts o) s') s
+  act instr.Enter code at s = Sees Enters s
+  act instr.Leave code at s = Sees Leaves s
   act instr.Return code at s = ends (numbered shapes own) s
   act instr.OutChar code at s = on_kind N (λ c s'. Sees (PutsChar c) s') s
   act instr.OutInt code at s = on_kind N (λ n s1. on_kind N (λ v s2. Sees (PutsInt v n) s2) s1) s

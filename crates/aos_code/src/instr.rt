@@ -130,6 +130,11 @@ pub enum Instr {
     NewArray(u32, u32),
     /// Takes an object and starts its activity; trap 13 where there is no room for one.
     Start,
+    /// Asks for the frame's lock, that of the object on which its procedure is called, or else of its module, and opens its region;
+    /// trap 9 where the activity owns it.
+    Enter,
+    /// Closes the frame's region, and releases its lock.
+    Leave,
     /// Ends the frame, with the result on the stack where there is one.
     Return,
     /// Takes the code of a character and writes it.

@@ -6,7 +6,7 @@ use Rattle.aos_base.specs.declared.place.Root.TheVariants.{Frame as FrameRoot, M
 use Rattle.aos_base.specs.declared.number.Relation.{Relation}
 use Rattle.aos_base.specs.declared.kernel.Did.TheVariants.{Trapped}
 use Rattle.aos_base.specs.Number.{array_lengths}
-use Rattle.aos_base.specs.Question.{Reads, Stores, Copies, PutsText, ComparesTexts, Calls, Ends, Makes, Starts, PutsInt, PutsChar, PutsString, PutsNothing, PutsLn, Places, Lengths, Opens, Sizes, Tests}
+use Rattle.aos_base.specs.Question.{Reads, Stores, Copies, PutsText, ComparesTexts, Calls, Ends, Makes, Starts, Enters, Leaves, PutsInt, PutsChar, PutsString, PutsNothing, PutsLn, Places, Lengths, Opens, Sizes, Tests}
 use Rattle.aos_base.specs.Rooted.{Made, Rooted, by_number, load}
 use Rattle.aos_code.specs.declared.instr.Cell.{Cell}
 use Rattle.aos_code.specs.declared.instr.Cell.TheVariants.{Num, Ref, Call as CallCell, Place}
@@ -125,6 +125,8 @@ module _ (image : Image) (following : List ℕ) (f : Frame) (fs : List Frame) (m
     answer_grows (Ends result) = stays
     answer_grows (Makes t vs) = make_of_grows (numbered image.types.items t) (numbers_in following vs) t
     answer_grows (Starts v) = start_grows v
+    answer_grows Enters = stays
+    answer_grows Leaves = stays
     answer_grows (PutsInt v n) = print_grows (written v n)
     answer_grows (PutsChar v) = out_grows (option_map (λ c. c ∷ []) (code_in following v))
     answer_grows (PutsString a n) = out_grows (text_at following a n (rooted (f ∷ fs) mem))

@@ -78,7 +78,7 @@ module _ {A : Type 0} (x : Rooted (List Cell)) (ps : List ParamKind) (i : ℕ) (
 -- The frame of a call.
 
 pub frame_called : (p o counted keeps : ℕ) (own : List Cell) (cells operands : Vec Cell Global) → cells.items ≡ own ++ replicate keeps (Num (pos 0)) → operands.items ≡ [] →
-    frame_in (record { procedure = p; object = o; next = 0; at = None; cells = cells; keeps = keeps; counted = counted; operands = operands }) ≡ called p o counted own
+    frame_in (record { procedure = p; object = o; next = 0; at = None; is_open = false; cells = cells; keeps = keeps; counted = counted; operands = operands }) ≡ called p o counted own
 frame_called p o counted keeps own cells operands e r =
     let back = replicate keeps (Num (pos 0)) in
     let long : length (own ++ back) - keeps ≡ length own = omega (arith, length-append own back, length-replicate keeps (Num (pos 0))) in
@@ -91,6 +91,7 @@ frame_called p o counted keeps own cells operands e r =
       object = o;
       next = 0;
       at = None;
+      is_open = false;
       cells = front i;
       counted = counted;
       keeps = λ c. (ap (λ ys. get_or ys c (Num (pos 0))) kept ∙ zeros keeps c (Num (pos 0))) i;

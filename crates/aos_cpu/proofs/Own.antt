@@ -8,7 +8,7 @@ use Rattle.aos_base.specs.declared.place.Root.TheVariants.{Frame as FrameRoot, M
 use Rattle.aos_base.specs.declared.number.Relation.{Relation}
 use Rattle.aos_base.specs.declared.kernel.Did.{Did}
 use Rattle.aos_base.specs.declared.kernel.Did.TheVariants.{Went, Ended as NoFrame, Enter, Leave, Await, Start, Trapped}
-use Rattle.aos_base.specs.Question.{Reads, Stores, Copies, PutsText, ComparesTexts, Calls, Ends, Makes, Starts, PutsInt, PutsChar, PutsString, PutsNothing, PutsLn, Places, Lengths, Opens, Sizes, Tests}
+use Rattle.aos_base.specs.Question.{Reads, Stores, Copies, PutsText, ComparesTexts, Calls, Ends, Makes, Starts, Enters, Leaves, PutsInt, PutsChar, PutsString, PutsNothing, PutsLn, Places, Lengths, Opens, Sizes, Tests}
 use Rattle.aos_base.specs.Rooted.{Made as MadeAs, Rooted, by_number, at_root, load}
 use Rattle.aos_code.specs.declared.instr.Cell.{Cell}
 use Rattle.aos_code.specs.declared.instr.Cell.TheVariants.{Num, Ref, Call as CallCell, Place}
@@ -201,6 +201,8 @@ module _ (following : List ℕ) (f : Frame) (fs : List Frame) (mem : Memory) whe
   answer_own shapes types (Ends result) at k s e = refl
   answer_own shapes types (Makes t vs) at k s e = absurd (cc e)
   answer_own shapes types (Starts v) at k s e = absurd (cc e)
+  answer_own shapes types Enters at k s e = absurd (cc e)
+  answer_own shapes types Leaves at k s e = absurd (cc e)
   answer_own shapes types (PutsInt v n) at k s e = absurd (cc e)
   answer_own shapes types (PutsChar v) at k s e = absurd (cc e)
   answer_own shapes types (PutsString a n) at k s e = absurd (cc e)

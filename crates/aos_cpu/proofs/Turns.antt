@@ -7,7 +7,8 @@ use Rattle.aos_base.specs.declared.text.Pos.{Pos}
 use Rattle.aos_base.specs.declared.number.Relation.{Relation}
 use Rattle.aos_base.specs.declared.kernel.Did.{Did}
 use Rattle.aos_base.specs.declared.kernel.Did.TheVariants.{Ended as NoFrame, Went, Start, Enter, Leave, Await, Trapped}
-use Rattle.aos_base.specs.Question.{Reads, Stores, Copies, PutsText, ComparesTexts, Calls, Ends, Makes, Starts, PutsInt, PutsChar, PutsString, PutsNothing, PutsLn, Places, Lengths, Opens, Sizes, Tests}
+use Rattle.aos_base.specs.declared.kernel.LockName.{LockName}
+use Rattle.aos_base.specs.Question.{Reads, Stores, Copies, PutsText, ComparesTexts, Calls, Ends, Makes, Starts, Enters, Leaves, PutsInt, PutsChar, PutsString, PutsNothing, PutsLn, Places, Lengths, Opens, Sizes, Tests}
 use Rattle.aos_base.specs.Number.{array_lengths}
 use Rattle.aos_base.specs.Rooted.{Made, Rooted, by_number, load}
 use Rattle.aos_code.specs.declared.instr.Cell.{Cell}
@@ -19,20 +20,20 @@ use Rattle.aos_code.specs.declared.image.TypeDesc.{TypeDesc}
 use Rattle.aos_code.specs.Memory.{Memory, Addr, has_room}
 use Rattle.aos_code.specs.Numbered.{numbered}
 use Rattle.aos_code.specs.Silent.{Stack, Keeps, Question, Begins, Fails, Stop, Work, Ended, is_of}
-use Rattle.aos_code.specs.Machine.{here_of, object_of, arguments_of, Frame, Frames, Turned, Handed, rooted, cells_at, written, leaves, goes_on, reads, writes, copies, ends, prints, writes_out, makes, makes_with, makes_of, numbers_in, in_rows, first_cell, made_in, starts, stores_text, fitted, puts_text, compares, is_deep, enters, calls_with, calls, handed, called_frame, answer, goes, text_at, length_in, code_in, opened, opened_by, past, past_all, past_stop, code_of, stop_of, turn, turn_at, behind, home_of, position, position_in, position_or, or_below}
+use Rattle.aos_code.specs.Machine.{here_of, object_of, arguments_of, Frame, Frames, Turned, Handed, rooted, cells_at, written, leaves, goes_on, reads, writes, copies, ends, prints, writes_out, makes, makes_with, makes_of, numbers_in, in_rows, first_cell, made_in, starts, stores_text, fitted, puts_text, compares, is_deep, enters, calls_with, calls, handed, called_frame, answer, goes, text_at, length_in, code_in, before as before_it, own_lock, lock_in, opens, regions_of, opened, opened_by, past, past_all, past_stop, is_passed, code_of, stop_of, turn, turn_at, behind, home_of, position, position_in, position_or, or_below}
 use Rattle.aos_store.specs.declared.frames.Frame.{Frame as KeptFrame}
 use Rattle.aos_store.specs.declared.frames.Frames.{Frames as KeptFrames}
 use Rattle.aos_store.specs.Store.{frame_in, list_in, frames_in}
 use Rattle.aos_silent.specs.declared.act.Question.{Question as KeptQuestion}
-use Rattle.aos_silent.specs.declared.act.Question.TheVariants.{Starts as AsksStart}
+use Rattle.aos_silent.specs.declared.act.Question.TheVariants.{Starts as AsksStart, Enters as AsksEnter, Leaves as AsksLeave}
 use Rattle.aos_silent.specs.declared.silent.Stop.{Stop as KeptStop}
 use Rattle.aos_silent.specs.declared.silent.Stop.TheVariants.{Work as AtWork, Begins as AtBegin, Fails as AtFault}
 use Rattle.aos_silent.specs.Acts.{question_in, operands_of}
 use Rattle.aos_cpu.specs.Answers.{Made as HasMade, begun_at}
 use Rattle.aos_silent.specs.Silent.{Seen, stop_in, IsStopOf, silent_at, seen_at}
-use Rattle.aos_cpu.specs.Turns.{SeenFrames, seen, seen_all, seen_frames, Alike, Shown, StandsAtStop, HasAnswered, Stands, Same, WhereLeft, IsBefore, IsBeforeStart, StandsAtStart, IsTurned, home_of_top, counted}
+use Rattle.aos_cpu.specs.Turns.{SeenFrames, seen, seen_all, seen_frames, Alike, Shown, StandsAtStop, HasAnswered, Stands, Same, WhereLeft, IsBefore, IsBeforeAsking, StandsAsking, StandsAtWork, operands_left, open_behind, IsTurned, home_of_top, counted}
 use Rattle.aos_silent.specs.Known.{Knows}
-use Rattle.aos_cpu.proofs.Asking.{started_on_top, started_again, starts_there}
+use Rattle.aos_cpu.proofs.Asking.{is_left, with_operands, asked_on_top, asked_again, asks_there}
 use Rattle.aos_silent.proofs.Topmost.{top_some, reverse-push}
 
 -- The topmost frame, where it is kept last of so many.
@@ -109,7 +110,7 @@ ahead g n k s = record g { next = n; keeps = k; stack = s }
 
 pub is_ahead : (image : Image) (all : ℕ → Option Made) (f g : Frame) (fs gs : List Frame) → seen image all f fs ≡ seen image all g gs → f ≡ ahead g f.next f.keeps f.stack
 is_ahead image all f g fs gs e =
-    λ i. (let x : Frame = record { procedure = (e i).procedure; object = (e i).object; next = f.next; at = (e i).at; cells = (e i).cells; counted = (e i).counted; keeps = f.keeps; stack = f.stack } in x)
+    λ i. (let x : Frame = record { procedure = (e i).procedure; object = (e i).object; next = f.next; at = (e i).at; is_open = (e i).is_open; cells = (e i).cells; counted = (e i).counted; keeps = f.keeps; stack = f.stack } in x)
 
 -- what objects are known to be made as where a turn has come to
 abbrev pub after_turn : Image → Turned → ℕ → Option Made
@@ -136,24 +137,34 @@ similar_is image t u e =
 pub similar_by : (image : Image) (t u v : Turned) → t ≡ u → Similar image u v → Similar image t v
 similar_by image t u v e s = subst (λ (x : Turned). Similar image x v) (sym e) s
 
--- they also leave an activity's start to the kernel only where that is asked for
+-- work behind which the frames go on is what this question asks for
+abbrev pub AsksFor : Question → Did → Type 0
+AsksFor q (Start o) = q ≡ Starts (Ref o)
+AsksFor q (Enter l) = q ≡ Enters
+AsksFor q (Leave l) = q ≡ Leaves
+AsksFor q Went = Unit {0}
+AsksFor q NoFrame = Unit {0}
+AsksFor q (Await l c) = Unit {0}
+AsksFor q (Trapped n c) = Unit {0}
+
+-- they also leave such work to the kernel only where that is asked for
 pub record Both (image : Image) (q : Question) (t u : Turned) : Type 0 where
   pub similar : Similar image t u
-  pub starts : (o : ℕ) → u.left ≡ Start o → q ≡ Starts (Ref o)
+  pub asks : AsksFor q u.left
 
 module _ (image : Image) (following : List ℕ) (g : Frame) (n : ℕ) (k' : Keeps) (s' : Stack) (fs : List Frame) (mem : Memory) (h : (all : ℕ → Option Made) → Knows all (made_in image mem) → seen image all (ahead g n k' s') fs ≡ seen image all g fs) where
   abbrev pub f' : Frame
   f' = ahead g n k' s'
 
   same : (q : Question) (t : Turned) → t.left ≡ Went → Both image q t t
-  same q t e = record { similar = similar_is image t t refl; starts = λ o x. (let z = sym e ∙ x in absurd (cc z)) }
+  same q t e = record { similar = similar_is image t t refl; asks = subst (AsksFor q) (sym e) tt }
 
   lost_alike : (c d : ℕ) → Similar image (leaves following (Trapped c d) (f' ∷ fs) mem) (leaves following (Trapped c d) (g ∷ fs) mem)
   lost_alike c d =
       record { store = refl; alike = λ all knows i. (let x : SeenFrames = record { following = following; top = Some (h all knows i); below = fs } in x); output = refl; begun = refl; left = refl }
 
   lost : (q : Question) (c d : ℕ) → Both image q (leaves following (Trapped c d) (f' ∷ fs) mem) (leaves following (Trapped c d) (g ∷ fs) mem)
-  lost q c d = record { similar = lost_alike c d; starts = λ o x. absurd (cc x) }
+  lost q c d = record { similar = lost_alike c d; asks = tt }
 
   if_both : (q : Question) (b : Bool) (t : Turned) → t.left ≡ Went → Both image q (if b then t else leaves following (Trapped 16 0) (f' ∷ fs) mem) (if b then t else leaves following (Trapped 16 0) (g ∷ fs) mem)
   if_both q true t e = same q t e
@@ -197,10 +208,20 @@ module _ (image : Image) (following : List ℕ) (g : Frame) (n : ℕ) (k' : Keep
   start_both : (v : Cell) (at : ℕ) (k : Keeps) (s : Stack) → Both image (Starts v) (starts following v at k s f' fs mem) (starts following v at k s g fs mem)
   start_both (Ref zero) at k s = lost _ 16 0
   start_both (Ref (suc o)) at k s =
-      record { similar = similar_is image _ _ refl; starts = λ p x. (let z : suc o ≡ p = cc x in ap (λ m. Starts (Ref m)) z) }
+      record { similar = similar_is image _ _ refl; asks = refl }
   start_both (Num z) at k s = lost _ 16 0
   start_both (CallCell p o) at k s = lost _ 16 0
   start_both (Place root cell type) at k s = lost _ 16 0
+
+  -- the lock is that of the same object or module
+  lock_same : (shape : Option ProcShape) → lock_in shape f' ≡ lock_in shape g
+  lock_same None = refl
+  lock_same (Some shape) = refl
+
+  lock_both : (q : Question) (work : LockName → Did) (shape : Option ProcShape) (at : ℕ) (k : Keeps) (s : Stack) → AsksFor q (work (lock_in shape g)) →
+      Both image q (leaves following (work (lock_in shape f')) (before_it following at k s f' ∷ fs) mem) (leaves following (work (lock_in shape g)) (before_it following at k s g ∷ fs) mem)
+  lock_both q work shape at k s asks =
+      record { similar = similar_is image _ _ (ap (λ l. leaves following (work l) (before_it following at k s g ∷ fs) mem) (lock_same shape)); asks = asks }
 
   store_text_both : (q : Question) (t : Option (List ℕ)) (to : Addr) (x : Rooted (List Cell)) (at : ℕ) (k : Keeps) (s : Stack) → Both image q (stores_text following t to x at k s f' fs mem) (stores_text following t to x at k s g fs mem)
   store_text_both q None to x at k s = lost q 15 0
@@ -242,6 +263,8 @@ module _ (image : Image) (following : List ℕ) (g : Frame) (n : ℕ) (k' : Keep
   answer_both (Ends result) at k s = same (Ends result) _ refl
   answer_both (Makes t vs) at k s = make_of_both (Makes t vs) (numbered image.types.items t) (numbers_in following vs) t at k s
   answer_both (Starts v) at k s = start_both v at k s
+  answer_both Enters at k s = lock_both Enters Enter (numbered image.shapes.items g.procedure) at k s refl
+  answer_both Leaves at k s = lock_both Leaves Leave (numbered image.shapes.items g.procedure) at k s refl
   answer_both (PutsInt v m) at k s = print_both (PutsInt v m) (written v m) at k s
   answer_both (PutsChar v) at k s = out_both (PutsChar v) (option_map (λ c. c ∷ []) (code_in following v)) at k s
   answer_both (PutsString a m) at k s = out_both (PutsString a m) (text_at following a m (rooted (g ∷ fs) mem)) at k s
@@ -326,8 +349,8 @@ shown_made image t b did old new mem before after m e =
     }
 
 -- where work is left, the frames are as they were
-same_left : (did : Did) (P : Type 0) (o : ℕ) → did ≡ Start o → WhereLeft did P → P
-same_left did P o e h = subst (λ (x : Did). WhereLeft x P) e h
+same_left : (did left : Did) (P : Type 0) → (WhereLeft left P → P) → did ≡ left → WhereLeft did P → P
+same_left did left P is e h = is (subst (λ (x : Did). WhereLeft x P) e h)
 
 at_stop : (image : Image) (made : ℕ → Option Made) (q : KeptQuestion) (at : ℕ) (l : List Frame) (f : Frame) (fs : List Frame) → StandsAtStop image made (AtWork q at) l → l ≡ f ∷ fs → StandsAtStop image made (AtWork q at) (f ∷ fs)
 at_stop image made q at l f fs x is = subst (StandsAtStop image made (AtWork q at)) is x
@@ -336,7 +359,7 @@ at_stop image made q at l f fs x is = subst (StandsAtStop image made (AtWork q a
 pub stands_at : (image : Image) (made : ℕ → Option Made) (q : KeptQuestion) (at : ℕ) (old : KeptFrames) → StandsAtStop image made (AtWork q at) (list_in old.list.items) → Stands q at old
 stands_at image made (AsksStart o) at old x f fs is =
     let y = at_stop image made (AsksStart o) at (list_in old.list.items) f fs x is in
-    (y.1.0, started_on_top image.shapes.items image.types.items made f.procedure (here_of f fs) f.cells (code_of image f.procedure) f.next f.keeps f.stack (Ref o) f.keeps (drop 1 f.stack) (y.0 ∙ ap (λ m. Work (Starts (Ref o)) m f.keeps (drop 1 f.stack)) y.1.0))
+    (y.1.0, asked_on_top image.shapes.items image.types.items made f.procedure (here_of f fs) f.cells (code_of image f.procedure) f.next f.keeps f.stack (Starts (Ref o)) f.keeps (drop 1 f.stack) refl (y.0 ∙ ap (λ m. Work (Starts (Ref o)) m f.keeps (drop 1 f.stack)) y.1.0))
 stands_at image made q at old x f fs is = ((at_stop image made q at (list_in old.list.items) f fs x is).1.0, tt)
 
 -- a question has been answered
@@ -354,99 +377,177 @@ worked image q at old new mem mem' did before after stands answered e = by_list 
         (subst (λ (y : Stop). Shown image (goes following image.shapes.items image.types.items y f fs mem) did old new mem' before after) (sym x.0)
         (shown_made image _ false did old new mem' before after (answered f fs is) e))
 
--- and where a start is left to the kernel, the frames stand before it
+-- what the code keeps of a question has as many operands
+taken_start : (q : KeptQuestion) (s : Stack) (o : ℕ) → question_in q s ≡ Starts (Ref o) → operands_of q ≡ 1
+taken_start (AsksStart p) s o e = refl
+taken_start _ s o e = absurd (cc e)
+
+taken_enter : (q : KeptQuestion) (s : Stack) → question_in q s ≡ Enters → operands_of q ≡ 0
+taken_enter AsksEnter s e = refl
+taken_enter _ s e = absurd (cc e)
+
+taken_leave : (q : KeptQuestion) (s : Stack) → question_in q s ≡ Leaves → operands_of q ≡ 0
+taken_leave AsksLeave s e = refl
+taken_leave _ s e = absurd (cc e)
+
+-- a frame that stands at such a question does so whatever objects were made as
+before_asking : (image : Image) (made : ℕ → Option Made) (q : KeptQuestion) (at : ℕ) (f : Frame) (fs : List Frame) (asked : Question) (n : ℕ) → is_left asked ≡ true → question_in q f.stack ≡ asked → operands_of q ≡ n →
+    StandsAtStop image made (AtWork q at) (f ∷ fs) → IsBeforeAsking image asked n (f ∷ fs)
+before_asking image made q at f fs asked n m e count x =
+    let stops : stop_of image made f fs ≡ Work asked f.next f.keeps (drop n f.stack) =
+    x.0 ∙ (λ i. Work (e i) (x.1.0 i) f.keeps (drop (count i) f.stack)) in (
+      subst (λ n. n + 1 < 2 ^ 64) x.1.0 x.1.1,
+      asked_again image.shapes.items image.types.items made (λ p. None) f.procedure (here_of f fs) f.cells (code_of image f.procedure) f.next f.keeps f.stack asked f.keeps (drop n f.stack) m stops,
+    )
+
+-- and where such work is left to the kernel, the frames stand before it
 pub stands_before : (image : Image) (q : KeptQuestion) (at : ℕ) (old new : KeptFrames) (mem mem' : Memory) (did : Did) (before after : List ℕ) →
     StandsAtStop image (made_in image mem) (AtWork q at) (list_in old.list.items) → HasAnswered image q at old new mem mem' did before after → WhereLeft did (Same old new mem mem' before after) →
     IsBefore image did (frames_in new)
 stands_before image q at old new mem mem' did before after stands answered left =
     (elim did as (λ (x : Did). did ≡ x → IsBefore image x (frames_in new)) [
-      | Start o ↦ λ e. by_list o e (list_in old.list.items) refl stands
+      | Start o ↦ λ e. by_list (Start o) e (λ h. h) (Starts (Ref o)) 1 refl (λ s a. (a, taken_start q s o a)) (list_in old.list.items) refl stands
+      | Enter l ↦ λ e. by_list (Enter l) e (λ h. h) Enters 0 refl (λ s a. (a, taken_enter q s a)) (list_in old.list.items) refl stands
+      | Leave l ↦ λ e. by_list (Leave l) e (λ h. h) Leaves 0 refl (λ s a. (a, taken_leave q s a)) (list_in old.list.items) refl stands
       | Went ↦ λ e. tt
       | NoFrame ↦ λ e. tt
-      | Enter l ↦ λ e. tt
-      | Leave l ↦ λ e. tt
       | Await l c ↦ λ e. tt
       | Trapped n c ↦ λ e. tt
     ]) refl
   where
-    by_list : (o : ℕ) → did ≡ Start o → (l : List Frame) → list_in old.list.items ≡ l → StandsAtStop image (made_in image mem) (AtWork q at) l → IsBeforeStart image o (list_in new.list.items)
-    by_list o e [] is x = absurd x
-    by_list o e (f ∷ fs) is x =
-        let same : frames_in new ≡ frames_in old = (same_left did (Same old new mem mem' before after) o e left).frames in
+    by_list : (work : Did) → did ≡ work → (WhereLeft work (Same old new mem mem' before after) → Same old new mem mem' before after) → (asked : Question) (n : ℕ) → is_left asked ≡ true →
+        ((s : Stack) → AsksFor (question_in q s) work → (question_in q s ≡ asked) × (operands_of q ≡ n)) →
+        (l : List Frame) → list_in old.list.items ≡ l → StandsAtStop image (made_in image mem) (AtWork q at) l → IsBeforeAsking image asked n (list_in new.list.items)
+    by_list work e whole asked n m asks [] is x = absurd x
+    by_list work e whole asked n m asks (f ∷ fs) is x =
+        let same : frames_in new ≡ frames_in old = (same_left did work (Same old new mem mem' before after) whole e left).frames in
         let following = reverse old.following.items in
-        let m = answered f fs is in
-        let asks : question_in q f.stack ≡ Starts (Ref o) = (answer_both image following f f.next f.keeps f.stack fs mem (λ all knows. refl) (question_in q f.stack) at f.keeps (drop (operands_of q) f.stack)).starts o (m.left ∙ e) in
-        let stops : stop_of image (made_in image mem) f fs ≡ Work (Starts (Ref o)) f.next f.keeps (drop 1 f.stack) =
-        x.0 ∙ asked_start q f.stack asks at f.keeps ∙ ap (λ n. Work (Starts (Ref o)) n f.keeps (drop 1 f.stack)) x.1.0 in
-        subst (IsBeforeStart image o) (sym (ap (λ (x : Frames). x.frames) same ∙ is)) (
-          subst (λ n. n + 1 < 2 ^ 64) x.1.0 x.1.1,
-          started_again image.shapes.items image.types.items (made_in image mem) (λ p. None) f.procedure (here_of f fs) f.cells (code_of image f.procedure) f.next f.keeps f.stack (Ref o) f.keeps (drop 1 f.stack) stops,
-        )
-      where
-        asked_start : (q : KeptQuestion) (s : Stack) → question_in q s ≡ Starts (Ref o) → (at : ℕ) (k : Keeps) → Work (question_in q s) at k (drop (operands_of q) s) ≡ Work (Starts (Ref o)) at k (drop 1 s)
-        asked_start (AsksStart p) s e at k = ap (λ y. Work y at k (drop 1 s)) e
-        asked_start _ s e at k = absurd (cc e)
+        let made = answered f fs is in
+        let both = answer_both image following f f.next f.keeps f.stack fs mem (λ all knows. refl) (question_in q f.stack) at f.keeps (drop (operands_of q) f.stack) in
+        let found = asks f.stack (subst (AsksFor (question_in q f.stack)) (made.left ∙ e) both.asks) in
+        subst (IsBeforeAsking image asked n) (sym (ap (λ (x : Frames). x.frames) same ∙ is)) (before_asking image (made_in image mem) q at f fs asked n m found.0 found.1 x)
 
 -- Past the work that was left to the kernel.
 
--- where a turn leaves the start of an activity, its frames stand at that
-start_left : (image : Image) (following : List ℕ) (f : Frame) (fs : List Frame) (mem : Memory) (stop : Stop) (o : ℕ) → stop_of image (made_in image mem) f fs ≡ stop →
-    (goes following image.shapes.items image.types.items stop f fs mem).left ≡ Start o → StandsAtStart image o (goes following image.shapes.items image.types.items stop f fs mem).frames.frames
-start_left image following f fs mem (Work q at k s) o is e =
-    let asks : q ≡ Starts (Ref o) = (answer_both image following f f.next f.keeps f.stack fs mem (λ all knows. refl) q at k s).starts o e in
-    subst (λ (x : Question). StandsAtStart image o (answer following image.shapes.items image.types.items x at k s f fs mem).frames.frames) (sym asks)
-    (by o (ap (λ (x : Question). (answer following image.shapes.items image.types.items x at k s f fs mem).left) (sym asks) ∙ e) (is ∙ ap (λ x. Work x at k s) asks))
-  where
-    by : (o : ℕ) → (answer following image.shapes.items image.types.items (Starts (Ref o)) at k s f fs mem).left ≡ Start o → stop_of image (made_in image mem) f fs ≡ Work (Starts (Ref o)) at k s →
-        StandsAtStart image o (answer following image.shapes.items image.types.items (Starts (Ref o)) at k s f fs mem).frames.frames
-    by zero e stops = absurd (cc e)
-    by (suc o) e stops =
-        started_again image.shapes.items image.types.items (made_in image mem) (λ p. None) f.procedure (here_of f fs) f.cells (code_of image f.procedure) at k (Ref (suc o) ∷ s) (Ref (suc o)) k s
-        (starts_there image.shapes.items image.types.items (made_in image mem) f.procedure (here_of f fs) f.cells (code_of image f.procedure) (Ref (suc o)) at k s f.next f.keeps f.stack stops)
-start_left image following f fs mem (Ended (Begins at p s) k) o is e = absurd (cc e)
-start_left image following f fs mem (Ended (Fails n c) k) o is e = absurd (cc e)
+-- where a turn leaves such work, its frames stand at it
+standing : (image : Image) (mem : Memory) (f : Frame) (fs : List Frame) (at : ℕ) (k : Keeps) (s : Stack) (q : Question) → is_left q ≡ true → stop_of image (made_in image mem) f fs ≡ Work q at k s →
+    stop_of image (λ p. None) (record f { next = at; stack = with_operands q s; keeps = k }) fs ≡ Work q at k s
+standing image mem f fs at k s q m stops =
+    asked_again image.shapes.items image.types.items (made_in image mem) (λ p. None) f.procedure (here_of f fs) f.cells (code_of image f.procedure) at k (with_operands q s) q k s m
+    (asks_there image.shapes.items image.types.items (made_in image mem) f.procedure (here_of f fs) f.cells (code_of image f.procedure) q m at k s f.next f.keeps f.stack stops)
 
-pub turn_stands : (image : Image) (mem : Memory) (fs : Frames) (o : ℕ) → (turn image mem fs).left ≡ Start o → StandsAtStart image o (turn image mem fs).frames.frames
-turn_stands image mem fs o = by (opened fs).following (opened fs).frames
+work_left : (image : Image) (following : List ℕ) (f : Frame) (fs : List Frame) (mem : Memory) (stop : Stop) (did : Did) → stop_of image (made_in image mem) f fs ≡ stop →
+    (goes following image.shapes.items image.types.items stop f fs mem).left ≡ did → StandsAtWork image did (goes following image.shapes.items image.types.items stop f fs mem).frames.frames
+work_left image following f fs mem (Work q at k s) did is e =
+    by did e (subst (AsksFor q) e (answer_both image following f f.next f.keeps f.stack fs mem (λ all knows. refl) q at k s).asks)
   where
-    by : (following : List ℕ) (l : List Frame) → (turn_at image following l mem).left ≡ Start o → StandsAtStart image o (turn_at image following l mem).frames.frames
-    by following [] e = absurd (cc e)
-    by following (f ∷ fs) e = start_left image following f fs mem (stop_of image (made_in image mem) f fs) o refl e
+    -- the same of the question that is asked
+    stands_for : (w : Did) (asked : Question) → q ≡ asked → ((answer following image.shapes.items image.types.items asked at k s f fs mem).left ≡ w → stop_of image (made_in image mem) f fs ≡ Work asked at k s →
+        StandsAtWork image w (answer following image.shapes.items image.types.items asked at k s f fs mem).frames.frames) → (answer following image.shapes.items image.types.items q at k s f fs mem).left ≡ w →
+        StandsAtWork image w (answer following image.shapes.items image.types.items q at k s f fs mem).frames.frames
+    stands_for w asked asks h left =
+        subst (λ (x : Question). StandsAtWork image w (answer following image.shapes.items image.types.items x at k s f fs mem).frames.frames) (sym asks)
+        (h (ap (λ (x : Question). (answer following image.shapes.items image.types.items x at k s f fs mem).left) (sym asks) ∙ left) (is ∙ ap (λ x. Work x at k s) asks))
 
-past_at : (image : Image) (made : ℕ → Option Made) (ps ps' : List ℕ) (l : List Frame) (f : Frame) (rest : List Frame) (o : ℕ) →
-    seen_all image made ps l ≡ seen_all image made ps' (f ∷ rest) → StandsAtStart image o l → StandsAtStart image o (f ∷ rest) →
-    (let x : Frames = record { following = ps; frames = past_all image l } in x) ≡ record { following = ps'; frames = past_stop (Work (Starts (Ref o)) f.next f.keeps (drop 1 f.stack)) f ∷ rest }
-past_at image made ps ps' [] f rest o h stands e = absurd stands
-past_at image made ps ps' (x ∷ xs) f rest o h stands e =
+    start_at : (o : ℕ) → (answer following image.shapes.items image.types.items (Starts (Ref o)) at k s f fs mem).left ≡ Start o → stop_of image (made_in image mem) f fs ≡ Work (Starts (Ref o)) at k s →
+        StandsAtWork image (Start o) (answer following image.shapes.items image.types.items (Starts (Ref o)) at k s f fs mem).frames.frames
+    start_at zero e stops = absurd (cc e)
+    start_at (suc o) e stops = standing image mem f fs at k s (Starts (Ref (suc o))) refl stops
+
+    by : (w : Did) → (answer following image.shapes.items image.types.items q at k s f fs mem).left ≡ w → AsksFor q w → StandsAtWork image w (answer following image.shapes.items image.types.items q at k s f fs mem).frames.frames
+    by (Start o) left asks = stands_for (Start o) (Starts (Ref o)) asks (start_at o) left
+    by (Enter l) left asks = stands_for (Enter l) Enters asks (λ x stops. standing image mem f fs at k s Enters refl stops) left
+    by (Leave l) left asks = stands_for (Leave l) Leaves asks (λ x stops. standing image mem f fs at k s Leaves refl stops) left
+    by Went left asks = tt
+    by NoFrame left asks = tt
+    by (Await l c) left asks = tt
+    by (Trapped n c) left asks = tt
+work_left image following f fs mem (Ended (Begins at p s) k) did is e = subst (λ (w : Did). StandsAtWork image w (begun_at at p (record f { stack = s; keeps = k }) ∷ fs)) e tt
+work_left image following f fs mem (Ended (Fails n c) k) did is e = subst (λ (w : Did). StandsAtWork image w (f ∷ fs)) e tt
+
+pub turn_stands : (image : Image) (mem : Memory) (fs : Frames) (did : Did) → (turn image mem fs).left ≡ did → StandsAtWork image did (turn image mem fs).frames.frames
+turn_stands image mem fs did = by (opened fs).following (opened fs).frames
+  where
+    by : (following : List ℕ) (l : List Frame) → (turn_at image following l mem).left ≡ did → StandsAtWork image did (turn_at image following l mem).frames.frames
+    by following [] e = subst (λ (w : Did). StandsAtWork image w []) e tt
+    by following (f ∷ fs) e = work_left image following f fs mem (stop_of image (made_in image mem) f fs) did refl e
+
+past_at : (image : Image) (made : ℕ → Option Made) (ps ps' : List ℕ) (l : List Frame) (f : Frame) (rest : List Frame) (q : Question) (n : ℕ) → is_left q ≡ true →
+    seen_all image made ps l ≡ seen_all image made ps' (f ∷ rest) → StandsAsking image q n l → StandsAsking image q n (f ∷ rest) →
+    (let x : Frames = record { following = ps; frames = past_all image l } in x) ≡ record { following = ps'; frames = past_stop (Work q f.next f.keeps (drop n f.stack)) f ∷ rest }
+past_at image made ps ps' [] f rest q n m h stands e = absurd stands
+past_at image made ps ps' (x ∷ xs) f rest q n m h stands e =
     let same : seen image made x xs ≡ seen image made f rest = some_same _ _ (ap (λ (y : SeenFrames). y.top) h) in
     let is = is_ahead image made x f xs rest same in
-    let again : stop_of image made x xs ≡ Work (Starts (Ref o)) x.next x.keeps (drop 1 x.stack) =
-    started_again image.shapes.items image.types.items (λ p. None) made x.procedure (here_of x xs) x.cells (code_of image x.procedure) x.next x.keeps x.stack (Ref o) x.keeps (drop 1 x.stack) stands in
-    let there : stop_of image made f rest ≡ Work (Starts (Ref o)) f.next f.keeps (drop 1 f.stack) =
-    started_again image.shapes.items image.types.items (λ p. None) made f.procedure (here_of f rest) f.cells (code_of image f.procedure) f.next f.keeps f.stack (Ref o) f.keeps (drop 1 f.stack) e in
-    let stops : stop_of image (λ p. None) x xs ≡ Work (Starts (Ref o)) f.next f.keeps (drop 1 f.stack) = stands ∙ sym again ∙ ap (λ (y : Seen). y.stop) same ∙ there in
+    let again : stop_of image made x xs ≡ Work q x.next x.keeps (drop n x.stack) =
+    asked_again image.shapes.items image.types.items (λ p. None) made x.procedure (here_of x xs) x.cells (code_of image x.procedure) x.next x.keeps x.stack q x.keeps (drop n x.stack) m stands in
+    let there : stop_of image made f rest ≡ Work q f.next f.keeps (drop n f.stack) =
+    asked_again image.shapes.items image.types.items (λ p. None) made f.procedure (here_of f rest) f.cells (code_of image f.procedure) f.next f.keeps f.stack q f.keeps (drop n f.stack) m e in
+    let stops : stop_of image (λ p. None) x xs ≡ Work q f.next f.keeps (drop n f.stack) = stands ∙ sym again ∙ ap (λ (y : Seen). y.stop) same ∙ there in
     λ i. (let y : Frames = record { following = (h i).following; frames = past_stop (stops i) (is i) ∷ (h i).below } in y)
 
-pub passed : (image : Image) (made : ℕ → Option Made) (o : ℕ) (fs : Frames) (old : KeptFrames) (n : ℕ) (f g : KeptFrame) (next : ℕ) → n ≡ length old.list.items → slice_get old.list.items (n - 1) ≡ Some f →
-    IsBeforeStart image o (list_in old.list.items) → StandsAtStart image o fs.frames → Alike image made fs (frames_in old) → (f.next + 1 < 2 ^ 64 → next ≡ f.next + 1) → frame_in g ≡ record (frame_in f) { next = next; stack = drop 1 (frame_in f).stack } →
+passed_by : (image : Image) (made : ℕ → Option Made) (q : Question) (taken : ℕ) (fs : Frames) (old : KeptFrames) (n : ℕ) (f g : KeptFrame) (next : ℕ) → is_left q ≡ true → n ≡ length old.list.items → slice_get old.list.items (n - 1) ≡ Some f →
+    IsBeforeAsking image q taken (list_in old.list.items) → StandsAsking image q taken fs.frames → Alike image made fs (frames_in old) → (f.next + 1 < 2 ^ 64 → next ≡ f.next + 1) →
+    frame_in g ≡ record (frame_in f) { next = next; is_open = opens q (frame_in f).is_open; stack = drop taken (frame_in f).stack } →
     Alike image made (past image fs) (record { following = reverse old.following.items; frames = list_in (slice_set old.list.items (n - 1) g) })
-passed image made o fs old n f g next len here before stands h small is all knows =
+passed_by image made q taken fs old n f g next m len here before stands h small is all knows =
     let following = reverse old.following.items in
     let top = frame_in f in
     let rest = list_in (all_but_top old.list.items) in
     let tops = list_top old.list.items n f len here in
-    let b = subst (IsBeforeStart image o) tops before in
+    let b = subst (IsBeforeAsking image q taken) tops before in
     let seen_so : seen_all image made (opened fs).following (opened fs).frames ≡ seen_all image made following (top ∷ rest) = h made (itself made) ∙ ap (λ l. seen_frames image made (opened_by l following)) tops in
-    let moved : past_stop (Work (Starts (Ref o)) top.next top.keeps (drop 1 top.stack)) top ≡ frame_in g =
-    ap (λ m. (let x : Frame = record top { next = m; stack = drop 1 top.stack } in x)) (sym (small b.0)) ∙ sym is in
-    ap (λ (x : Frames). seen_frames image all (opened x)) (past_at image made (opened fs).following following (opened fs).frames top rest o seen_so (still fs.following fs.frames stands) b.1
+    let moved : past_stop (Work q top.next top.keeps (drop taken top.stack)) top ≡ frame_in g =
+    ap (λ m. (let x : Frame = record top { next = m; is_open = opens q top.is_open; stack = drop taken top.stack } in x)) (sym (small b.0)) ∙ sym is in
+    ap (λ (x : Frames). seen_frames image all (opened x)) (past_at image made (opened fs).following following (opened fs).frames top rest q taken m seen_so (still fs.following fs.frames stands) b.1
     ∙ (λ i. (let x : Frames = record { following = following; frames = moved i ∷ rest } in x))
     ∙ ap (λ l. (let x : Frames = record { following = following; frames = l } in x)) (sym (list_set old.list.items n f g len here)))
   where
     -- where there is a frame no body begins
-    still : (ps : List ℕ) (l : List Frame) → StandsAtStart image o l → StandsAtStart image o (opened_by l ps).frames
+    still : (ps : List ℕ) (l : List Frame) → StandsAsking image q taken l → StandsAsking image q taken (opened_by l ps).frames
     still ps [] x = absurd x
     still ps (y ∷ ys) x = x
+
+pub passed : (image : Image) (made : ℕ → Option Made) (did : Did) (fs : Frames) (old : KeptFrames) (n : ℕ) (f g : KeptFrame) (next : ℕ) → is_passed did ≡ true → n ≡ length old.list.items → slice_get old.list.items (n - 1) ≡ Some f →
+    IsBefore image did (frames_in old) → StandsAtWork image did fs.frames → Alike image made fs (frames_in old) → (f.next + 1 < 2 ^ 64 → next ≡ f.next + 1) →
+    frame_in g ≡ record (frame_in f) { next = next; is_open = open_behind did (frame_in f).is_open; stack = drop (operands_left did) (frame_in f).stack } →
+    Alike image made (past image fs) (record { following = reverse old.following.items; frames = list_in (slice_set old.list.items (n - 1) g) })
+passed image made (Start o) fs old n f g next p len here before stands h small is = passed_by image made (Starts (Ref o)) 1 fs old n f g next refl len here before stands h small is
+passed image made (Enter l) fs old n f g next p len here before stands h small is = passed_by image made Enters 0 fs old n f g next refl len here before stands h small is
+passed image made (Leave l) fs old n f g next p len here before stands h small is = passed_by image made Leaves 0 fs old n f g next refl len here before stands h small is
+passed image made Went fs old n f g next p len here before stands h small is = absurd (cc p)
+passed image made NoFrame fs old n f g next p len here before stands h small is = absurd (cc p)
+passed image made (Await l c) fs old n f g next p len here before stands h small is = absurd (cc p)
+passed image made (Trapped k c) fs old n f g next p len here before stands h small is = absurd (cc p)
+
+-- Open regions.
+
+-- the lock is that of the procedure and the object
+lock_at : (shape : Option ProcShape) (f g : Frame) → f.object ≡ g.object → lock_in shape f ≡ lock_in shape g
+lock_at None f g e = refl
+lock_at (Some shape) f g e = ap (λ o. own_lock shape.method shape.module o) e
+
+regions_same : (image : Image) (made : ℕ → Option Made) (ps qs : List ℕ) (l m : List Frame) → seen_all image made ps l ≡ seen_all image made qs m → regions_of image l ≡ regions_of image m
+regions_same image made ps qs [] [] h = refl
+regions_same image made ps qs [] (g ∷ gs) h = absurd (none_other (seen image made g gs) (ap (λ (x : SeenFrames). x.top) h))
+regions_same image made ps qs (f ∷ fs) [] h = absurd (none_other (seen image made f fs) (sym (ap (λ (x : SeenFrames). x.top) h)))
+regions_same image made ps qs (f ∷ fs) (g ∷ gs) h =
+    let e : seen image made f fs ≡ seen image made g gs = some_same _ _ (ap (λ (x : SeenFrames). x.top) h) in
+    let below : regions_of image fs ≡ regions_of image gs = ap (λ (x : SeenFrames). regions_of image x.below) h in
+    let lock : lock_in (numbered image.shapes.items f.procedure) f ≡ lock_in (numbered image.shapes.items g.procedure) g =
+    ap (λ (x : Seen). lock_in (numbered image.shapes.items x.procedure) f) e ∙ lock_at (numbered image.shapes.items g.procedure) f g (ap (λ (x : Seen). x.object) e) in
+    λ i. if (e i).is_open then lock i ∷ below i else below i
+
+-- where no frame is left, none is open
+regions_opened : (image : Image) (l : List Frame) (ps : List ℕ) → regions_of image (opened_by l ps).frames ≡ regions_of image l
+regions_opened image [] [] = refl
+regions_opened image [] (p ∷ ps) = refl
+regions_opened image (f ∷ fs) ps = refl
+
+pub regions_alike : (image : Image) (made : ℕ → Option Made) (fs gs : Frames) → Alike image made fs gs → regions_of image fs.frames ≡ regions_of image gs.frames
+regions_alike image made fs gs h =
+    sym (regions_opened image fs.frames fs.following) ∙ regions_same image made (opened fs).following (opened gs).following (opened fs).frames (opened gs).frames (h made (itself made))
+    ∙ regions_opened image gs.frames gs.following
 
 -- Where frames stand in the text.
 

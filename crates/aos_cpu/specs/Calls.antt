@@ -79,7 +79,7 @@ sized k (Some ns) = Some (if nat_lt (cells_of ns k) (2 ^ 64) then Some (cells_of
 -- the frame of a procedure that is called on this object, 0 for none, and begins with these cells
 abbrev pub called : (procedure object counted : ℕ) → List Cell → Frame
 called p o counted cells =
-    record { procedure = p; object = o; next = 0; at = None; cells = cells; counted = counted; keeps = λ c. Num (pos 0); stack = [] }
+    record { procedure = p; object = o; next = 0; at = None; is_open = false; cells = cells; counted = counted; keeps = λ c. Num (pos 0); stack = [] }
 
 -- a frame has been put above the topmost one, which goes on behind the instruction at this place without so many operands
 abbrev pub IsEntered : (at taken : ℕ) → Frame → (old new : KeptFrames) → Type 0

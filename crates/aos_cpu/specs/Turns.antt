@@ -3,13 +3,13 @@ use Rattle.std.specs.Prelude.{◌≡◌, ◌<◌, ◌+◌, ◌^◌, ℕ, suc, Li
 use Rattle.aos_base.specs.declared.text.Pos.{Pos}
 use Rattle.aos_base.specs.declared.kernel.Did.{Did}
 use Rattle.aos_base.specs.declared.kernel.Did.TheVariants.{Went, Ended, Enter, Leave, Await, Start, Trapped}
-use Rattle.aos_base.specs.Question.{Starts}
+use Rattle.aos_base.specs.Question.{Starts, Enters, Leaves}
 use Rattle.aos_base.specs.Book.{Where}
 use Rattle.aos_base.specs.Rooted.{Made}
 use Rattle.aos_code.specs.declared.instr.Cell.TheVariants.{Ref}
 use Rattle.aos_code.specs.declared.image.Image.{Image}
 use Rattle.aos_code.specs.Memory.{Memory}
-use Rattle.aos_code.specs.Silent.{Work}
+use Rattle.aos_code.specs.Silent.{Question, Work}
 use Rattle.aos_code.specs.Machine.{Frame, Frames, Turned, opened, home_of, made_in, stop_of, turn, answer}
 use Rattle.aos_store.specs.declared.frames.Frames.{Frames as KeptFrames}
 use Rattle.aos_store.specs.Store.{list_in, frames_in}
@@ -90,25 +90,45 @@ module _ (image : Image) where
     pub memory : new_memory ≡ old_memory
     pub output : after ≡ before
 
-  -- the topmost frame stands at the instruction that starts this object's activity, whatever objects were made as
-  abbrev pub StandsAtStart : ℕ → List Frame → Type 0
-  StandsAtStart o [] = ⊥
-  StandsAtStart o (f ∷ fs) = stop_of image (λ p. None) f fs ≡ Work (Starts (Ref o)) f.next f.keeps (drop 1 f.stack)
+  -- the topmost frame stands at the instruction that asks this, of which so many operands lie on top, whatever objects were made as
+  abbrev pub StandsAsking : Question → (operands : ℕ) → List Frame → Type 0
+  StandsAsking q n [] = ⊥
+  StandsAsking q n (f ∷ fs) = stop_of image (λ p. None) f fs ≡ Work q f.next f.keeps (drop n f.stack)
 
   -- and there is a place behind it
-  abbrev pub IsBeforeStart : ℕ → List Frame → Type 0
-  IsBeforeStart o [] = ⊥
-  IsBeforeStart o (f ∷ fs) = (f.next + 1 < 2 ^ 64) × StandsAtStart o (f ∷ fs)
+  abbrev pub IsBeforeAsking : Question → (operands : ℕ) → List Frame → Type 0
+  IsBeforeAsking q n [] = ⊥
+  IsBeforeAsking q n (f ∷ fs) = (f.next + 1 < 2 ^ 64) × StandsAsking q n (f ∷ fs)
 
-  -- where an activity's start is left to the kernel, the frames stand before it
+  -- where work is left to the kernel behind which the frames go on, they stand at the instruction that asks for it
+  abbrev pub StandsAtWork : Did → List Frame → Type 0
+  StandsAtWork (Start o) fs = StandsAsking (Starts (Ref o)) 1 fs
+  StandsAtWork (Enter l) fs = StandsAsking Enters 0 fs
+  StandsAtWork (Leave l) fs = StandsAsking Leaves 0 fs
+  StandsAtWork Went fs = Unit {0}
+  StandsAtWork Ended fs = Unit {0}
+  StandsAtWork (Await l c) fs = Unit {0}
+  StandsAtWork (Trapped n c) fs = Unit {0}
+
   abbrev pub IsBefore : Did → Frames → Type 0
-  IsBefore (Start o) fs = IsBeforeStart o fs.frames
+  IsBefore (Start o) fs = IsBeforeAsking (Starts (Ref o)) 1 fs.frames
+  IsBefore (Enter l) fs = IsBeforeAsking Enters 0 fs.frames
+  IsBefore (Leave l) fs = IsBeforeAsking Leaves 0 fs.frames
   IsBefore Went fs = Unit {0}
   IsBefore Ended fs = Unit {0}
-  IsBefore (Enter l) fs = Unit {0}
-  IsBefore (Leave l) fs = Unit {0}
   IsBefore (Await l c) fs = Unit {0}
   IsBefore (Trapped n c) fs = Unit {0}
+
+-- how many operands of the work that is left to the kernel lie on top
+abbrev pub operands_left : Did → ℕ
+operands_left (Start o) = 1
+operands_left _ = 0
+
+-- whether a frame's region is open behind it
+abbrev pub open_behind : Did → Bool → Bool
+open_behind (Enter l) is_open = true
+open_behind (Leave l) is_open = false
+open_behind _ is_open = is_open
 
 -- where work is left to the kernel
 abbrev pub WhereLeft : Did → Type 0 → Type 0

@@ -5,7 +5,8 @@ ghost use Rattle.aos_base.specs.Operators.{natural};
 ghost use Rattle.aos_base.specs.Question.{Starts, Ends, Reads, Stores, Copies, PutsInt, PutsChar, PutsNothing, PutsLn};
 ghost use Rattle.aos_code.specs.declared.instr.Cell.TheVariants.{Num, Ref};
 ghost use Rattle.aos_code.specs.Memory.{Memory};
-ghost use Rattle.aos_code.specs.Machine.{behind, with_result};
+ghost use Rattle.aos_code.specs.Numbered.{numbered};
+ghost use Rattle.aos_code.specs.Machine.{Frame as FrameOf, behind, lock_in, with_result};
 ghost use Rattle.aos_store.specs.Store.{frame_in, list_in, frames_in, memory_in, SameCounts};
 ghost use Rattle.aos_silent.specs.Acts.{addr_in};
 ghost use Rattle.aos_store.specs.declared.frames.Frames.{Frames as FramesKept};
@@ -15,7 +16,7 @@ ghost use Rattle.aos_cpu.specs.Answers.{IsAnswered, IsBehind, StandsAt};
 use crate::calls::call;
 use crate::makes::make;
 use crate::texts::{compare_texts, put_string, put_text};
-use aos_base::{Did, NoMemory};
+use aos_base::{Did, LockName, NoMemory};
 use aos_code::{Cell, Image, Kind};
 use aos_silent::{Question, Spot, give, is_of, replace, take};
 use aos_store::{Frame, Frames, Store, copy_at, load_at, store_at};
@@ -285,6 +286,16 @@ pub fn start(object: u32) -> Did
     }
 }
 
+/// The lock of the topmost frame's regions.
+fn top_lock(image: &Image, frames: &Frames) -> LockName
+    ensures { (f : FrameOf) (fs : List FrameOf) → list_in frames.now.list.items ≡ f ∷ fs → result ≡ lock_in (numbered image.now.shapes.items f.procedure) f }
+{
+    match frames.list.last() {
+        None => LockName::Module(0),
+        Some(frame) => frame.lock(&image.shapes),
+    }
+}
+
 /// The question at which the topmost frame stands is answered. What it takes is taken first: where memory runs out, and where work is
 /// left to the kernel, nothing has changed.
 pub fn answer(
@@ -321,6 +332,8 @@ pub fn answer(
             make(alloc, image, of_type, lengths, at, frames, store)
         }
         Question::Starts(object) => Ok(start(object)),
+        Question::Enters => Ok(Did::Enter(top_lock(image, frames))),
+        Question::Leaves => Ok(Did::Leave(top_lock(image, frames))),
         Question::PutsInt(value, places) => put_int(frames, output, value, places, at),
         Question::PutsChar(code) => put_char(frames, output, code, at),
         Question::PutsString(spot, len) => put_string(frames, store, output, spot, len, at),

@@ -474,6 +474,7 @@ fn make_frame(
         object,
         next: 0,
         at: None,
+        is_open: false,
         cells,
         keeps: shape.keeps,
         counted,

@@ -1,18 +1,18 @@
 // One turn of an activity: the silent work of its topmost frame, and the visible work that follows.
-ghost use Rattle.std.specs.Prelude.{◌≡◌, ◌<◌, ◌+◌, ◌^◌, ℕ, List, [], ◌∷◌, Option, reverse, true, IfOk, OnOk, OnErr};
+ghost use Rattle.std.specs.Prelude.{◌≡◌, ◌<◌, ◌+◌, ◌^◌, ℕ, List, [], ◌∷◌, Option, drop, reverse, true, IfOk, OnOk, OnErr};
 ghost use Rattle.aos_base.specs.Rooted.{Made};
-ghost use Rattle.aos_code.specs.Machine.{Frame as FrameOf, Frames as FramesOf, opened, past, position as position_at, body_frame};
-ghost use Rattle.aos_store.specs.Store.{list_in, frames_in, memory_in, SameCounts};
+ghost use Rattle.aos_code.specs.Machine.{Frame as FrameOf, Frames as FramesOf, opened, past, is_passed, position as position_at, body_frame};
+ghost use Rattle.aos_store.specs.Store.{frame_in, list_in, frames_in, memory_in, SameCounts};
 ghost use Rattle.aos_silent.specs.Known.{known};
 ghost use Rattle.aos_cpu.specs.Answers.{begun_at};
-ghost use Rattle.aos_cpu.specs.Turns.{where_in, counted, home_of_top, Alike, HasCome, StandsAtStop, StandsAtStart, IsTurned, IsBefore, Rests, WhereLeft};
+ghost use Rattle.aos_cpu.specs.Turns.{where_in, counted, home_of_top, Alike, HasCome, StandsAtStop, StandsAtWork, operands_left, open_behind, IsTurned, IsBefore, Rests, WhereLeft};
 
 use crate::answers::answer;
 use crate::in_place::{count, turn_in_place};
 use aos_base::{Did, NoMemory, Pos};
 use aos_code::Image;
 use aos_silent::{Stop, home_of, numbered, silent_from, take};
-use aos_store::{Frames, Heap, Store};
+use aos_store::{Frame, Frames, Heap, Store};
 use std::alloc::Global;
 
 /// Puts the frame with which a body of an object, or of a module where that is 0, begins above no others.
@@ -168,15 +168,30 @@ pub fn shared(
     }
 }
 
-/// Past a Start, whose activity has been started.
-pub fn pass(frames: &mut Frames)
-    ensures past { (image : Image) (made : ℕ → Option Made) (object : ℕ) (fs : FramesOf) →
-        IsBefore image (Did.Start object) (frames_in frames.old) → StandsAtStart image object fs.frames → Alike image made fs (frames_in frames.old) →
+/// The operands of the kernel's work go, and the frame's region is open behind Enter, and closed behind Leave.
+fn close_work(frame: &mut Frame, left: Did)
+    ensures { frame_in frame.new ≡ record (frame_in frame.old) {
+      is_open = open_behind left (frame_in frame.old).is_open;
+      stack = drop (operands_left left) (frame_in frame.old).stack;
+    } }
+{
+    match left {
+        Did::Start(_) => take(&mut frame.operands, 1),
+        Did::Enter(_) => frame.is_open = true,
+        Did::Leave(_) => frame.is_open = false,
+        _ => {}
+    }
+}
+
+/// Past work that was left to the kernel, which has done it.
+pub fn pass(frames: &mut Frames, left: Did)
+    ensures past { (image : Image) (made : ℕ → Option Made) (fs : FramesOf) → is_passed left ≡ true →
+        IsBefore image left (frames_in frames.old) → StandsAtWork image left fs.frames → Alike image made fs (frames_in frames.old) →
         Alike image made (past image fs) (frames_in frames.new) }
     ensures counts { SameCounts frames.old frames.new }
 {
     if let Some(frame) = frames.list.last_mut() {
-        take(&mut frame.operands, 1);
+        close_work(frame, left);
         frame.next = frame.next.saturating_add(1);
     }
 }

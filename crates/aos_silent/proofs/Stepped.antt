@@ -13,7 +13,7 @@ use Rattle.aos_silent.specs.declared.act.Act.{Act as KeptAct}
 use Rattle.aos_silent.specs.declared.act.Act.TheVariants.{Goes as GoesOn, Sees as Asks, Begins as BeginsAt, Fails as FailsWith}
 use Rattle.aos_silent.specs.declared.act.Way.TheVariants.{Direct}
 use Rattle.aos_silent.specs.declared.act.Question.{Question as KeptQuestion}
-use Rattle.aos_silent.specs.declared.act.Question.TheVariants.{Reads as AsksRead, Stores as AsksStore, Copies as AsksCopy, PutsText as AsksPutText, ComparesTexts as AsksCompare, Calls as AsksCall, Ends as AsksEnd, Makes as AsksNew, Starts as AsksStart, PutsInt as AsksInt, PutsChar as AsksChar, PutsString as AsksString, PutsNothing as AsksNothing, PutsLn as AsksLn}
+use Rattle.aos_silent.specs.declared.act.Question.TheVariants.{Reads as AsksRead, Stores as AsksStore, Copies as AsksCopy, PutsText as AsksPutText, ComparesTexts as AsksCompare, Calls as AsksCall, Ends as AsksEnd, Makes as AsksNew, Starts as AsksStart, Enters as AsksEnter, Leaves as AsksLeave, PutsInt as AsksInt, PutsChar as AsksChar, PutsString as AsksString, PutsNothing as AsksNothing, PutsLn as AsksLn}
 use Rattle.aos_silent.specs.Acts.{question_in, operands_of, act_in, object_in}
 use Rattle.aos_silent.specs.Steps.{WhereMoves, DoesSo, IsStep, IsStepOf, IsTold}
 
@@ -28,6 +28,8 @@ visible cells (AsksCall p way n) s = refl
 visible cells (AsksEnd v) s = refl
 visible cells (AsksNew t j) s = refl
 visible cells (AsksStart o) s = refl
+visible cells AsksEnter s = refl
+visible cells AsksLeave s = refl
 visible cells (AsksInt a n) s = refl
 visible cells (AsksChar a) s = refl
 visible cells (AsksString p n) s = refl

@@ -92,7 +92,7 @@ module _ (image : Image) (all : ℕ → Option Made) (here : ℕ) (f g : Frame) 
   seen_so : (m : ℕ) → from m g.keeps g.stack ≡ from f.next f.keeps f.stack → seen_at image all here (record g { next = m }) ≡ seen_at image all here f
   seen_so m e =
       ap (λ x. seen_at image all here (record x { next = m })) same
-      ∙ ap (λ s. let x : Seen = record { procedure = f.procedure; object = f.object; at = f.at; cells = f.cells; counted = f.counted; stop = s } in x)
+      ∙ ap (λ s. let x : Seen = record { procedure = f.procedure; object = f.object; at = f.at; is_open = f.is_open; cells = f.cells; counted = f.counted; stop = s } in x)
       (sym (from_is m g.keeps g.stack) ∙ e ∙ from_is f.next f.keeps f.stack)
 
   pub seen_on : (over m : ℕ) → did ≡ GoesOn over → m ≡ min (f.next + 1 + over) (2 ^ 64 - 1) → length code < 2 ^ 64 → seen_at image all here (record g { next = m }) ≡ seen_at image all here f

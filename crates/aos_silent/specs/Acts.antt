@@ -1,7 +1,7 @@
 -- What the processor's acts and questions show of the definitions.
 use Rattle.std.specs.Prelude.{◌≡◌, ℕ, ℤ, ◌^◌, List, [], ◌∷◌, if◌then◌else◌, Option, Some, None, reverse, take, drop, slice_get, nat_lt, Vec}
 use Rattle.std.specs.declared.alloc.Global.{Global}
-use Rattle.aos_base.specs.Question.{ByName, Reads, Stores, Copies, PutsText, ComparesTexts, Calls, Ends, Makes, Starts, PutsInt, PutsChar, PutsString, PutsNothing, PutsLn}
+use Rattle.aos_base.specs.Question.{ByName, Reads, Stores, Copies, PutsText, ComparesTexts, Calls, Ends, Makes, Starts, Enters, Leaves, PutsInt, PutsChar, PutsString, PutsNothing, PutsLn}
 use Rattle.aos_code.specs.declared.instr.Cell.{Cell}
 use Rattle.aos_code.specs.declared.instr.Cell.TheVariants.{Num, Ref, Call as CallCell, Place}
 use Rattle.aos_code.specs.declared.instr.Kind.{Kind}
@@ -10,7 +10,7 @@ use Rattle.aos_code.specs.declared.instr.Instr.TheVariants.{Begin}
 use Rattle.aos_code.specs.Memory.{Addr}
 use Rattle.aos_code.specs.Silent.{Stack, Question, Begins, Fails, Act, Goes, Sees, Stops, lost, is_of}
 use Rattle.aos_silent.specs.declared.act.Question.{Question as KeptQuestion}
-use Rattle.aos_silent.specs.declared.act.Question.TheVariants.{Reads as AsksRead, Stores as AsksStore, Copies as AsksCopy, PutsText as AsksPutText, ComparesTexts as AsksCompare, Calls as AsksCall, Ends as AsksEnd, Makes as AsksNew, Starts as AsksStart, PutsInt as AsksInt, PutsChar as AsksChar, PutsString as AsksString, PutsNothing as AsksNothing, PutsLn as AsksLn}
+use Rattle.aos_silent.specs.declared.act.Question.TheVariants.{Reads as AsksRead, Stores as AsksStore, Copies as AsksCopy, PutsText as AsksPutText, ComparesTexts as AsksCompare, Calls as AsksCall, Ends as AsksEnd, Makes as AsksNew, Starts as AsksStart, Enters as AsksEnter, Leaves as AsksLeave, PutsInt as AsksInt, PutsChar as AsksChar, PutsString as AsksString, PutsNothing as AsksNothing, PutsLn as AsksLn}
 use Rattle.aos_silent.specs.declared.act.Spot.{Spot}
 use Rattle.aos_silent.specs.declared.act.Callable.{Callable}
 use Rattle.aos_silent.specs.declared.act.Way.{Way}
@@ -63,6 +63,8 @@ question_in (AsksCall p way count) s = Calls ByName p (passed way (reverse (take
 question_in (AsksEnd result) s = Ends result
 question_in (AsksNew t j) s = Makes t (reverse (take j s))
 question_in (AsksStart o) s = Starts (Ref o)
+question_in AsksEnter s = Enters
+question_in AsksLeave s = Leaves
 question_in (AsksInt a n) s = PutsInt (Num a) (Num n)
 question_in (AsksChar a) s = PutsChar (Num a)
 question_in (AsksString p n) s = PutsString (addr_in p) (Num n)
@@ -84,6 +86,8 @@ operands_of (AsksCall p way count) = count
 operands_of (AsksEnd result) = results result
 operands_of (AsksNew t j) = j
 operands_of (AsksStart o) = 1
+operands_of AsksEnter = 0
+operands_of AsksLeave = 0
 operands_of (AsksInt a n) = 2
 operands_of (AsksChar a) = 1
 operands_of (AsksString p n) = 2

@@ -1,5 +1,5 @@
 -- The silent work of a frame: where it ends, and what is seen of a frame besides.
-use Rattle.std.specs.Prelude.{◌≡◌, ◌<◌, ◌+◌, ◌^◌, ℕ, List, Option, drop}
+use Rattle.std.specs.Prelude.{◌≡◌, ◌<◌, ◌+◌, ◌^◌, ℕ, Bool, List, Option, drop}
 use Rattle.aos_base.specs.declared.text.Pos.{Pos}
 use Rattle.aos_base.specs.Rooted.{Made}
 use Rattle.aos_code.specs.declared.instr.Cell.{Cell}
@@ -15,6 +15,7 @@ pub record Seen : Type 0 where
   pub procedure : ℕ
   pub object : ℕ
   pub at : Option Pos
+  pub is_open : Bool
   pub cells : List Cell
   pub counted : ℕ
   pub stop : Stop
@@ -42,4 +43,4 @@ module _ (image : Image) where
 
   abbrev pub seen_at : (ℕ → Option Made) → ℕ → Frame → Seen
   seen_at made below f =
-      record { procedure = f.procedure; object = f.object; at = f.at; cells = f.cells; counted = f.counted; stop = silent_at made below f }
+      record { procedure = f.procedure; object = f.object; at = f.at; is_open = f.is_open; cells = f.cells; counted = f.counted; stop = silent_at made below f }

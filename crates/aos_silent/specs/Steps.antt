@@ -53,7 +53,7 @@ abbrev pub given_more : Cell → Frame → Frame
 given_more v f = record f { stack = v ∷ f.stack }
 
 -- what an instruction does: it gives an operand more or keeps one, works on the operands that there are, tests the type of a record,
--- asks an object, or calls a method by what it was made as, says where silent work goes on, or asks for memory and procedures, or for texts and output
+-- asks an object, or calls a method by what it was made as, says where silent work goes on, or asks for memory, procedures and the kernel's work, or for texts and output
 pub data Group : Type 0 where
   OnFrame : Group
   Operands : Group
@@ -110,6 +110,8 @@ group_of (instr.CallValue p) = Asked
 group_of (instr.NewObject t) = Asked
 group_of (instr.NewArray t j) = Asked
 group_of instr.Start = Asked
+group_of instr.Enter = Asked
+group_of instr.Leave = Asked
 group_of instr.Return = Asked
 group_of instr.OutChar = Written
 group_of instr.OutInt = Written

@@ -46,6 +46,9 @@ pub enum Question {
     /// An object of this type is made, an open array whose lengths are so many operands.
     Makes(u32, u32),
     Starts(u32),
+    /// The region of the frame's lock, and the end of that region.
+    Enters,
+    Leaves,
     PutsInt(i64, i64),
     PutsChar(i64),
     PutsString(Spot, i64),

@@ -129,7 +129,7 @@ fn do_jumps(instr: Instr, code: &[Instr], at: usize, stack: &mut Vec<Cell>) -> A
     }
 }
 
-/// An instruction that asks for memory, or for a procedure.
+/// An instruction that asks for memory, for a procedure, or for the kernel's work.
 fn ask(instr: Instr, shapes: &[ProcShape], own: u32, stack: &[Cell]) -> Act
     requires { group_of instr ≡ Group.Asked }
     ensures act { (types : List TypeOf) (here : Here) (at : ℕ) (code : List InstrOf) → act_in result (reverse stack.now) ≡ act shapes.now types own here instr code at (reverse stack.now) }
@@ -144,6 +144,8 @@ fn ask(instr: Instr, shapes: &[ProcShape], own: u32, stack: &[Cell]) -> Act
         Instr::NewObject(of_type) => Act::Sees(Question::Makes(of_type, 0)),
         Instr::NewArray(of_type, lengths) => ask_array(of_type, lengths, stack),
         Instr::Start => ask_start(stack),
+        Instr::Enter => Act::Sees(Question::Enters),
+        Instr::Leave => Act::Sees(Question::Leaves),
         Instr::Return => match numbered(shapes, own) {
             None => LOST,
             Some(shape) => ask_end(shape.result, stack),
@@ -274,6 +276,8 @@ pub fn do_one(
         | Instr::NewObject(_)
         | Instr::NewArray(_, _)
         | Instr::Start
+        | Instr::Enter
+        | Instr::Leave
         | Instr::Return => Ok(ask(instr, &image.shapes, frame.procedure, &frame.operands)),
         _ => Ok(ask_written(instr, &frame.operands)),
     }

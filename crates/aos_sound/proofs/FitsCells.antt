@@ -6,7 +6,7 @@ use Rattle.aos_base.specs.declared.place.Root.{Root}
 use Rattle.aos_base.specs.declared.place.Root.TheVariants.{Frame as FrameRoot, Module as ModuleRoot, Object as ObjectRoot}
 use Rattle.aos_base.specs.declared.number.Relation.{Relation}
 use Rattle.aos_base.specs.declared.kernel.Did.TheVariants.{Trapped}
-use Rattle.aos_base.specs.Question.{Reads, Stores, Copies, PutsText, ComparesTexts, Calls, Ends, Makes, Starts, PutsInt, PutsChar, PutsString, PutsNothing, PutsLn, Places, Lengths, Opens, Sizes, Tests}
+use Rattle.aos_base.specs.Question.{Reads, Stores, Copies, PutsText, ComparesTexts, Calls, Ends, Makes, Starts, Enters, Leaves, PutsInt, PutsChar, PutsString, PutsNothing, PutsLn, Places, Lengths, Opens, Sizes, Tests}
 use Rattle.aos_base.specs.Number.{array_lengths}
 use Rattle.aos_base.specs.Rooted.{Made, Rooted, change_from_last, load, spliced}
 use Rattle.aos_code.specs.declared.instr.Cell.{Cell}
@@ -150,6 +150,8 @@ module _ (image : Image) (laid : IsLaidOut image) where
       answer_has (Ends result) = (ends_have result fs have.1, none)
       answer_has (Makes t vs) = makes_of_have (numbered image.types.items t) (machine.numbers_in following vs) t
       answer_has (Starts v) = starts_have v
+      answer_has Enters = (have, none)
+      answer_has Leaves = (have, none)
       answer_has (PutsInt v n) = prints_have (machine.written v n)
       answer_has (PutsChar v) = writes_out_have (option_map (λ c. c ∷ []) (machine.code_in following v))
       answer_has (PutsString a n) = writes_out_have (machine.text_at following a n (rooted (f ∷ fs) mem))

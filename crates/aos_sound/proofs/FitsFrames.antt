@@ -4,8 +4,9 @@ use Rattle.std.specs.List.{flat_map}
 use Rattle.aos_base.specs.declared.place.Root.{Root}
 use Rattle.aos_base.specs.declared.place.Root.TheVariants.{Frame as FrameRoot, Module as ModuleRoot, Object as ObjectRoot}
 use Rattle.aos_base.specs.declared.number.Relation.{Relation}
-use Rattle.aos_base.specs.declared.kernel.Did.TheVariants.{Start as DidStart, Trapped}
-use Rattle.aos_base.specs.Question.{Reads, Stores, Copies, PutsText, ComparesTexts, Calls, Ends, Makes, Starts, PutsInt, PutsChar, PutsString, PutsNothing, PutsLn, Places, Lengths, Opens, Sizes, Tests}
+use Rattle.aos_base.specs.declared.kernel.Did.{Did}
+use Rattle.aos_base.specs.declared.kernel.Did.TheVariants.{Enter, Leave, Trapped}
+use Rattle.aos_base.specs.Question.{Reads, Stores, Copies, PutsText, ComparesTexts, Calls, Ends, Makes, Starts, Enters, Leaves, PutsInt, PutsChar, PutsString, PutsNothing, PutsLn, Places, Lengths, Opens, Sizes, Tests}
 use Rattle.aos_base.specs.Operators.{flag}
 use Rattle.aos_base.specs.Number.{holds, array_lengths}
 use Rattle.aos_base.specs.Text.{order}
@@ -24,7 +25,7 @@ use Rattle.aos_code.specs.Numbered.{numbered}
 use Rattle.aos_code.specs.Memory.{Addr, Memory, new_number, has_room, type_of_object}
 use Rattle.aos_code.specs.Silent.{Stack, Keeps, Question, Begins, Fails, Stop, Work, Ended, is_of, Here, walk, silent}
 use Rattle.aos_code.specs.Machine as machine
-use Rattle.aos_code.specs.Machine.{Frame, Frames, here_of, Turned, Handed, first_cell, made_in, rooted, called_frame, frames_with, behind, body_frame, bodies, code_in_body, code_of, stop_of, opened, opened_by, turn, turn_at, past, past_stop, body_of, object_frames, first_frames}
+use Rattle.aos_code.specs.Machine.{Frame, Frames, here_of, Turned, Handed, first_cell, made_in, rooted, called_frame, frames_with, behind, body_frame, bodies, code_in_body, code_of, stop_of, opened, opened_by, turn, turn_at, past, past_stop, is_passed, body_of, object_frames, first_frames}
 use Rattle.aos_sound.specs.Sound as sound
 use Rattle.aos_sound.specs.Sound.{ArePathsSound}
 use Rattle.aos_sound.specs.Fits.{IsResult, result_of, StandsOn, StandsGiven, StandsAsked, StandsStopped}
@@ -39,7 +40,13 @@ behind_is (suc at) (y ∷ xs) x e =
     let n : suc (at + 1) ≡ suc at + 1 = omega arith in
     behind_is at xs x e ∙ ap (λ m. x ∷ drop m (y ∷ xs)) n
 
--- silent work that stands before a start with the object on top
+-- silent work that stands before work which is left to the kernel
+at_enter : (shapes : List ProcShape) (types : List TypeDesc) (made : ℕ → Option Made) (own : ℕ) (here : Here) (cells : List Cell) (code : List Instr) (at : ℕ) (k : Keeps) (s : Stack) → slice_get code at ≡ Some instr.Enter → silent shapes types made own here cells code at k s ≡ Work Enters at k s
+at_enter shapes types made own here cells code at k s is = ap (λ l. walk shapes types made own here cells code l 0 at k s) (behind_is at code instr.Enter is)
+
+at_leave : (shapes : List ProcShape) (types : List TypeDesc) (made : ℕ → Option Made) (own : ℕ) (here : Here) (cells : List Cell) (code : List Instr) (at : ℕ) (k : Keeps) (s : Stack) → slice_get code at ≡ Some instr.Leave → silent shapes types made own here cells code at k s ≡ Work Leaves at k s
+at_leave shapes types made own here cells code at k s is = ap (λ l. walk shapes types made own here cells code l 0 at k s) (behind_is at code instr.Leave is)
+
 at_start : (shapes : List ProcShape) (types : List TypeDesc) (made : ℕ → Option Made) (own : ℕ) (here : Here) (cells : List Cell) (code : List Instr) (at : ℕ) (k : Keeps) (s : Stack) (o : ℕ) → slice_get code at ≡ Some instr.Start → silent shapes types made own here cells code at k (Ref o ∷ s) ≡ Work (Starts (Ref o)) at k s
 at_start shapes types made own here cells code at k s o is = ap (λ l. walk shapes types made own here cells code l 0 at k (Ref o ∷ s)) (behind_is at code instr.Start is)
 
@@ -89,7 +96,7 @@ module _ (image : Image) (whole : IsSoundImage image) where
   -- the frames of an activity of which the topmost one stands on a path
   module _ (following : List ℕ) (follow : AreToFollow image following) (f : Frame) (fs : List Frame) (fit : FitFor image None (f ∷ fs)) where
     abbrev Fit : Turned → Type 0
-    Fit t = FramesFit image t.frames × ((o : ℕ) → t.left ≡ DidStart o → FramesFit image (past image t.frames))
+    Fit t = FramesFit image t.frames × (is_passed t.left ≡ true → FramesFit image (past image t.frames))
 
     abbrev On : (at : ℕ) → Stack → Type 0
     On at s = StandsOn image f.procedure (code_of image f.procedure) at s
@@ -102,74 +109,85 @@ module _ (image : Image) (whole : IsSoundImage image) where
       on s' st = (fit.0, st, fit.2)
 
       writes_fit : (b : Bool) (a : Addr) (vs : List Cell) → On (at + 1) s → Fit (machine.writes following b a vs at k s f fs mem)
-      writes_fit true a vs st = ((written_fit a.root (spliced a.cell vs) None (behind following at k s f ∷ fs) (on s st), follow), λ o e. absurd (cc e))
-      writes_fit false a vs st = ((fit, follow), λ o e. absurd (cc e))
+      writes_fit true a vs st = ((written_fit a.root (spliced a.cell vs) None (behind following at k s f ∷ fs) (on s st), follow), λ e. absurd (cc e))
+      writes_fit false a vs st = ((fit, follow), λ e. absurd (cc e))
 
       reads_fit : (kind : Kind) (o : Option Cell) → Asked (Some kind) at s → Fit (machine.reads following kind o at k s f fs mem)
-      reads_fit kind None st = ((fit, follow), λ o e. absurd (cc e))
+      reads_fit kind None st = ((fit, follow), λ e. absurd (cc e))
       reads_fit kind (Some v) st = by (is_of kind v) refl
         where
           by : (b : Bool) → is_of kind v ≡ b → Fit (if b then machine.goes_on following (behind following at k (v ∷ s) f ∷ fs) mem else machine.leaves following (Trapped 16 0) (f ∷ fs) mem)
-          by true e = ((on (v ∷ s) (st v e), follow), λ o e. absurd (cc e))
-          by false e = ((fit, follow), λ o e. absurd (cc e))
+          by true e = ((on (v ∷ s) (st v e), follow), λ e. absurd (cc e))
+          by false e = ((fit, follow), λ e. absurd (cc e))
 
       copies_fit : (o : Option (List Cell)) (b : Bool) (to : Addr) → On (at + 1) s → Fit (machine.copies following o b to at k s f fs mem)
-      copies_fit None b to st = ((fit, follow), λ o e. absurd (cc e))
+      copies_fit None b to st = ((fit, follow), λ e. absurd (cc e))
       copies_fit (Some vs) b to st = writes_fit b to vs st
 
       prints_fit : (o : Option (List ℕ)) → On (at + 1) s → Fit (machine.prints following o at k s f fs mem)
-      prints_fit None st = ((fit, follow), λ o e. absurd (cc e))
-      prints_fit (Some bytes) st = ((on s st, follow), λ o e. absurd (cc e))
+      prints_fit None st = ((fit, follow), λ e. absurd (cc e))
+      prints_fit (Some bytes) st = ((on s st, follow), λ e. absurd (cc e))
 
       writes_out_fit : (o : Option (List ℕ)) → On (at + 1) s → Fit (machine.writes_out following o at k s f fs mem)
-      writes_out_fit None st = ((fit, follow), λ o e. absurd (cc e))
-      writes_out_fit (Some bytes) st = ((on s st, follow), λ o e. absurd (cc e))
+      writes_out_fit None st = ((fit, follow), λ e. absurd (cc e))
+      writes_out_fit (Some bytes) st = ((on s st, follow), λ e. absurd (cc e))
 
       makes_fit : (b : Bool) (m : Made) (cells : List Cell) → Asked (Some R) at s → Fit (machine.makes following b m cells at k s f fs mem)
-      makes_fit true m cells st = let v = Ref (new_number mem) in ((on (v ∷ s) (st v refl), follow), λ o e. absurd (cc e))
-      makes_fit false m cells st = ((fit, follow), λ o e. absurd (cc e))
+      makes_fit true m cells st = let v = Ref (new_number mem) in ((on (v ∷ s) (st v refl), follow), λ e. absurd (cc e))
+      makes_fit false m cells st = ((fit, follow), λ e. absurd (cc e))
 
       makes_with_fit : (ns : Option (List ℕ)) (t : ℕ) (d : TypeDesc) → Asked (Some R) at s → Fit (machine.makes_with following ns t d at k s f fs mem)
-      makes_with_fit None t d st = ((fit, follow), λ o e. absurd (cc e))
+      makes_with_fit None t d st = ((fit, follow), λ e. absurd (cc e))
       makes_with_fit (Some ns) t d st =
           let m : Made = record { type = t; lengths = ns } in
           let cells = machine.in_rows following ns (map first_cell d.kinds.items) in makes_fit (has_room m cells mem) m cells st
 
       makes_of_fit : (d : Option TypeDesc) (zs : Option (List ℤ)) (t : ℕ) → Asked (Some R) at s → Fit (machine.makes_of following d zs t at k s f fs mem)
-      makes_of_fit None zs t st = ((fit, follow), λ o e. absurd (cc e))
-      makes_of_fit (Some d) None t st = ((fit, follow), λ o e. absurd (cc e))
+      makes_of_fit None zs t st = ((fit, follow), λ e. absurd (cc e))
+      makes_of_fit (Some d) None t st = ((fit, follow), λ e. absurd (cc e))
       makes_of_fit (Some d) (Some zs) t st = makes_with_fit (array_lengths zs) t d st
 
       starts_fit : (v : Cell) → slice_get (code_of image f.procedure) at ≡ Some instr.Start → On at (v ∷ s) → On (at + 1) s → Fit (machine.starts following v at k s f fs mem)
       starts_fit (Ref (suc o)) is st behind_st =
           let z : Work (Starts (Ref (suc o))) at k s ≡ stop_of image (λ o. None) (machine.before following at k (Ref (suc o) ∷ s) f) fs = sym (at_start image.shapes.items image.types.items (λ o. None) f.procedure (here_of f fs) f.cells (code_of image f.procedure) at k s (suc o) is) in
-          (((fit.0, st, fit.2), follow), λ p e. subst (λ x. FramesFit image (record { following = following; frames = past_stop x (machine.before following at k (Ref (suc o) ∷ s) f) ∷ fs })) z ((fit.0, behind_st, fit.2), follow))
-      starts_fit v is st behind_st = ((fit, follow), λ o e. absurd (cc e))
+          (((fit.0, st, fit.2), follow), λ e. subst (λ x. FramesFit image (record { following = following; frames = past_stop x (machine.before following at k (Ref (suc o) ∷ s) f) ∷ fs })) z ((fit.0, behind_st, fit.2), follow))
+      starts_fit v is st behind_st = ((fit, follow), λ e. absurd (cc e))
+
+      -- the frame stands before such work, and behind it goes on, with its region open or closed
+      left_fits : (q : Question) (w : Did) → stop_of image (λ o. None) (machine.before following at k s f) fs ≡ Work q at k s → On at s → On (at + 1) s → Fit (machine.leaves following w (machine.before following at k s f ∷ fs) mem)
+      left_fits q w is st behind_st =
+          (((fit.0, st, fit.2), follow), λ p. subst (λ x. FramesFit image (record { following = following; frames = past_stop x (machine.before following at k s f) ∷ fs })) (sym is) ((fit.0, behind_st, fit.2), follow))
+
+      enter_fits : slice_get (code_of image f.procedure) at ≡ Some instr.Enter → On at s → On (at + 1) s → Fit (machine.answer following image.shapes.items image.types.items Enters at k s f fs mem)
+      enter_fits is st behind_st = left_fits Enters (Enter (machine.lock_in (numbered image.shapes.items f.procedure) f)) (at_enter image.shapes.items image.types.items (λ o. None) f.procedure (here_of f fs) f.cells (code_of image f.procedure) at k s is) st behind_st
+
+      leave_fits : slice_get (code_of image f.procedure) at ≡ Some instr.Leave → On at s → On (at + 1) s → Fit (machine.answer following image.shapes.items image.types.items Leaves at k s f fs mem)
+      leave_fits is st behind_st = left_fits Leaves (Leave (machine.lock_in (numbered image.shapes.items f.procedure) f)) (at_leave image.shapes.items image.types.items (λ o. None) f.procedure (here_of f fs) f.cells (code_of image f.procedure) at k s is) st behind_st
 
       stores_text_fit : (o : Option (List ℕ)) (to : Addr) (x : Rooted (List Cell)) → On (at + 1) s → Fit (machine.stores_text following o to x at k s f fs mem)
-      stores_text_fit None to x st = ((fit, follow), λ o e. absurd (cc e))
+      stores_text_fit None to x st = ((fit, follow), λ e. absurd (cc e))
       stores_text_fit (Some cs) to x st = writes_fit (is_some (machine.cells_at (length cs) to x)) to (machine.character_cells following cs) st
 
       puts_text_fit : (strict : Bool) (o : Option (List ℕ)) (n : Option ℕ) (to : Addr) (x : Rooted (List Cell)) → On (at + 1) s → Fit (machine.puts_text following strict o n to x at k s f fs mem)
-      puts_text_fit strict None n to x st = ((fit, follow), λ o e. absurd (cc e))
-      puts_text_fit strict (Some cs) None to x st = ((fit, follow), λ o e. absurd (cc e))
+      puts_text_fit strict None n to x st = ((fit, follow), λ e. absurd (cc e))
+      puts_text_fit strict (Some cs) None to x st = ((fit, follow), λ e. absurd (cc e))
       puts_text_fit strict (Some cs) (Some n) to x st = stores_text_fit (machine.fitted following strict n cs) to x st
 
       compares_fit : (r : Relation) (o p : Option (List ℕ)) → Asked (Some N) at s → Fit (machine.compares following r o p at k s f fs mem)
-      compares_fit r (Some a) (Some b) st = let v = Num (flag (holds r (order a b) (pos 0))) in ((on (v ∷ s) (st v refl), follow), λ o e. absurd (cc e))
-      compares_fit r (Some a) None st = ((fit, follow), λ o e. absurd (cc e))
-      compares_fit r None p st = ((fit, follow), λ o e. absurd (cc e))
+      compares_fit r (Some a) (Some b) st = let v = Num (flag (holds r (order a b) (pos 0))) in ((on (v ∷ s) (st v refl), follow), λ e. absurd (cc e))
+      compares_fit r (Some a) None st = ((fit, follow), λ e. absurd (cc e))
+      compares_fit r None p st = ((fit, follow), λ e. absurd (cc e))
 
       enters_fit : (b : Bool) (p o : ℕ) (shape : ProcShape) (h : Handed following) → HasBody image p → Asked (result_of (numbered image.shapes.items p)) at s → Fit (machine.enters following b (called_frame following p o shape h) at k s f fs mem)
-      enters_fit true p o shape h body st = ((fit, follow), λ o e. absurd (cc e))
-      enters_fit false p o shape h body st = (((body, ([], sound.Begins, tt), (fit.0, st, fit.2)), follow), λ o e. absurd (cc e))
+      enters_fit true p o shape h body st = ((fit, follow), λ e. absurd (cc e))
+      enters_fit false p o shape h body st = (((body, ([], sound.Begins, tt), (fit.0, st, fit.2)), follow), λ e. absurd (cc e))
 
       calls_with_fit : (p o : ℕ) (shape : ProcShape) (h : Option (Handed following)) → HasBody image p → Asked (result_of (numbered image.shapes.items p)) at s → Fit (machine.calls_with following p o shape h at k s f fs mem)
-      calls_with_fit p o shape None body st = ((fit, follow), λ o e. absurd (cc e))
+      calls_with_fit p o shape None body st = ((fit, follow), λ e. absurd (cc e))
       calls_with_fit p o shape (Some h) body st = enters_fit (machine.is_deep following (called_frame following p o shape h) (f ∷ fs)) p o shape h body st
 
       calls_fit : (o : Option ProcShape) (p : ℕ) (vs : List Cell) → numbered image.shapes.items p ≡ o → Asked (result_of (numbered image.shapes.items p)) at s → Fit (machine.calls following o p vs at k s f fs mem)
-      calls_fit None p vs e st = ((fit, follow), λ o e. absurd (cc e))
+      calls_fit None p vs e st = ((fit, follow), λ e. absurd (cc e))
       calls_fit (Some shape) p vs e st =
           calls_with_fit p (machine.object_of shape.method vs) shape (machine.handed following (suc (length fs)) (rooted (f ∷ fs) mem) shape.params.items (machine.arguments_of shape.method vs) (length shape.kinds.items)) (whole.shapes p shape e) st
 
@@ -180,24 +198,26 @@ module _ (image : Image) (whole : IsSoundImage image) where
       answer_fits (PutsText strict from n to size) st = puts_text_fit strict (machine.text_at following from n (rooted (f ∷ fs) mem)) (machine.length_in following size) to (rooted (f ∷ fs) mem) st
       answer_fits (ComparesTexts r a n b m) st = compares_fit r (machine.text_at following a n (rooted (f ∷ fs) mem)) (machine.text_at following b m (rooted (f ∷ fs) mem)) st
       answer_fits (Calls how p vs) st = calls_fit (numbered image.shapes.items p) p vs refl st
-      answer_fits (Ends result) st = ((ends_fit following result fs (result_of (numbered image.shapes.items f.procedure)) fit.2 st.1, follow), λ o e. absurd (cc e))
+      answer_fits (Ends result) st = ((ends_fit following result fs (result_of (numbered image.shapes.items f.procedure)) fit.2 st.1, follow), λ e. absurd (cc e))
       answer_fits (Makes t vs) st = makes_of_fit (numbered image.types.items t) (machine.numbers_in following vs) t st
       answer_fits (Starts v) st = starts_fit v st.0 st.1 st.2
+      answer_fits Enters st = enter_fits st.0 st.1 st.2
+      answer_fits Leaves st = leave_fits st.0 st.1 st.2
       answer_fits (PutsInt v n) st = prints_fit (machine.written v n) st
       answer_fits (PutsChar v) st = writes_out_fit (option_map (λ c. c ∷ []) (machine.code_in following v)) st
       answer_fits (PutsString a n) st = writes_out_fit (machine.text_at following a n (rooted (f ∷ fs) mem)) st
-      answer_fits PutsNothing st = ((on s st, follow), λ o e. absurd (cc e))
-      answer_fits PutsLn st = ((on s st, follow), λ o e. absurd (cc e))
-      answer_fits (Places a) st = ((fit, follow), λ o e. absurd (cc e))
-      answer_fits (Lengths a) st = ((fit, follow), λ o e. absurd (cc e))
-      answer_fits (Opens v) st = ((fit, follow), λ o e. absurd (cc e))
-      answer_fits (Sizes v d) st = ((fit, follow), λ o e. absurd (cc e))
-      answer_fits (Tests v t) st = ((fit, follow), λ o e. absurd (cc e))
+      answer_fits PutsNothing st = ((on s st, follow), λ e. absurd (cc e))
+      answer_fits PutsLn st = ((on s st, follow), λ e. absurd (cc e))
+      answer_fits (Places a) st = ((fit, follow), λ e. absurd (cc e))
+      answer_fits (Lengths a) st = ((fit, follow), λ e. absurd (cc e))
+      answer_fits (Opens v) st = ((fit, follow), λ e. absurd (cc e))
+      answer_fits (Sizes v d) st = ((fit, follow), λ e. absurd (cc e))
+      answer_fits (Tests v t) st = ((fit, follow), λ e. absurd (cc e))
 
     pub goes_fits : (mem : Memory) (stop : Stop) → StandsStopped image f.procedure (code_of image f.procedure) stop → Fit (machine.goes following image.shapes.items image.types.items stop f fs mem)
     goes_fits mem (Work q at k s) st = answer_fits at k s mem q st
-    goes_fits mem (Ended (Begins at p s) k) st = (((fit.0, st.2, fit.2), follow), λ o e. absurd (cc e))
-    goes_fits mem (Ended (Fails n c) k) st = ((fit, follow), λ o e. absurd (cc e))
+    goes_fits mem (Ended (Begins at p s) k) st = (((fit.0, st.2, fit.2), follow), λ e. absurd (cc e))
+    goes_fits mem (Ended (Fails n c) k) st = ((fit, follow), λ e. absurd (cc e))
 
   -- where no frame is left the next body begins
   opened_fit : (fs : List Frame) (following : List ℕ) → FitFor image None fs → AreToFollow image following → FramesFit image (opened_by fs following)
@@ -206,8 +226,8 @@ module _ (image : Image) (whole : IsSoundImage image) where
   opened_fit (f ∷ fs) ps h follow = (h, follow)
 
   turned_fit : (fs : List Frame) (following : List ℕ) (mem : Memory) → FitFor image None fs → AreToFollow image following →
-      FramesFit image (turn_at image following fs mem).frames × ((o : ℕ) → (turn_at image following fs mem).left ≡ DidStart o → FramesFit image (past image (turn_at image following fs mem).frames))
-  turned_fit [] following mem h follow = ((tt, follow), λ o e. absurd (cc e))
+      FramesFit image (turn_at image following fs mem).frames × (is_passed (turn_at image following fs mem).left ≡ true → FramesFit image (past image (turn_at image following fs mem).frames))
+  turned_fit [] following mem h follow = ((tt, follow), λ e. absurd (cc e))
   turned_fit (f ∷ fs) following mem h follow = goes_fits following follow f fs h mem (stop_of image (made_in image mem) f fs) (stop_stands (made_in image mem) f fs h)
 
   pub opened_fits : (fs : Frames) → FramesFit image fs → FramesFit image (opened fs)
@@ -216,8 +236,8 @@ module _ (image : Image) (whole : IsSoundImage image) where
   pub turn_fits : (mem : Memory) (fs : Frames) → FramesFit image fs → FramesFit image (turn image mem fs).frames
   turn_fits mem fs h = let o = opened_fits fs h in (turned_fit (opened fs).frames (opened fs).following mem o.0 o.1).0
 
-  pub past_fits : (mem : Memory) (fs : Frames) (o : ℕ) → FramesFit image fs → (turn image mem fs).left ≡ DidStart o → FramesFit image (past image (turn image mem fs).frames)
-  past_fits mem fs o h e = let w = opened_fits fs h in (turned_fit (opened fs).frames (opened fs).following mem w.0 w.1).1 o e
+  pub past_fits : (mem : Memory) (fs : Frames) → FramesFit image fs → is_passed (turn image mem fs).left ≡ true → FramesFit image (past image (turn image mem fs).frames)
+  past_fits mem fs h e = let w = opened_fits fs h in (turned_fit (opened fs).frames (opened fs).following mem w.0 w.1).1 e
 
   -- the frames with which activities begin
   pub object_fits : (o : ℕ) (t : Option TypeDesc) → ((d : TypeDesc) → t ≡ Some d → HasBodyOrNone image d.body) → FramesFit image (object_frames o t)

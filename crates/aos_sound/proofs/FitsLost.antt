@@ -327,6 +327,8 @@ module _ (image : Image) (own : ℕ) (role : Role) (code : List Instr) (here : H
       let w = topped_is R (without (replicate j N) s) t e in
       counted_hold Keeps j [] [] s w.0 (λ zs s1. Sees (Makes ty (map (λ z. Num z) zs)) s1) stack are (ap (λ ks. without ks s) (append-nil (replicate j N)) ∙ w.1) (λ zs u rest l are1 e1 f. cc f)
   undecided instr.Start s t stack may are e = kind_holds Keeps R [] s t (λ o s1. Sees (Starts o) s1) stack are e (λ v u rest o are1 e1 f. cc f)
+  undecided instr.Enter s t stack may are e = λ f. cc f
+  undecided instr.Leave s t stack may are e = λ f. cc f
   undecided instr.Return s t stack may are e = returns_keep (numbered image.shapes.items own) s t stack are e
   undecided instr.OutChar s t stack may are e = kind_holds Keeps N [] s t (λ v s1. Sees (PutsChar v) s1) stack are e (λ v u rest o are1 e1 f. cc f)
   undecided instr.OutInt s t stack may are e =

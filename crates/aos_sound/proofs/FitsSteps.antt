@@ -307,6 +307,8 @@ module _ (image : Image) (own : ℕ) (code : List Instr) (here : Here) (at : ℕ
   stands_after (instr.NewObject ty) s t stack is c are e = λ v o. give R v s t stack o e are (onward (instr.NewObject ty) s t is c e refl)
   stands_after (instr.NewArray ty j) s t stack is c are e = arrays_stand ty j s t stack are e (onward (instr.NewArray ty j) s t is c e refl)
   stands_after instr.Start s t stack is c are e = starts_stand s t stack is c are e (onward instr.Start s t is c e refl)
+  stands_after instr.Enter s t stack is c are e = (is, (s, c, are), onward instr.Enter s t is c e refl stack (retyped s t stack e are))
+  stands_after instr.Leave s t stack is c are e = (is, (s, c, are), onward instr.Leave s t is c e refl stack (retyped s t stack e are))
   stands_after instr.Return s t stack is c are e = returns_stand (numbered image.shapes.items own) s t stack refl are e
   stands_after instr.OutChar s t stack is c are e =
       let on = onward instr.OutChar s t is c e refl in

@@ -1,13 +1,13 @@
 -- What a frame's operands are on the paths of its procedure's code, and what instructions and silent work leave of them.
 use Rattle.std.specs.Prelude.{◌≡◌, ◌<◌, ◌≤◌, ◌+◌, ℕ, suc, List, [], ◌∷◌, ◌++◌, Bool, true, false, Option, Some, None, length, drop, slice_get, IsTrue}
 use Rattle.aos_base.specs.declared.text.Pos.{Pos}
-use Rattle.aos_base.specs.Question.{Reads, Stores, Copies, PutsText, ComparesTexts, Calls, Ends, Makes, Starts, PutsInt, PutsChar, PutsString, PutsNothing, PutsLn, Places, Lengths, Opens, Sizes, Tests}
+use Rattle.aos_base.specs.Question.{Reads, Stores, Copies, PutsText, ComparesTexts, Calls, Ends, Makes, Starts, Enters, Leaves, PutsInt, PutsChar, PutsString, PutsNothing, PutsLn, Places, Lengths, Opens, Sizes, Tests}
 use Rattle.aos_base.specs.Rooted.{Made}
 use Rattle.aos_code.specs.declared.instr.Cell.{Cell}
 use Rattle.aos_code.specs.declared.instr.Kind.{Kind}
 use Rattle.aos_code.specs.declared.instr.Kind.TheVariants.{N, R, C, A}
 use Rattle.aos_code.specs.declared.instr.Instr.{Instr}
-use Rattle.aos_code.specs.declared.instr.Instr.TheVariants.{Start}
+use Rattle.aos_code.specs.declared.instr.Instr.TheVariants.{Start, Enter, Leave}
 use Rattle.aos_code.specs.declared.image.ProcShape.{ProcShape}
 use Rattle.aos_code.specs.declared.image.Image.{Image}
 use Rattle.aos_code.specs.Numbered.{numbered}
@@ -58,6 +58,8 @@ answer_kind shapes (Copies n from to) = None
 answer_kind shapes (PutsText strict from n to room) = None
 answer_kind shapes (Ends result) = None
 answer_kind shapes (Starts v) = None
+answer_kind shapes Enters = None
+answer_kind shapes Leaves = None
 answer_kind shapes (PutsInt v n) = None
 answer_kind shapes (PutsChar v) = None
 answer_kind shapes (PutsString a n) = None
@@ -89,11 +91,13 @@ module _ (image : Image) (own : ℕ) (code : List Instr) where
   StandsTold ks at stack = (vs : List Cell) → AreOf ks vs → StandsOn at (vs ++ stack)
 
   -- Below the operands of the question of the instruction at this place lie these: behind it they stand on a path with the answer. At
-  -- the end of the frame there are none, and the result is the procedure's. Before a start, which is left to the kernel, the object lies
-  -- on them still.
+  -- the end of the frame there are none, and the result is the procedure's. Before work that is left to the kernel they stand on a path
+  -- too, at a start with the object on them.
   abbrev pub StandsAsked : Question → (at : ℕ) → Stack → Type 0
   StandsAsked (Ends result) at stack = (stack ≡ []) × IsResult (result_of (numbered image.shapes.items own)) result
   StandsAsked (Starts v) at stack = (slice_get code at ≡ Some Start) × StandsOn at (v ∷ stack) × StandsOn (at + 1) stack
+  StandsAsked Enters at stack = (slice_get code at ≡ Some Enter) × StandsOn at stack × StandsOn (at + 1) stack
+  StandsAsked Leaves at stack = (slice_get code at ≡ Some Leave) × StandsOn at stack × StandsOn (at + 1) stack
   StandsAsked q at stack = StandsGiven (answer_kind image.shapes.items q) (at + 1) stack
 
   -- a statement begins there, and these stand before it and behind it

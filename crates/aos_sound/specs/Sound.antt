@@ -3,7 +3,7 @@ use Rattle.std.specs.Prelude.{◌≡◌, ◌≤◌, ℕ, zero, suc, ◌+◌, ◌
 use Rattle.aos_code.specs.declared.instr.Kind.{Kind}
 use Rattle.aos_code.specs.declared.instr.Kind.TheVariants.{N, R, C, A}
 use Rattle.aos_code.specs.declared.instr.Instr.{Instr}
-use Rattle.aos_code.specs.declared.instr.Instr.TheVariants.{Num, Nil, NilCall, Proc, SelfRef, Virtual, CallValue, Deref, OpenRef, EqRef, EqCall, Bind, Is, IsPlace, Guard, GuardPlace, NewArray, Dup, Drop, Swap, Frame, Module, Param, Length, Offset, Index, IndexOpen, PickLen, Unary, Binary, Keep, Kept, Fail, Assert, Halt, Jump, JumpFalse, Begin, Load, Store, Copy, PutText, CmpText, Call, NewObject, Start, Return, OutChar, OutInt, OutString, OutLn, OutOpen}
+use Rattle.aos_code.specs.declared.instr.Instr.TheVariants.{Num, Nil, NilCall, Proc, SelfRef, Virtual, CallValue, Deref, OpenRef, EqRef, EqCall, Bind, Is, IsPlace, Guard, GuardPlace, NewArray, Dup, Drop, Swap, Frame, Module, Param, Length, Offset, Index, IndexOpen, PickLen, Unary, Binary, Keep, Kept, Fail, Assert, Halt, Jump, JumpFalse, Begin, Load, Store, Copy, PutText, CmpText, Call, NewObject, Start, Enter, Leave, Return, OutChar, OutInt, OutString, OutLn, OutOpen}
 use Rattle.aos_code.specs.declared.image.ModuleDesc.{ModuleDesc}
 use Rattle.aos_code.specs.declared.image.ProcShape.{ProcShape}
 use Rattle.aos_code.specs.declared.image.TypeDesc.{TypeDesc}
@@ -69,6 +69,8 @@ effect_of (CallValue p) = Applies p
 effect_of (NewObject t) = Gives R
 effect_of (NewArray t j) = Makes j
 effect_of Start = Takes R
+effect_of Enter = Pass
+effect_of Leave = Pass
 effect_of Return = Returns
 effect_of OutChar = Takes N
 effect_of OutInt = TakesTwo N N
@@ -271,6 +273,8 @@ module _ (image : Image) (own : ℕ) where
   may_stand role code at (Copy n) = is_procedure role
   may_stand role code at (PutText strict) = is_procedure role
   may_stand role code at Start = is_procedure role
+  may_stand role code at Enter = is_procedure role
+  may_stand role code at Leave = is_procedure role
   may_stand role code at Return = is_procedure role
   may_stand role code at OutChar = is_procedure role
   may_stand role code at OutInt = is_procedure role

@@ -111,6 +111,8 @@ pub fn effect_of(i: &Instr) -> Effect
         Instr::NewObject(_) => Effect::Gives(Kind::R),
         Instr::NewArray(_, j) => Effect::Makes(j),
         Instr::Start => Effect::Takes(Kind::R),
+        Instr::Enter => Effect::Pass,
+        Instr::Leave => Effect::Pass,
         Instr::Return => Effect::Returns,
         Instr::OutChar => Effect::Takes(Kind::N),
         Instr::OutInt => Effect::TakesTwo(Kind::N, Kind::N),

@@ -1,11 +1,10 @@
 // Laws of sound bodies.
 
-ghost use Rattle.std.specs.Prelude.{◌≡◌, ℕ, List};
-ghost use Rattle.aos_base.specs.declared.kernel.Did.TheVariants as Did;
+ghost use Rattle.std.specs.Prelude.{◌≡◌, ℕ, List, true};
 ghost use Rattle.aos_code.specs.declared.instr.Instr.{Instr};
 ghost use Rattle.aos_code.specs.declared.image.Image.{Image};
 ghost use Rattle.aos_code.specs.Memory.{Memory};
-ghost use Rattle.aos_code.specs.Machine.{Frames, opened, turn, past, body_of, first_frames};
+ghost use Rattle.aos_code.specs.Machine.{Frames, opened, turn, past, is_passed, body_of, first_frames};
 ghost use Rattle.aos_sound.specs.declared.stand.Role.{Role};
 ghost use Rattle.aos_sound.specs.Sound.{ArePathsSound, IsSound};
 ghost use Rattle.aos_sound.specs.Fits.{KeepsToPaths, FindsAll};
@@ -21,14 +20,14 @@ pub fn law_of_paths()
         IsSound image own role code depth → FindsAll image own code }
 {}
 
-/// In a sound image activities begin with frames that fit, each turn leaves frames that fit, as they do past the start of an
-/// object's activity, and frames that fit have room for all operands that they are to have.
+/// In a sound image activities begin with frames that fit, each turn leaves frames that fit, as they do past work
+/// that is left to the kernel, and frames that fit have room for all operands that they are to have.
 pub fn law_of_frames()
     ensures first { (image : Image) → IsSoundImage image → FramesFit image (first_frames image) }
     ensures body { (image : Image) → IsSoundImage image → (mem : Memory) (o : ℕ) → FramesFit image (body_of image mem o) }
     ensures turn { (image : Image) → IsSoundImage image → (mem : Memory) (fs : Frames) → FramesFit image fs → FramesFit image (turn image mem fs).frames }
-    ensures past { (image : Image) → IsSoundImage image → (mem : Memory) (fs : Frames) (o : ℕ) → FramesFit image fs →
-        (turn image mem fs).left ≡ Did.Start o → FramesFit image (past image (turn image mem fs).frames) }
+    ensures past { (image : Image) → IsSoundImage image → (mem : Memory) (fs : Frames) → FramesFit image fs →
+        is_passed (turn image mem fs).left ≡ true → FramesFit image (past image (turn image mem fs).frames) }
     ensures opened { (image : Image) → IsSoundImage image → (fs : Frames) → FramesFit image fs → FramesFit image (opened fs) }
     ensures room { (image : Image) → IsSoundImage image → (fs : Frames) → FramesFit image fs → HaveRoom image fs }
 {}

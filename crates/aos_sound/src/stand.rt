@@ -159,6 +159,8 @@ fn may_stand(image: &Image, own: u32, role: Role, code: &[Instr], at: usize, i: 
         Instr::Copy(_) => for_procedure(role),
         Instr::PutText(_) => for_procedure(role),
         Instr::Start => for_procedure(role),
+        Instr::Enter => for_procedure(role),
+        Instr::Leave => for_procedure(role),
         Instr::Return => for_procedure(role),
         Instr::OutChar => for_procedure(role),
         Instr::OutInt => for_procedure(role),

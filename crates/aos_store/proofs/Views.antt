@@ -164,7 +164,7 @@ list_more fs f = ap (map frame_in) (reverse-append fs (f ∷ []))
 
 pub frame_made : (p o : ℕ) (kinds : List Kind) (more keeps counted : ℕ) (cells operands : Vec Cell Global) →
     cells.items ≡ (map first_cell kinds ++ replicate more (Num (pos 0))) ++ replicate keeps (Num (pos 0)) → operands.items ≡ [] →
-    frame_in (record { procedure = p; object = o; next = 0; at = None; cells = cells; keeps = keeps; counted = counted; operands = operands }) ≡ new_frame p o kinds more counted
+    frame_in (record { procedure = p; object = o; next = 0; at = None; is_open = false; cells = cells; keeps = keeps; counted = counted; operands = operands }) ≡ new_frame p o kinds more counted
 frame_made p o kinds more keeps counted cells operands e r =
     let front = map first_cell kinds ++ replicate more (Num (pos 0)) in
     let back = replicate keeps (Num (pos 0)) in
@@ -178,6 +178,7 @@ frame_made p o kinds more keeps counted cells operands e r =
       object = o;
       next = 0;
       at = None;
+      is_open = false;
       cells = own i;
       counted = counted;
       keeps = λ c. (ap (λ ys. get_or ys c (Num (pos 0))) kept ∙ zeros keeps c (Num (pos 0))) i;

@@ -1,14 +1,15 @@
 // The frames of an activity.
 ghost use Rattle.std.specs.Prelude.{[], map, drop, ◌++◌, replicate, nat_lt, sum_by, pos, false, true, IfErr, ◌≡◌, ◌<◌, ◌≤◌, ◌+◌, ◌-◌, ◌%◌, ◌^◌, ℕ, ◌∷◌, length, slice_get, vec_len, vec_capacity, List, IfOk, OnErr, if◌then◌else◌};
 ghost use Rattle.aos_code.specs.Silent.{Stack};
-ghost use Rattle.aos_code.specs.Machine.{first_cell as first_cell_of, Frame as FrameOf, Frames as FramesOf};
+ghost use Rattle.aos_code.specs.Numbered.{numbered};
+ghost use Rattle.aos_code.specs.Machine.{first_cell as first_cell_of, lock_in};
 ghost use Rattle.aos_store.specs.Store.{frame_in, list_in, frames_in, SameCounts, own_cells, kept_cells, fits, fits_in, changed, with_cells, with_kept, keeps_in, deep, new_frame, IsFrameRefusal};
 ghost use Rattle.aos_base.specs.Rooted.{from_last, change_from_last};
 ghost use Rattle.std.specs.Option.{option_and_then, option_map, option_copied};
 
 use crate::cells::{Change, change_front};
-use aos_base::{NoMemory, Pos};
-use aos_code::{Cell, Kind};
+use aos_base::{LockName, NoMemory, Pos};
+use aos_code::{Cell, Kind, ProcShape};
 use std::alloc::Global;
 
 /// The most frames of an activity, its body's own included.
@@ -18,7 +19,7 @@ pub const MAX_FRAMES: usize = 512;
 pub const MAX_COUNTED: u64 = 65_536;
 
 /// A frame: its procedure; the object whose method or body it is, 0 for none; the place of the next instruction; the statement
-/// last begun; its cells, of which the last ones, so many, are those that it keeps values in; how many count as scalars; and its
+/// last begun; whether the region of its lock is open; its cells, of which the last ones, so many, are those that it keeps values in; how many count as scalars; and its
 /// operands, the topmost last.
 #[derive(Drop)]
 pub struct Frame {
@@ -26,6 +27,7 @@ pub struct Frame {
     pub object: u32,
     pub next: usize,
     pub at: Option<Pos>,
+    pub is_open: bool,
     pub cells: Vec<Cell>,
     pub keeps: u32,
     pub counted: u32,
@@ -50,6 +52,20 @@ pub enum FrameErr {
 }
 
 impl Frame {
+    /// The lock of its regions: that of the object on which its procedure is called, or else of the module in which that stands.
+    pub fn lock(&self, shapes: &[ProcShape]) -> LockName
+        ensures { result ≡ lock_in (numbered shapes.now self.now.procedure) (frame_in self.now) }
+    {
+        match shape_of(shapes, self.procedure) {
+            None => LockName::Module(0),
+            Some(shape) => if shape.method {
+                LockName::Object(self.object)
+            } else {
+                LockName::Module(shape.module)
+            },
+        }
+    }
+
     /// How many cells places name.
     pub fn len(&self) -> usize
         ensures value { result ≡ vec_len self.now.cells - self.now.keeps }
@@ -266,6 +282,7 @@ impl Frames {
             object,
             next: 0,
             at: None,
+            is_open: false,
             cells,
             keeps,
             counted,
@@ -273,6 +290,13 @@ impl Frames {
         });
         Ok(())
     }
+}
+
+/// The shape of a procedure, where there is one.
+fn shape_of(shapes: &[ProcShape], procedure: u32) -> Option<&ProcShape>
+    ensures { option_copied result ≡ numbered shapes.now procedure }
+{
+    shapes.get(procedure.checked_sub(1)? as usize)
 }
 
 /// Whether frames and so many scalars more have more than 65,536 scalars.

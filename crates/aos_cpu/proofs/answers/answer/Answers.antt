@@ -1,4 +1,4 @@
-use Rattle.std.proofs.Common.{rules, ◌≡◌, ap, sym, subst, w64, ℤ}
+use Rattle.std.proofs.Common.{rules, ◌≡◌, refl, ap, sym, subst, w64, ℤ}
 use Rattle.std.specs.Prelude.{IfOk}
 use mir.Val.{to_z, of_z}
 use Rattle.aos_base.specs.Question.{Reads, Stores, Copies, Ends, Starts, PutsInt, PutsChar, PutsNothing, PutsLn, PutsString, PutsText, ComparesTexts}
@@ -7,7 +7,9 @@ use Rattle.aos_store.specs.Store.{memory_in}
 use Rattle.aos_silent.specs.Acts.{addr_in, question_in, operands_of, results}
 use Rattle.aos_cpu.specs.Turns.{HasAnswered, Stands}
 use Rattle.aos_cpu.specs.Answers.{IsAnswered}
-use Rattle.aos_cpu.proofs.Answering.{has_answered, has_ok}
+use Rattle.aos_base.specs.declared.kernel.Did.TheVariants.{Enter, Leave}
+use Rattle.aos_silent.specs.declared.act.Question.TheVariants.{Enters as AsksEnter, Leaves as AsksLeave}
+use Rattle.aos_cpu.proofs.Answering.{has_answered, has_ok, left_in}
 use Rattle.aos_cpu.proofs.answers.answer.Goals as goal
 
 pub returns-in-Reads-clause-ok : goal.returns-in-Reads-clause-ok
@@ -44,6 +46,16 @@ returns-in-Starts-clause-ok c =
     has_answered c.args.image.now c.args.question (Starts (Ref c.in-Starts.object)) c.args.at 1 (λ s. ap (λ x. question_in x s) c.in-Starts.is) (ap operands_of c.in-Starts.is)
     c.args.frames.now c.args.frames.now (memory_in c.args.store.now) (memory_in c.args.store.now) c.args.output.now.items c.args.output.now.items c.start.result
     (c.start.ensures c.args.at c.args.frames.now (memory_in c.args.store.now) c.args.output.now.items (λ f fs is. (let h = subst (λ q. Stands q c.args.at c.args.frames.now) c.in-Starts.is c.requires.stands f fs is in (sym h.0, h.1))))
+
+pub returns-in-Enters-clause-ok : goal.returns-in-Enters-clause-ok
+returns-in-Enters-clause-ok c =
+    left_in c.args.image.now c.args.question AsksEnter Enter c.top_lock.result c.args.at c.args.frames.now (memory_in c.args.store.now) c.args.output.now.items c.in-Enters.is c.requires.stands
+    (λ following f fs. refl) c.top_lock.ensures
+
+pub returns-in-Leaves-clause-ok : goal.returns-in-Leaves-clause-ok
+returns-in-Leaves-clause-ok c =
+    left_in c.args.image.now c.args.question AsksLeave Leave c.top_lock-in-Leaves.result c.args.at c.args.frames.now (memory_in c.args.store.now) c.args.output.now.items c.in-Leaves.is c.requires.stands
+    (λ following f fs. refl) c.top_lock-in-Leaves.ensures
 
 pub returns-in-PutsInt-clause-ok : goal.returns-in-PutsInt-clause-ok
 returns-in-PutsInt-clause-ok c =

@@ -1,5 +1,5 @@
 use Rattle.std.proofs.Common.{ap, ◌∙◌, ◌∷◌}
-use Rattle.std.specs.Prelude.{None}
+use Rattle.std.specs.Prelude.{None, false}
 use Rattle.aos_store.specs.declared.frames.Frame.{Frame as KeptFrame}
 use Rattle.aos_store.specs.Store.{list_in, new_frame}
 use Rattle.aos_store.proofs.Views.{list_more, frame_made}
@@ -13,6 +13,7 @@ returns-clause-ok c =
       object = c.args.object;
       next = 0;
       at = None;
+      is_open = false;
       cells = c.in-Ok.cells;
       keeps = c.args.keeps;
       counted = c.args.counted;
