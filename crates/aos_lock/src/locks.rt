@@ -56,6 +56,14 @@ impl Locks {
         Ok(lock)
     }
 
+    /// How many locks there are.
+    #[tactic(auto, unfolding(crate::specs::Waits::count_of))]
+    pub fn count(&self) -> usize
+        ensures { result ≡ count_of self.now }
+    {
+        self.locks.len()
+    }
+
     /// A lock's owner, or None where nobody owns it.
     #[tactic(auto, unfolding(crate::specs::Waits::count_of, crate::specs::Waits::owner_of))]
     pub fn owner(&self, lock: u32) -> Option<u32>
@@ -90,19 +98,12 @@ impl Locks {
         self.locks[lock as usize].enter(links, activity)
     }
 
-    /// The owner leaves the lock, which passes to its heir: to the first waiter whose condition holds or traps, else to
+    /// The lock is left, and passes to its heir: to the first waiter whose condition holds or traps, else to
     /// the first entrant, else to nobody (Muller 2002, on monitors).
     #[tactic(auto, unfolding(crate::specs::Waits::count_of))]
-    pub fn leave<T: Test>(
-        &mut self,
-        links: &mut Links,
-        lock: u32,
-        _activity: u32,
-        test: &mut T,
-    ) -> Passed
+    pub fn leave<T: Test>(&mut self, links: &mut Links, lock: u32, test: &mut T) -> Passed
         requires added { lock < count_of self.old }
         requires belong { Belong links.old self.old }
-        requires owner { owner_of self.old lock ≡ Some _activity }
         ensures heir { let es = waiting_in links.old self.old lock in
             result ≡ passed_to (heir_by (T.verdict_of test.old) es) }
         ensures owner { owner_of self.new lock ≡ new_owner result }

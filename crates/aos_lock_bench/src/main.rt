@@ -32,7 +32,7 @@ fn pass_on(links: &mut Links, locks: &mut Locks, lock: u32, owner: u32) -> u32
     requires { Holds links.old locks.old lock owner }
     ensures { Holds links.new locks.new lock result }
 {
-    let heir = locks.leave(links, lock, owner, &mut Never).owner();
+    let heir = locks.leave(links, lock, &mut Never).owner();
     locks.enter(links, lock, owner);
     heir.unwrap_or(owner)
 }

@@ -1,0 +1,9 @@
+pub mod Members
+pub mod Readings
+pub mod Names
+pub mod Shares
+pub mod Moves
+pub mod Standing
+pub mod Places
+pub mod Rests
+pub mod Passing

@@ -1,0 +1,128 @@
+-- The line of the kernel's book, place by place: the list of each queue, the activity of each worker, and the owner of each lock.
+use Rattle.std.specs.Prelude.{◌≡◌, ◌≢◌, ◌<◌, ◌≤◌, ℕ, List, [], ◌∷◌, Bool, true, not, ◌==◌, if◌then◌else◌, Option, Some, None, length, get_or, slice_get, vec_len, vec_capacity}
+use Rattle.aos_base.specs.declared.kernel.Outcome.{Outcome}
+use Rattle.aos_base.specs.declared.kernel.Outcome.TheVariants.{Going, Ended, Dead, Spent}
+use Rattle.aos_base.specs.declared.kernel.LockName.{LockName}
+use Rattle.aos_base.specs.Lock.{is_lock, Waiting, Wants, Entry, enters}
+use Rattle.aos_base.specs.Book as book
+use Rattle.aos_base.specs.Book.{Stand, put, is_on, is_ready, is_at_lock, waiting, place_of, leave_line, move}
+use Rattle.aos_queue.specs.Lists.{IsOnce, room_of}
+use Rattle.aos_lock.specs.declared.lock.Entered.{Entered}
+use Rattle.aos_lock.specs.declared.lock.Entered.TheVariants.{Taken, Waits, Recursive}
+use Rattle.aos_lock.specs.declared.lock.Passed.{Passed}
+use Rattle.aos_lock.specs.declared.lock.Passed.TheVariants.{Waiter, Entrant, Free}
+use Rattle.aos_lock.specs.Heirs.{own}
+use Rattle.aos_lock.specs.Waits.{count_of, owner_of, waiting_in, Belong as LocksBelong}
+use Rattle.aos_ready.specs.declared.ready.Priority.{Priority}
+use Rattle.aos_ready.specs.Order.{number_of as priority_number, ready_in, Belong as ReadyBelong}
+use Rattle.aos_line.specs.declared.place.Place.{Place}
+use Rattle.aos_line.specs.declared.place.Place.TheVariants.{Nowhere, On, Ready, At}
+use Rattle.aos_line.specs.declared.line.Line.{Line}
+use Rattle.aos_line.specs.Numbers.{number_of}
+
+-- those whose place passes a test, in their order
+abbrev pub standing : (book.Place → Bool) → List Stand → List ℕ
+standing at [] = []
+standing at (s ∷ line) = if at s.place then s.activity ∷ standing at line else standing at line
+
+abbrev pub anywhere : book.Place → Bool
+anywhere p = true
+
+-- ready, or on a worker
+abbrev pub is_awake : book.Place → Bool
+is_awake p = not (is_at_lock p)
+
+-- the activity of a worker, as a list
+abbrev pub of_worker : Option ℕ → List ℕ
+of_worker None = []
+of_worker (Some a) = a ∷ []
+
+-- where each activity that was started stands, as it is kept
+abbrev pub places_of : Line → List Place
+places_of l = l.places.items
+
+-- how many activities have been started
+abbrev pub started_of : Line → ℕ
+started_of l = length (places_of l)
+
+-- how many of them haven't ended
+abbrev pub live_of : Line → ℕ
+live_of l = l.live
+
+-- the activity of a worker
+abbrev pub running_of : Line → ℕ → Option ℕ
+running_of l w = get_or l.running w None
+
+-- where an activity stands, as it is kept; the number of a condition is not
+abbrev pub HasPlace : Place → Option book.Place → Type 0
+HasPlace Nowhere p = p ≡ None
+HasPlace (On w) p = p ≡ Some (book.On w)
+HasPlace (Ready q) p = p ≡ Some (book.Ready (priority_number q))
+HasPlace (At l awaits) p = (wants : Wants) × (p ≡ Some (book.At l wants)) × (awaits ≡ not (enters wants))
+
+-- a lock, by its number: those who wait, with conditions by their waiters, and the owner. For one without a number nobody waits
+abbrev pub HasLock : Line → Option ℕ → List Waiting → Option ℕ → Type 0
+HasLock l None es owner = (es ≡ []) × (owner ≡ None)
+HasLock l (Some n) es owner =
+    (n < count_of l.locks) × (waiting_in l.links l.locks n ≡ own es) × (owner_of l.locks n ≡ owner)
+
+-- the line, and the owners of locks
+pub record Stands (l : Line) (line : List Stand) (owner : LockName → Option ℕ) : Type 0 where
+  pub once : IsOnce (standing anywhere line)
+  pub places : (x : ℕ) → HasPlace (get_or l.places.items x Nowhere) (place_of line x)
+  pub live : length (standing anywhere line) ≡ l.live
+  pub awake : length (standing is_awake line) ≡ l.awake
+  pub few : l.live ≤ 1024
+  pub running : (w : ℕ) → standing (is_on w) line ≡ of_worker (get_or l.running w None)
+  pub ready : (p : Priority) → standing (is_ready (priority_number p)) line ≡ ready_in l.links l.ready p
+  pub locks : (k : LockName) → HasLock l (number_of l.numbers k) (waiting k line) (owner k)
+  pub named : (n : ℕ) → n < count_of l.locks → (k : LockName) × (number_of l.numbers k ≡ Some n)
+  pub apart : (k j : LockName) (n : ℕ) → number_of l.numbers k ≡ Some n → number_of l.numbers j ≡ Some n → k ≡ j
+  pub room : length l.places.items ≤ room_of l.links
+  pub queues : ReadyBelong l.links l.ready
+  pub waits : LocksBelong l.links l.locks
+
+-- it has some line and some owners
+pub record IsStood (l : Line) : Type 0 where
+  pub line : List Stand
+  pub owner : LockName → Option ℕ
+  pub stands : Stands l line owner
+
+-- an activity stands on a worker
+pub record IsOn (l : Line) (a : ℕ) : Type 0 where
+  pub stood : IsStood l
+  pub worker : ℕ
+  pub fits : worker < 16
+  pub at : slice_get l.places.items a ≡ Some (On worker)
+
+-- a started activity stands nowhere, and there is room for one that lives
+pub record IsNowhere (l : Line) (a : ℕ) : Type 0 where
+  pub stood : IsStood l
+  pub at : slice_get l.places.items a ≡ Some Nowhere
+  pub room : l.live < 1024
+
+-- how far the execution is, where so many live and so many of these wait for no lock
+abbrev pub outcome_by : (live awake : ℕ) → Bool → Outcome
+outcome_by live awake spent = if live == 0 then Ended else if spent then Spent else if awake == 0 then Dead else Going
+
+-- there is room for one activity more
+pub record HasRoomMore (l : Line) : Type 0 where
+  pub places : vec_len l.places < vec_capacity l.places
+  pub links : length l.places.items < room_of l.links
+
+-- whatever was shown is shown
+abbrev pub StandsSame : Line → Line → Type 0
+StandsSame old new = (line : List Stand) (owner : LockName → Option ℕ) → Stands old line owner → Stands new line owner
+
+-- a has asked for the lock k, which has this owner
+abbrev pub HasEntered : (new : Line) → Entered → (a : ℕ) (k : LockName) → List Stand → (LockName → Option ℕ) → Type 0
+HasEntered new Taken a k line owner = (owner k ≡ None) × Stands new line (put is_lock owner k (Some a))
+HasEntered new Recursive a k line owner = (owner k ≡ Some a) × Stands new line owner
+HasEntered new Waits a k line owner =
+    (b : ℕ) × (owner k ≡ Some b) × (b ≢ a) × Stands new (move a (book.At k Entry) line) owner
+
+-- the line without the one to whom a lock passed
+abbrev pub left_by : Passed → List Stand → List Stand
+left_by Free line = line
+left_by (Entrant b) line = leave_line b line
+left_by (Waiter b) line = leave_line b line

@@ -1,0 +1,105 @@
+// Locks: who asks for them, and to whom they pass.
+
+ghost use Rattle.std.specs.Prelude.{◌≡◌, ◌≢◌, ℕ, ◌<◌, ◌++◌, ◌∷◌, [], List, Option, Some, IfOk, OnErr};
+ghost use Rattle.std.specs.List.{Contains};
+ghost use Rattle.aos_base.specs.declared.kernel.Verdict.{Verdict};
+ghost use Rattle.aos_base.specs.Lock.{is_lock, Waiting, Entry, judged, heir};
+ghost use Rattle.aos_base.specs.Book.{Stand, put, waiting, At};
+ghost use Rattle.aos_lock.specs.Heirs.{by_waiter, passed_to, new_owner};
+ghost use Rattle.aos_lock.specs.Waits.{owner_of};
+ghost use Rattle.aos_line.specs.Numbers.{number_of};
+ghost use Rattle.aos_line.specs.Stands.{started_of, Stands, IsStood, IsOn, IsNowhere, StandsSame, HasEntered, left_by};
+
+use crate::line::Line;
+use crate::place::Place;
+use aos_base::{LockName, NoMemory};
+use aos_lock::{Entered, Passed, Test};
+
+impl Line {
+    /// A lock's number. One that is asked for the first time gets the next.
+    fn number(&mut self, lock: LockName) -> Result<u32, NoMemory>
+        ensures number { IfOk result (λ number. number_of self.new.numbers lock ≡ Some number) }
+        ensures same { StandsSame self.old self.new }
+        ensures places { self.new.places ≡ self.old.places }
+        ensures live { self.new.live ≡ self.old.live }
+    {
+        if let Some(number) = self.numbers.get(lock) {
+            return Ok(number);
+        }
+        self.numbers.reserve(lock)?;
+        if self.locks.count() >= u32::MAX as usize {
+            return Err(NoMemory);
+        }
+        let number = self.locks.add()?;
+        self.numbers.set(lock, number);
+        Ok(number)
+    }
+
+    /// One that stands nowhere waits for a lock that another one owns, as an entrant behind all others.
+    fn join(&mut self, activity: u32, lock: LockName, number: u32)
+        requires nowhere { IsNowhere self.old activity }
+        requires number { number_of self.old.numbers lock ≡ Some number }
+        requires owned { (b : ℕ) × (owner_of self.old.locks number ≡ Some b) × (b ≢ activity) }
+        ensures stands { (line : List Stand) (owner : LockName → Option ℕ) → Stands self.old line owner →
+            Stands self.new (line ++ record { activity = activity; place = At lock Entry } ∷ []) owner }
+        ensures started { started_of self.new ≡ started_of self.old }
+    {
+        self.locks.enter(&mut self.links, number, activity);
+        self.places[activity as usize] = Place::At {
+            lock,
+            awaits: false,
+        };
+        self.live += 1;
+    }
+
+    /// An activity on a worker asks for a lock: it takes it where nobody owns it, nothing changes where it owns it already, and
+    /// else it leaves its worker and waits. Where memory is wanted, nothing changes.
+    pub fn enter(&mut self, activity: u32, lock: LockName) -> Result<Entered, NoMemory>
+        requires { IsOn self.old activity }
+        ensures entered { (line : List Stand) (owner : LockName → Option ℕ) → Stands self.old line owner →
+            IfOk result (λ entered. HasEntered self.new entered activity lock line owner) }
+        ensures err { OnErr result (StandsSame self.old self.new) }
+        ensures on { IfOk result (λ entered. entered ≡ Entered.Recursive → IsOn self.new activity) }
+        ensures started { started_of self.new ≡ started_of self.old }
+    {
+        let number = self.number(lock)?;
+        match self.locks.owner(number) {
+            None => {
+                self.locks.enter(&mut self.links, number, activity);
+                Ok(Entered::Taken)
+            }
+            Some(owner) => {
+                if owner == activity {
+                    return Ok(Entered::Recursive);
+                }
+                self.leave(activity);
+                self.join(activity, lock, number);
+                Ok(Entered::Waits)
+            }
+        }
+    }
+
+    /// A lock passes to its heir, who stands nowhere then. It takes no memory.
+    pub fn release<T: Test>(&mut self, lock: LockName, test: &mut T) -> Passed
+        requires { IsStood self.old }
+        ensures passed { (line : List Stand) (owner : LockName → Option ℕ) → Stands self.old line owner →
+            (verdict : ℕ → ℕ → Verdict) →
+            ((e : Waiting) → Contains (waiting lock line) e →
+            judged verdict e.activity e.wants ≡ judged (by_waiter (T.verdict_of test.old)) e.activity e.wants) →
+            result ≡ passed_to (heir verdict (waiting lock line)) }
+        ensures stands { (line : List Stand) (owner : LockName → Option ℕ) → Stands self.old line owner →
+            Stands self.new (left_by result line) (put is_lock owner lock (new_owner result)) }
+        ensures nowhere { (b : ℕ) → new_owner result ≡ Some b → IsNowhere self.new b }
+        ensures started { started_of self.new ≡ started_of self.old }
+    {
+        let Some(number) = self.numbers.get(lock) else {
+            return Passed::Free;
+        };
+        let passed = self.locks.leave(&mut self.links, number, test);
+        if let Some(heir) = passed.owner() {
+            self.places[heir as usize] = Place::Nowhere;
+            self.live -= 1;
+        }
+        passed
+    }
+}
