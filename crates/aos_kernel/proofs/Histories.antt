@@ -1,11 +1,11 @@
 -- A run with one choice more.
 use Rattle.std.proofs.Common.{◌≡◌, ◌≢◌, ℕ, ◌-◌, ◌<◌, List, [], ◌∷◌, ◌++◌, refl, sym, ◌∙◌, ap, subst, arith, length, take, drop, length-append}
-use Rattle.std.specs.Prelude.{Option, Some, None, All, Bool, true, false, get_or}
+use Rattle.std.specs.Prelude.{Option, Some, None, All, Bool, true, false}
 use Rattle.std.proofs.lemmas.List.{take_at, drop_at, append-nil as append_nil}
 use Rattle.aos_base.specs.declared.kernel.Event.{Event}
 use Rattle.aos_base.specs.declared.kernel.Outcome.{Outcome}
 use Rattle.aos_base.specs.declared.kernel.Outcome.TheVariants.{Going, Ended, Dead, Spent}
-use Rattle.aos_base.specs.Book.{Stand, On, outcome, outcome_of, is_on, on_worker, first_ready, ready, stands}
+use Rattle.aos_base.specs.Book.{Stand, On, outcome, outcome_of, on_worker, first_ready, ready, stands}
 use Rattle.aos_base.specs.Machine.{Choice, Step, Tick, State, Machine, on_book, dispatch, tick_of, step_of, if_going, turn_by, happens, happens_in, execution}
 use Rattle.aos_code.specs.declared.image.Image.{Image}
 use Rattle.aos_code.specs.Memory.{Memory}
@@ -15,10 +15,11 @@ use Rattle.aos_base.specs.declared.kernel.Sched.{Sched}
 use Rattle.aos_kernel.specs.declared.log.Stepped.{Stepped}
 use Rattle.aos_kernel.specs.declared.log.Stepped.TheVariants.{Turned, Dispatched, Idle, Over}
 use Rattle.aos_base.specs.Schedule.{choices, IsEntry}
-use Rattle.aos_kernel.specs.Run.{Run, after, state_of, without_last, state_before, stepped_with, stepped_while, comes_to, has_activity, ticks_while, ticks}
-use Rattle.aos_kernel.specs.Shows.{line_in, Shows, HandsOut}
+use Rattle.aos_kernel.specs.Run.{Run, after, state_of, without_last, state_before, stepped_with, stepped_while, comes_to, has_activity, ticks_while, ticks, if_spent}
+use Rattle.aos_line.specs.Stands.{IsStood}
+use Rattle.aos_line.proofs.Standing.{worker_on}
+use Rattle.aos_kernel.specs.Shows.{Shows, HasTurn, HandsOut}
 use Rattle.aos_kernel.specs.Keeps.{Keeps}
-use Rattle.aos_kernel.proofs.Desks.{found, found_ready}
 
 execution-push : (m : Machine Memory Frames) (cs : List Choice) (c : Choice) (st : State Memory Frames) → execution m (cs ++ c ∷ []) st ≡ happens m c (execution m cs st)
 execution-push m [] c st = refl
@@ -42,16 +43,17 @@ handed_out image earlier d new st h out =
     let kept : Desk = record d { events = new.events } in
     let shown : Shows image st.book.events kept st = record {
       store = h.store;
-      line = h.line;
-      running = h.running;
+      stands = h.stands;
       output = h.output;
       traps = h.traps;
       events = sym (append_nil st.book.events) ∙ ap (λ x. st.book.events ++ x) (sym out.0);
       budget = h.budget;
       spent = h.spent;
       started = h.started;
-      known = h.known;
+      few = h.few;
+      counted = h.counted;
       activities = h.activities;
+      waiting = h.waiting;
       unspent = h.unspent;
     } in
     subst (λ (x : Desk). Shows image st.book.events x st) (sym out.1) shown
@@ -140,6 +142,12 @@ comes_dispatched w a r going on next = (λ i. stepped_while (going i) (stepped_w
 pub comes_idle : (w : ℕ) (r : Run) → outcome (state_of r).book ≡ Going → on_worker w (state_of r).book.line ≡ None → first_ready (state_of r).book.line ≡ None → comes_to w r ≡ Idle
 comes_idle w r going on next = (λ i. stepped_while (going i) (stepped_with (on i) (next i)))
 
+pub none_spent : (o : Outcome) (a : Option ℕ) → o ≢ Spent → if_spent o a ≡ None
+none_spent Going a n = refl
+none_spent Ended a n = refl
+none_spent Dead a n = refl
+none_spent Spent a n = absurd (n refl)
+
 -- What a kernel finds on its desk
 
 unspent : (line : List Stand) (spent : Option ℕ) → outcome_of line spent ≡ Going → spent ≡ None
@@ -148,23 +156,18 @@ unspent (s ∷ line) None e = refl
 unspent (s ∷ line) (Some a) e = absurd (cc e)
 
 module _ (r : Run) (d : Desk) (told : List Event) (h : Keeps r d told) where
-  pub outcome_is : outcome (state_of r).book ≡ outcome_of (line_in d.line.items) d.spent
-  outcome_is = (λ i. outcome_of (h.shows.line i) (h.shows.spent i))
-
-  pub on_is : (w : ℕ) → w < r.workers → on_worker w (state_of r).book.line ≡ get_or d.running w None
-  on_is w less = let few : w < 16 = omega (arith, h.few_workers) in ap (on_worker w) h.shows.line ∙ sym (h.shows.running w few)
-
-  pub first_is : first_ready (state_of r).book.line ≡ first_ready (line_in d.line.items)
-  first_is = ap first_ready h.shows.line
-
   pub unspent_while : outcome (state_of r).book ≡ Going → (state_of r).book.spent ≡ None
   unspent_while e = unspent (state_of r).book.line (state_of r).book.spent e
 
-  pub known_on : (w a : ℕ) → on_worker w (state_of r).book.line ≡ Some a → a < (state_of r).book.started
-  known_on w a e = found (state_of r).book.started (is_on w) (state_of r).book.line a e h.shows.known
+  -- the line is some line
+  pub is_stood : IsStood d.line
+  is_stood = record { line = (state_of r).book.line; owner = (state_of r).book.owner; stands = h.shows.stands }
 
-  pub known_first : (a : ℕ) → first_ready (state_of r).book.line ≡ Some a → a < (state_of r).book.started
-  known_first a e = found_ready (state_of r).book.started (state_of r).book.line a e h.shows.known
+  -- who is on a worker has its turn
+  pub has_turn : (w a : ℕ) → w < r.workers → on_worker w (state_of r).book.line ≡ Some a → HasTurn a d
+  has_turn w a less e =
+      let few : w < 16 = omega (arith, h.few_workers) in
+      record { on = worker_on d.line (state_of r).book.line (state_of r).book.owner h.shows.stands w a few e; counted = h.shows.counted }
 
   -- only silent work has been done, and room has been made
   pub keeps_silent : (new : Desk) (log : List Sched) → Shows r.image (state_of r).book.events new (state_of r) → log ≡ r.log → Keeps (record r { log = log }) new told

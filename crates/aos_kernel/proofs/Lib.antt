@@ -1,5 +1,9 @@
 pub mod Pieces
 pub mod Served
+pub mod Rows
 pub mod Desks
+pub mod Handing
+pub mod Waiting
+pub mod First
 pub mod Logs
 pub mod Histories

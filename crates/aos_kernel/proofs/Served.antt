@@ -3,7 +3,7 @@ use Rattle.std.proofs.Common.{ℕ, ℤ, zero, suc, List, [], ◌∷◌}
 use Rattle.std.specs.Prelude.{Option, Some, None, Bool, true, false, if◌then◌else◌}
 use Rattle.aos_base.specs.declared.number.Relation.{Relation}
 use Rattle.aos_base.specs.declared.kernel.Did.TheVariants.{Trapped}
-use Rattle.aos_base.specs.Question.{Reads, Stores, Copies, PutsText, ComparesTexts, Calls, Ends, Makes, Starts, PutsInt, PutsChar, PutsString, PutsNothing, PutsLn, Places, Lengths, Opens, Sizes, Tests}
+use Rattle.aos_base.specs.Question.{Reads, Stores, Copies, PutsText, ComparesTexts, Calls, Ends, Makes, Starts, Enters, Leaves, PutsInt, PutsChar, PutsString, PutsNothing, PutsLn, Places, Lengths, Opens, Sizes, Tests}
 use Rattle.aos_base.specs.Number.{array_lengths}
 use Rattle.aos_base.specs.Rooted.{Made, Rooted}
 use Rattle.aos_code.specs.declared.instr.Cell.{Cell}
@@ -99,6 +99,8 @@ module _ (ps : List ℕ) (shapes : List ProcShape) (types : List TypeDesc) (at :
   answered (Ends result) = tt
   answered (Makes t vs) = made_of (numbered types t) (numbers_in ps vs) t
   answered (Starts v) = started v
+  answered Enters = tt
+  answered Leaves = tt
   answered (PutsInt v n) = printed (written v n)
   answered (PutsChar v) = wrote_out _
   answered (PutsString a n) = wrote_out _

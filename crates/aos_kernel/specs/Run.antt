@@ -5,8 +5,10 @@ use Rattle.aos_base.specs.declared.kernel.Outcome.{Outcome}
 use Rattle.aos_base.specs.declared.kernel.Outcome.TheVariants.{Going, Ended, Dead, Spent}
 use Rattle.aos_base.specs.Book.{TrapRow, outcome, on_worker, first_ready}
 use Rattle.aos_base.specs.Machine.{Choice, State, execution}
+use Rattle.aos_base.specs.Observation.{WaitRow, waits_below}
 use Rattle.aos_code.specs.declared.image.Image.{Image}
 use Rattle.aos_code.specs.declared.report.TrapRec.{TrapRec}
+use Rattle.aos_kernel.specs.declared.waits.WaitRec.{WaitRec}
 use Rattle.aos_code.specs.Memory.{Memory}
 use Rattle.aos_code.specs.Machine.{Frames, machine, first_state}
 use Rattle.aos_base.specs.declared.kernel.Sched.{Sched}
@@ -45,6 +47,17 @@ rec_of row = record { number = row.number; code = row.code; activity = row.activ
 
 abbrev pub traps_of : Run → List TrapRec
 traps_of r = map rec_of (state_of r).book.traps
+
+-- one who waits, as it is told
+abbrev pub wait_of : WaitRow → WaitRec
+wait_of row = record { activity = row.activity; lock = row.lock; awaits = row.awaits; «module» = row.at.module_; pos = row.at.pos }
+
+-- those who wait for locks, in the order of their numbers
+abbrev pub waits_in : Image → State Memory Frames → List WaitRec
+waits_in image st = map wait_of (waits_below (machine image) st.book.started st.book.line st.frames)
+
+abbrev pub waits_of : Run → List WaitRec
+waits_of r = waits_in r.image (state_of r)
 
 -- the activity that reached the budget, where the outcome is Spent
 abbrev pub if_spent : Outcome → Option ℕ → Option ℕ

@@ -1,46 +1,37 @@
 -- What the kernel keeps, and the state that it shows.
-use Rattle.std.specs.Prelude.{◌≡◌, ◌≢◌, ℕ, ◌<◌, List, [], ◌∷◌, ◌++◌, Option, Some, None, map, length, get_or, slice_get}
+use Rattle.std.specs.Prelude.{◌≡◌, ◌≢◌, ℕ, ◌<◌, ◌≤◌, Bool, true, false, List, [], ◌∷◌, ◌++◌, Option, Some, None, map, length, reverse, slice_get}
 use Rattle.aos_base.specs.declared.kernel.Event.{Event}
+use Rattle.aos_base.specs.declared.kernel.Event.TheVariants as event
+use Rattle.aos_base.specs.declared.kernel.LockName.{LockName}
 use Rattle.aos_base.specs.declared.kernel.Did.{Did}
 use Rattle.aos_base.specs.declared.kernel.Did.TheVariants.{Went, Ended, Enter, Leave, Await, Start, Trapped}
 use Rattle.aos_base.specs.Rooted.{Made}
+use Rattle.aos_base.specs.Lock.{Wants, Entry, Condition}
 use Rattle.aos_base.specs.Book as book
-use Rattle.aos_base.specs.Machine.{State, turned}
+use Rattle.aos_base.specs.Book.{place_of, tell, owned_by}
+use Rattle.aos_base.specs.Machine.{State, on_book, turned, go_past, release}
 use Rattle.aos_code.specs.declared.image.Image.{Image}
 use Rattle.aos_code.specs.Memory.{Memory}
 use Rattle.aos_code.specs.Machine.{Frames, machine, made_in, turn}
 use Rattle.aos_store.specs.declared.frames.Frames.{Frames as Kept}
 use Rattle.aos_store.specs.Store.{frames_in, memory_in}
-use Rattle.aos_cpu.specs.Turns.{Alike, StandsAtStart, IsBefore}
-use Rattle.aos_kernel.specs.declared.desk.Place.{Place}
-use Rattle.aos_kernel.specs.declared.desk.Place.TheVariants.{On, Ready}
-use Rattle.aos_kernel.specs.declared.desk.Stand.{Stand}
-use Rattle.aos_kernel.specs.declared.desk.Next.{Next}
-use Rattle.aos_kernel.specs.declared.desk.Next.TheVariants.{Runs, WillTrap, Unwinds, Gone}
-use Rattle.aos_kernel.specs.declared.desk.Activity.{Activity}
+use Rattle.aos_cpu.specs.Turns.{Alike, StandsAtWork, IsBefore}
+use Rattle.aos_lock.specs.declared.lock.Passed.{Passed}
+use Rattle.aos_lock.specs.declared.lock.Passed.TheVariants.{Waiter, Entrant, Free}
+use Rattle.aos_ready.specs.Order.{number_of}
+use Rattle.aos_line.specs.Stands.{Stands, StandsSame, IsOn, places_of, started_of, live_of}
+use Rattle.aos_kernel.specs.declared.activity.Next.{Next}
+use Rattle.aos_kernel.specs.declared.activity.Next.TheVariants.{Runs, WillTrap, Unwinds, Gone}
+use Rattle.aos_kernel.specs.declared.activity.Activity.{Activity}
 use Rattle.aos_kernel.specs.declared.desk.Desk.{Desk}
 use Rattle.aos_kernel.specs.Run.{rec_of}
 
-abbrev pub place_in : Place → book.Place
-place_in (On w) = book.On w
-place_in (Ready p) = book.Ready p
-
-abbrev pub stand_in : Stand → book.Stand
-stand_in s = record { activity = s.activity; place = place_in s.place }
-
-abbrev pub line_in : List Stand → List book.Stand
-line_in line = map stand_in line
-
--- the activity of each of 16 workers
-abbrev pub IsRunning : List (Option ℕ) → List book.Stand → Type 0
-IsRunning running line = (w : ℕ) → w < 16 → get_or running w None ≡ book.on_worker w line
-
--- no activity owns a lock yet, so none is to be released
-abbrev pub next_in : Next → book.Next
-next_in Runs = book.Runs
-next_in (WillTrap n) = book.WillTrap n
-next_in Unwinds = book.Unwinds []
-next_in Gone = book.Gone
+-- with these locks still to be released, the last one first
+abbrev pub next_in : Next → List LockName → book.Next
+next_in Runs locks = book.Runs
+next_in (WillTrap n) locks = book.WillTrap n
+next_in Unwinds locks = book.Unwinds (reverse locks)
+next_in Gone locks = book.Gone
 
 -- an activity that has ended keeps no frames, and any other keeps its own, up to silent work
 abbrev pub ShowsFrames : Image → (made : ℕ → Option Made) → Next → Frames → Kept → Type 0
@@ -51,40 +42,46 @@ ShowsFrames image made Gone fs kept = frames_in kept ≡ record { following = []
 
 -- an activity with its frames, where objects are known to be made as this
 pub record ShowsActivity (image : Image) (made : ℕ → Option Made) (kept : Activity) (a : book.Activity) (fs : Frames) : Type 0 where
-  pub priority : a.priority ≡ kept.priority
+  pub priority : a.priority ≡ number_of kept.priority
   pub begun : a.begun ≡ kept.frames.begun
-  pub next : a.next ≡ next_in kept.next
+  pub next : a.next ≡ next_in kept.next kept.locks.items
   pub frames : ShowsFrames image made kept.next fs kept.frames
 
--- each stand is of one of so many activities
-abbrev pub IsKnown : ℕ → List book.Stand → Type 0
-IsKnown n [] = Unit {0}
-IsKnown n (s ∷ line) = (s.activity < n) × IsKnown n line
+-- the work at which one who waits for a lock stands
+abbrev pub work_at : LockName → Wants → Did
+work_at l Entry = Enter l
+work_at l (Condition c) = Await l c
+
+pub record IsWaiting (image : Image) (l : LockName) (wants : Wants) (kept : Activity) (fs : Frames) : Type 0 where
+  pub runs : Runs ≡ kept.next
+  pub before : IsBefore image (work_at l wants) (frames_in kept.frames)
+  pub stands : StandsAtWork image (work_at l wants) fs.frames
 
 -- `earlier` are the events before those that the desk keeps
 pub record Shows (image : Image) (earlier : List Event) (d : Desk) (st : State Memory Frames) : Type 0 where
   pub store : st.store ≡ memory_in d.store
-  pub line : st.book.line ≡ line_in d.line.items
-  pub running : IsRunning d.running (line_in d.line.items)
+  pub stands : Stands d.line st.book.line st.book.owner
   pub output : st.book.output ≡ d.output.items
   pub traps : map rec_of st.book.traps ≡ d.traps.items
   pub events : st.book.events ≡ earlier ++ d.events.items
   pub budget : st.book.budget ≡ d.budget
   pub spent : st.book.spent ≡ d.spent
   pub started : st.book.started ≡ length d.activities.items
-  pub known : IsKnown st.book.started st.book.line
+  pub few : st.book.started ≤ 65536
+  pub counted : started_of d.line ≡ length d.activities.items
   pub activities : (x : ℕ) (kept : Activity) → slice_get d.activities.items x ≡ Some kept → ShowsActivity image (made_in image (memory_in d.store)) kept (st.book.activity x) (st.frames x)
+  pub waiting : (x : ℕ) (l : LockName) (wants : Wants) → place_of st.book.line x ≡ Some (book.At l wants) → (kept : Activity) → slice_get d.activities.items x ≡ Some kept → IsWaiting image l wants kept (st.frames x)
   pub unspent : (x : ℕ) → st.book.spent ≡ None → (st.book.activity x).begun < st.book.budget
 
--- from each state that the old desk shows, the new one shows what the operation on an activity makes of it
-abbrev pub Performs : Image → ℕ → (State Memory Frames → State Memory Frames) → Desk → Desk → Type 0
-Performs image a operation old new =
-    (earlier : List Event) (st : State Memory Frames) → Shows image earlier old st → a < st.book.started → Shows image earlier new (operation st)
+-- from each state that the old desk shows, the new one shows what the operation makes of it
+abbrev pub Performs : Image → (State Memory Frames → State Memory Frames) → Desk → Desk → Type 0
+Performs image operation old new =
+    (earlier : List Event) (st : State Memory Frames) → Shows image earlier old st → Shows image earlier new (operation st)
 
 -- the same, where the budget hasn't been reached
-abbrev pub PerformsUnspent : Image → ℕ → (State Memory Frames → State Memory Frames) → Desk → Desk → Type 0
-PerformsUnspent image a operation old new =
-    (earlier : List Event) (st : State Memory Frames) → Shows image earlier old st → a < st.book.started → st.book.spent ≡ None → Shows image earlier new (operation st)
+abbrev pub PerformsUnspent : Image → (State Memory Frames → State Memory Frames) → Desk → Desk → Type 0
+PerformsUnspent image operation old new =
+    (earlier : List Event) (st : State Memory Frames) → Shows image earlier old st → st.book.spent ≡ None → Shows image earlier new (operation st)
 
 -- it shows the same states
 abbrev pub ShowsSame : Image → Desk → Desk → Type 0
@@ -93,7 +90,7 @@ ShowsSame image old new = (earlier : List Event) (st : State Memory Frames) → 
 -- the activity's own part of a turn has been done, and this is left to the kernel
 abbrev pub HasTurned : Image → ℕ → Did → Desk → Desk → Type 0
 HasTurned image a left old new =
-    (earlier : List Event) (st : State Memory Frames) → Shows image earlier old st → a < st.book.started → st.book.spent ≡ None →
+    (earlier : List Event) (st : State Memory Frames) → Shows image earlier old st → st.book.spent ≡ None →
     let t = turn image st.store (st.frames a) in
     (left ≡ t.left) × Shows image earlier new (turned (machine image) a t st)
 
@@ -101,21 +98,16 @@ HasTurned image a left old new =
 abbrev pub IsServed : Did → Type 0
 IsServed Went = Unit {0}
 IsServed Ended = Unit {0}
-IsServed (Enter l) = ⊥
-IsServed (Leave l) = ⊥
+IsServed (Enter l) = Unit {0}
+IsServed (Leave l) = Unit {0}
 IsServed (Await l c) = ⊥
 IsServed (Start o) = Unit {0}
 IsServed (Trapped n c) = Unit {0}
 
--- where the start of an activity is left, the frames stand at it
-abbrev pub IsAtStart : Image → Did → Frames → Type 0
-IsAtStart image (Start o) fs = StandsAtStart image o fs.frames
-IsAtStart image Went fs = Unit {0}
-IsAtStart image Ended fs = Unit {0}
-IsAtStart image (Enter l) fs = Unit {0}
-IsAtStart image (Leave l) fs = Unit {0}
-IsAtStart image (Await l c) fs = Unit {0}
-IsAtStart image (Trapped n c) fs = Unit {0}
+-- the activity stands on a worker, and each one that was started is kept
+pub record HasTurn (a : ℕ) (d : Desk) : Type 0 where
+  pub on : IsOn d.line a
+  pub counted : started_of d.line ≡ length d.activities.items
 
 -- an activity's next turn is this one
 abbrev pub NextIs : ℕ → Next → Desk → Type 0
@@ -130,12 +122,39 @@ abbrev pub StandsBefore : Image → ℕ → Did → Desk → Type 0
 StandsBefore image a left d =
     (kept : Activity) → slice_get d.activities.items a ≡ Some kept → (Runs ≡ kept.next) × IsBefore image left (frames_in kept.frames)
 
+-- it doesn't wait for a lock
+abbrev pub StandsAtNoLock : ℕ → State Memory Frames → Type 0
+StandsAtNoLock a st = (l : LockName) (wants : Wants) → place_of st.book.line a ≡ Some (book.At l wants) → ⊥
+
+-- whether the one to whom a lock passed awaited a condition
+abbrev pub waits_for_condition : Passed → Bool
+waits_for_condition (Waiter a) = true
+waits_for_condition (Entrant a) = false
+waits_for_condition Free = false
+
+-- a lock that a gave up has passed, and all is done but that the heir, which stands before its entry, goes on
+abbrev pub HasHeir : Image → List Event → ℕ → LockName → Option ℕ → Desk → State Memory Frames → Type 0
+HasHeir image earlier a l None new st = Shows image earlier new (release (machine image) a l st)
+HasHeir image earlier a l (Some b) new st =
+    let handed = on_book (λ k. book.ready b (owned_by l (Some b) (tell (event.Pass l a b false) k))) (on_book (owned_by l None) st) in
+    (release (machine image) a l st ≡ go_past (machine image) b handed) × (Shows image earlier new handed) × (StandsBefore image b (Enter l) new) × (StandsAtNoLock b handed) × StandsAtWork image (Enter l) (st.frames b).frames
+
+-- one lock has been taken from the end of a list, or there was none
+abbrev pub IsPopped : Option LockName → List LockName → List LockName → Type 0
+IsPopped None old new = (old ≡ []) × (new ≡ [])
+IsPopped (Some l) old new = old ≡ new ++ l ∷ []
+
+-- frames of which only the count of statements is left
+abbrev pub IsEmptied : Kept → Kept → Type 0
+IsEmptied old new = (new.begun ≡ old.begun) × (frames_in new ≡ record { following = []; frames = [] })
+
 -- the desk has what it had, and perhaps more room
 pub record HasSame (old new : Desk) : Type 0 where
   pub store : new.store ≡ old.store
   pub activities : new.activities.items ≡ old.activities.items
-  pub line : new.line.items ≡ old.line.items
-  pub running : new.running ≡ old.running
+  pub line : StandsSame old.line new.line
+  pub places : places_of new.line ≡ places_of old.line
+  pub live : live_of new.line ≡ live_of old.line
   pub output : new.output.items ≡ old.output.items
   pub traps : new.traps.items ≡ old.traps.items
   pub events : new.events.items ≡ old.events.items

@@ -8,12 +8,16 @@ ghost use Rattle.aos_code.specs.Machine.{machine, bodies, first_frames, first_st
 ghost use Rattle.aos_store.specs.Store.{frames_in};
 ghost use Rattle.aos_base.specs.Schedule.{IsEntry};
 ghost use Rattle.aos_kernel.specs.Shows.{Shows, HandsOut};
-ghost use Rattle.aos_kernel.specs.Run.{state_of, events_of, traps_of, spent_of, comes_to, after_step, ticks, after_tick};
+ghost use Rattle.aos_kernel.specs.Run.{state_of, events_of, traps_of, waits_of, spent_of, comes_to, after_step, ticks, after_tick};
 
-use crate::desk::{Activity, Desk, Next, Place, Stand, workers_in};
+use crate::activity::{Activity, Next};
+use crate::desk::Desk;
 use crate::log::{Stepped, add_step};
+use crate::waits::WaitRec;
 use aos_base::{Event, NoMemory, Outcome, Sched};
 use aos_code::{Image, TrapRec};
+use aos_line::Line;
+use aos_ready::Priority;
 use aos_store::{Frames, Store};
 use std::alloc::Global;
 use std::marker::Model;
@@ -104,26 +108,22 @@ fn first_desk(alloc: Global, image: &Image, budget: u64) -> Result<Desk, NoMemor
     let store = Store::new(alloc, image)?;
     let frames = frames_of_modules(alloc, image)?;
     let first = Activity {
-        priority: 2,
+        priority: Priority::Normal,
         next: Next::Runs,
+        locks: Vec::new(alloc),
         frames,
     };
     let mut activities = Vec::new(alloc);
     activities.reserve(1)?;
     activities.push_reserved(first);
-    let mut line = Vec::new(alloc);
-    line.reserve(1)?;
-    line.push_reserved(Stand {
-        activity: 0,
-        place: Place::Ready(2),
-    });
-    let running = workers_in(&line);
+    let mut line = Line::new(alloc);
+    line.reserve()?;
+    line.bear(Priority::Normal);
     Ok(Desk {
         alloc,
         store,
         activities,
         line,
-        running,
         output: Vec::new(alloc),
         traps: Vec::new(alloc),
         events: Vec::new(alloc),
@@ -222,6 +222,13 @@ impl Kernel {
         &self.desk.traps
     }
 
+    /// The activities that wait for locks, in the order of their numbers.
+    pub fn waits(&self, alloc: Global) -> Result<Vec<WaitRec>, NoMemory>
+        ensures { IfOk result (λ waits. waits.items ≡ waits_of self.now) }
+    {
+        self.desk.waits(alloc, &self.image)
+    }
+
     /// The events of the last step or tick of the log, in their order; none where the log is empty.
     pub fn events(&self) -> &[Event]
         ensures { result.now ≡ events_of self.now }
@@ -264,16 +271,17 @@ impl Kernel {
                 add_step(&mut self.log, w);
                 Ok(Stepped::Turned)
             }
-            None => match self.desk.first_ready() {
-                Some(activity) => {
-                    self.log.reserve(1)?;
-                    self.desk.dispatch(activity, w)?;
-                    hand_out(&mut self.events, &mut self.desk);
-                    add_step(&mut self.log, w);
-                    Ok(Stepped::Dispatched)
+            None => {
+                self.log.reserve(1)?;
+                match self.desk.dispatch(w) {
+                    Some(_) => {
+                        hand_out(&mut self.events, &mut self.desk);
+                        add_step(&mut self.log, w);
+                        Ok(Stepped::Dispatched)
+                    }
+                    None => Ok(Stepped::Idle),
                 }
-                None => Ok(Stepped::Idle),
-            },
+            }
         }
     }
 
@@ -296,7 +304,7 @@ impl Kernel {
         match self.desk.on(w) {
             Some(activity) => {
                 self.log.reserve(1)?;
-                self.desk.ready(activity)?;
+                self.desk.ready(activity);
                 hand_out(&mut self.events, &mut self.desk);
                 self.log.push_reserved(Sched::Tick(w));
                 Ok(true)

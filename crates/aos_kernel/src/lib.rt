@@ -1,9 +1,16 @@
 //! The kernel that runs an image: its state is at every moment the image's execution under the log that it keeps.
 #![tactic(auto)]
 
+mod activity;
+mod births;
 mod desk;
 pub mod kernel;
+mod locks;
 pub mod log;
+mod traps;
+mod turns;
+pub mod waits;
 
 pub use kernel::{Kernel, MAX_BUDGET, MAX_WORKERS};
 pub use log::Stepped;
+pub use waits::WaitRec;

@@ -1,41 +1,31 @@
-use Rattle.std.proofs.Common.{◌≡◌, sym, subst}
+use Rattle.std.proofs.Common.{sym, subst}
 use Rattle.std.proofs.lemmas.Result.{on_ok_weaker}
 use Rattle.aos_base.specs.declared.kernel.Did.{Did}
-use Rattle.aos_base.specs.declared.kernel.Did.TheVariants.{Went, Ended, Enter, Leave, Await, Start, Trapped}
 use Rattle.aos_base.specs.Machine.{serve, turned}
 use Rattle.aos_base.specs.Book.{counted}
-use Rattle.aos_code.specs.declared.image.Image.{Image}
-use Rattle.aos_code.specs.Memory.{Memory}
 use Rattle.aos_code.specs.Machine.{Frames, machine, turn}
+use Rattle.aos_cpu.specs.Turns.{StandsAtWork}
 use Rattle.aos_cpu.proofs.Turns.{turn_stands}
-use Rattle.aos_kernel.specs.Shows.{Shows, ShowsSame, IsServed, IsAtStart}
+use Rattle.aos_kernel.specs.Shows.{Shows, ShowsSame, IsServed}
 use Rattle.aos_kernel.proofs.Served.{turn_served}
-use Rattle.aos_kernel.proofs.Desks.{where_left, on_err_both, put_same}
+use Rattle.aos_kernel.proofs.Rows.{put_same}
+use Rattle.aos_kernel.proofs.Desks.{where_left, on_err_both}
 use Rattle.aos_kernel.proofs.desk.Desk.run.Goals as goal
-
--- the frames behind a turn stand at the start that it leaves
-at_start : (image : Image) (mem : Memory) (fs : Frames) (left : Did) → left ≡ (turn image mem fs).left → IsAtStart image left (turn image mem fs).frames
-at_start image mem fs (Start o) e = turn_stands image mem fs o (sym e)
-at_start image mem fs Went e = tt
-at_start image mem fs Ended e = tt
-at_start image mem fs (Enter l) e = tt
-at_start image mem fs (Leave l) e = tt
-at_start image mem fs (Await l c) e = tt
-at_start image mem fs (Trapped n c) e = tt
 
 pub returns-clause-ok : goal.returns-clause-ok
 unfolding turned counted
 returns-clause-ok c =
     let image = c.args.image.now in
     let a = c.args.activity in
+    let left = c.in_ok-left.left in
     on_ok_weaker c.serve.result
-    (λ done earlier st h there none.
+    (λ done earlier st h none.
     let t = turn image st.store (st.frames a) in
-    let r = c.in_ok-left.ensures.ok earlier st h there none in
-    let served : IsServed c.in_ok-left.left = subst (λ (x : Did). IsServed x) (sym r.0) (turn_served image st.store (st.frames a)) in
+    let r = c.in_ok-left.ensures.ok earlier st h none in
+    let served : IsServed left = subst (λ (x : Did). IsServed x) (sym r.0) (turn_served image st.store (st.frames a)) in
     subst (λ (x : Did). Shows image earlier c.serve.new.self (serve (machine image) a x (turned (machine image) a t st))) r.0
-    (done earlier (turned (machine image) a t st) r.1 there served
-    (subst (λ (fs : Frames). IsAtStart image c.in_ok-left.left fs) (sym (put_same st.frames a t.frames)) (at_start image st.store (st.frames a) c.in_ok-left.left r.0))))
+    (done earlier (turned (machine image) a t st) r.1 served
+    (subst (λ (fs : Frames). StandsAtWork image left fs.frames) (sym (put_same st.frames a t.frames)) (turn_stands image st.store (st.frames a) left (sym r.0)))))
     c.serve.ensures.ok
 
 pub returns-clause-err : goal.returns-clause-err

@@ -1,10 +1,10 @@
-use Rattle.std.proofs.Common.{◌≡◌, subst, List, []}
+use Rattle.std.proofs.Common.{◌≡◌, ◌∙◌, subst, List}
 use Rattle.std.specs.Prelude.{slice_get, Some}
-use Rattle.std.proofs.lemmas.Result.{on_ok_weaker, on_err_weaker}
+use Rattle.std.proofs.lemmas.Result.{on_ok_weaker}
 use Rattle.aos_base.specs.Book as book
-use Rattle.aos_kernel.specs.declared.desk.Activity.{Activity}
-use Rattle.aos_kernel.specs.declared.desk.Next.TheVariants.{Runs, WillTrap, Unwinds, Gone}
-use Rattle.aos_kernel.proofs.Desks.{next_is_in, turns_by, turn_ended}
+use Rattle.aos_kernel.specs.declared.activity.Activity.{Activity}
+use Rattle.aos_kernel.specs.declared.activity.Next.TheVariants.{Runs, WillTrap, Unwinds, Gone}
+use Rattle.aos_kernel.proofs.Desks.{next_is_in, turns_by}
 use Rattle.aos_kernel.proofs.desk.Desk.turn.Goals as goal
 
 pub returns-in-Runs-clause-ok : goal.returns-in-Runs-clause-ok
@@ -13,7 +13,7 @@ returns-in-Runs-clause-ok c =
     let d = c.args.self.now in
     let told = subst (λ (xs : List Activity). (kept : Activity) → slice_get xs a ≡ Some kept → Runs ≡ kept.next) c.deref.ensures.value c.in-Runs.ensures in
     on_ok_weaker c.run.result
-    (λ done earlier st h there none. turns_by c.args.image.now earlier d st a h there c.run.new.self book.Runs (next_is_in c.args.image.now earlier d st a h there Runs told) (done earlier st h there none))
+    (λ done earlier st h none. turns_by c.args.image.now earlier d st a h c.requires c.run.new.self book.Runs (next_is_in c.args.image.now earlier d st a h c.requires Runs told) (done earlier st h none))
     c.run.ensures.ok
 
 pub returns-in-WillTrap-clause-ok : goal.returns-in-WillTrap-clause-ok
@@ -22,25 +22,26 @@ returns-in-WillTrap-clause-ok c =
     let d = c.args.self.now in
     let told = subst (λ (xs : List Activity). (kept : Activity) → slice_get xs a ≡ Some kept → WillTrap c.in-WillTrap.number ≡ kept.next) c.deref.ensures.value c.in-WillTrap.ensures in
     on_ok_weaker c.trap.result
-    (λ done earlier st h there none. turns_by c.args.image.now earlier d st a h there c.trap.new.self (book.WillTrap c.in-WillTrap.number) (next_is_in c.args.image.now earlier d st a h there (WillTrap c.in-WillTrap.number) told) (done earlier st h there))
+    (λ done earlier st h none. turns_by c.args.image.now earlier d st a h c.requires c.trap.new.self (book.WillTrap c.in-WillTrap.number) (next_is_in c.args.image.now earlier d st a h c.requires (WillTrap c.in-WillTrap.number) told) (done earlier st h))
     c.trap.ensures.ok
 
 pub returns-in-Unwinds-clause-ok : goal.returns-in-Unwinds-clause-ok
-returns-in-Unwinds-clause-ok c =
-    let a = c.args.activity in
-    let d = c.args.self.now in
-    let told = subst (λ (xs : List Activity). (kept : Activity) → slice_get xs a ≡ Some kept → Unwinds ≡ kept.next) c.deref.ensures.value c.in-Unwinds.ensures in
-    on_ok_weaker c.ended.result
-    (λ done earlier st h there none. turns_by c.args.image.now earlier d st a h there c.ended.new.self (book.Unwinds []) (next_is_in c.args.image.now earlier d st a h there Unwinds told)
-    (turn_ended c.args.image.now earlier c.ended.new.self a st (done c.args.image.now earlier st h there)))
-    c.ended.ensures.ok
-
-pub returns-in-Unwinds-clause-err : goal.returns-in-Unwinds-clause-err
-returns-in-Unwinds-clause-err c = on_err_weaker c.ended.result (λ same. same c.args.image.now) c.ended.ensures.err
+returns-in-Unwinds-clause-ok c = on_ok_weaker c.unwind.result (λ done earlier st h none. done earlier st h) c.unwind.ensures.ok
 
 pub returns-in-Gone-clause-ok : goal.returns-in-Gone-clause-ok
-returns-in-Gone-clause-ok c earlier st h there none =
+returns-in-Gone-clause-ok c earlier st h none =
     let a = c.args.activity in
     let d = c.args.self.now in
     let told = subst (λ (xs : List Activity). (kept : Activity) → slice_get xs a ≡ Some kept → Gone ≡ kept.next) c.deref.ensures.value c.in-Gone.ensures in
-    turns_by c.args.image.now earlier d st a h there d book.Gone (next_is_in c.args.image.now earlier d st a h there Gone told) h
+    turns_by c.args.image.now earlier d st a h c.requires d book.Gone (next_is_in c.args.image.now earlier d st a h c.requires Gone told) h
+
+pub run-requires-clause-runs : goal.run-requires-clause-runs
+run-requires-clause-runs c = subst (λ (xs : List Activity). (kept : Activity) → slice_get xs c.args.activity ≡ Some kept → Runs ≡ kept.next) c.deref.ensures.value c.in-Runs.ensures
+
+pub trap-requires-clause-live : goal.trap-requires-clause-live
+trap-requires-clause-live c kept at =
+    let told = subst (λ (xs : List Activity). (k : Activity) → slice_get xs c.args.activity ≡ Some k → WillTrap c.in-WillTrap.number ≡ k.next) c.deref.ensures.value c.in-WillTrap.ensures in
+    λ e. (let z = told kept at ∙ e in absurd (cc z))
+
+pub unwind-requires-clause-unwinds : goal.unwind-requires-clause-unwinds
+unwind-requires-clause-unwinds c = subst (λ (xs : List Activity). (kept : Activity) → slice_get xs c.args.activity ≡ Some kept → Unwinds ≡ kept.next) c.deref.ensures.value c.in-Unwinds.ensures

@@ -2,6 +2,7 @@ use Rattle.std.proofs.Common.{◌≡◌, ◌≢◌, ◌<◌, List, refl, sym, ap
 use Rattle.std.specs.Prelude.{Some, None, All}
 use Rattle.std.specs.Arc.{arc_value}
 use Rattle.aos_base.specs.declared.kernel.Event.{Event}
+use Rattle.aos_base.specs.declared.kernel.Sched.{Sched}
 use Rattle.aos_base.specs.declared.kernel.Outcome.TheVariants.{Going}
 use Rattle.aos_base.specs.Book.{On, outcome, on_worker, first_ready, stands}
 use Rattle.aos_base.specs.Machine.{State, Step, happens, turn_by, on_book}
@@ -13,7 +14,7 @@ use Rattle.aos_kernel.specs.Log.{with_step}
 use Rattle.aos_kernel.specs.Run.{Run, state_of, comes_to}
 use Rattle.aos_kernel.specs.Shows.{Shows}
 use Rattle.aos_kernel.proofs.Logs.{choices-with_step, entries-with_step}
-use Rattle.aos_kernel.proofs.Histories.{state_after, keeps_after, keeps_silent, steps_by, dispatches, idles, is_over, comes_over, comes_turned, comes_dispatched, comes_idle, outcome_is, on_is, first_is, unspent_while, known_on, known_first}
+use Rattle.aos_kernel.proofs.Histories.{state_after, keeps_after, keeps_silent, steps_by, dispatches, idles, is_over, comes_over, comes_turned, comes_dispatched, comes_idle, unspent_while, is_stood, has_turn}
 use Rattle.aos_kernel.proofs.kernel.Kernel.step.Goals as goal
 
 pub returns-in_default : goal.returns-in_default
@@ -23,7 +24,7 @@ returns-in_default c =
     let h = c.self.invariant in
     let st = state_of r in
     let w = c.args.w in
-    let over : outcome st.book ≢ Going = λ e. c.in_default.not-Going (c.outcome.ensures ∙ sym (outcome_is r k.desk k.events.items h) ∙ e) in
+    let over : outcome st.book ≢ Going = λ e. c.in_default.not-Going (c.outcome.ensures r.image st.book.events st h.shows ∙ e) in
     record {
       stepped = sym (comes_over w r over) ∙ ap (comes_to w) c.self.view_is;
       log = refl;
@@ -49,42 +50,34 @@ invariant_of-self-in-Some c =
     let st = state_of r in
     let w = c.args.w in
     let a = c.in-Some.activity in
-    let going : outcome st.book ≡ Going = outcome_is r k.desk k.events.items h ∙ sym c.in-Going.ensures in
-    let on : on_worker c.args.w st.book.line ≡ Some a = on_is r k.desk k.events.items h c.args.w (subst (λ (x : Run). c.args.w < x.workers) (sym c.self.view_is) c.requires) ∙ sym c.in-Some.ensures in
+    let going : outcome st.book ≡ Going = sym (c.in-Going.ensures r.image st.book.events st h.shows) in
+    let on : on_worker c.args.w st.book.line ≡ Some a = sym (c.in-Some.ensures.on r.image st.book.events st h.shows) in
     let logged = c.add_step.ensures ∙ ap (with_step w) c.reserve.ensures.items in
     let fits : w < r.workers = subst (λ (x : Run). w < x.workers) (sym c.self.view_is) c.requires in
-    let shown = subst (λ (image : Image). (earlier : List Event) (x : State Memory Frames) → Shows image earlier k.desk x → a < x.book.started → x.book.spent ≡ None → Shows image earlier c.turn.new.self (turn_by (machine image) a (x.book.activity a).next x))
+    let shown = subst (λ (image : Image). (earlier : List Event) (x : State Memory Frames) → Shows image earlier k.desk x → x.book.spent ≡ None → Shows image earlier c.turn.new.self (turn_by (machine image) a (x.book.activity a).next x))
     c.deref.ensures c.in_ok-turn-in-Some.ensures.ok in
     keeps_after r c.add_step.new.log.items (Step w) c.turn.new.self c.hand_out.new.desk c.hand_out.new.events.items (turn_by (machine r.image) a (st.book.activity a).next st)
     (ap choices logged ∙ choices-with_step w r.log) (steps_by r.image st w a going on)
-    (shown st.book.events st h.shows (known_on r k.desk k.events.items h w a on) (unspent_while r k.desk k.events.items h going))
+    (shown st.book.events st h.shows (unspent_while r k.desk k.events.items h going))
     c.hand_out.ensures.desk c.hand_out.ensures.events (subst (λ l. All (IsEntry r.workers) l) (sym logged) (entries-with_step r.workers w r.log fits h.entries)) k.desk k.events.items h
 
-pub invariant_of-self-in_err-dispatch-in-Some-first_ready : goal.invariant_of-self-in_err-dispatch-in-Some-first_ready
-invariant_of-self-in_err-dispatch-in-Some-first_ready c =
-    let k = c.self.inside in
-    let r : Run = record { image = arc_value k.image; workers = k.workers; budget = k.budget; log = k.log.items } in
-    let h = c.self.invariant in
-    let st = state_of r in
-    keeps_silent r k.desk k.events.items h c.dispatch.new.self c.reserve-in-Some-first_ready.new.self.items (c.in_err-dispatch-in-Some-first_ready.ensures.err r.image st.book.events st h.shows) c.reserve-in-Some-first_ready.ensures.items
-
-pub invariant_of-self-in-Some-first_ready : goal.invariant_of-self-in-Some-first_ready
-invariant_of-self-in-Some-first_ready c =
+pub invariant_of-self-in-Some-dispatch : goal.invariant_of-self-in-Some-dispatch
+invariant_of-self-in-Some-dispatch c =
     let k = c.self.inside in
     let r : Run = record { image = arc_value k.image; workers = k.workers; budget = k.budget; log = k.log.items } in
     let h = c.self.invariant in
     let st = state_of r in
     let w = c.args.w in
-    let a = c.in-Some-first_ready.activity in
-    let going : outcome st.book ≡ Going = outcome_is r k.desk k.events.items h ∙ sym c.in-Going.ensures in
-    let on : on_worker c.args.w st.book.line ≡ None = on_is r k.desk k.events.items h c.args.w (subst (λ (x : Run). c.args.w < x.workers) (sym c.self.view_is) c.requires) ∙ sym c.in-None.ensures in
-    let next : first_ready st.book.line ≡ Some a = first_is r k.desk k.events.items h ∙ sym c.in-Some-first_ready.ensures in
-    let logged = c.add_step-in-Some-first_ready.ensures ∙ ap (with_step w) c.reserve-in-Some-first_ready.ensures.items in
+    let a = c.in-Some-dispatch.field-0 in
+    let going : outcome st.book ≡ Going = sym (c.in-Going.ensures r.image st.book.events st h.shows) in
+    let on : on_worker c.args.w st.book.line ≡ None = sym (c.in-None.ensures.on r.image st.book.events st h.shows) in
+    let next : first_ready st.book.line ≡ Some a = sym (c.in-Some-dispatch.ensures.first r.image st.book.events st h.shows) in
+    let logged = c.add_step-in-Some-dispatch.ensures ∙ ap (with_step w) c.reserve-in-None.ensures.items in
     let fits : w < r.workers = subst (λ (x : Run). w < x.workers) (sym c.self.view_is) c.requires in
-    keeps_after r c.add_step-in-Some-first_ready.new.log.items (Step w) c.dispatch.new.self c.hand_out-in-Some-first_ready.new.desk c.hand_out-in-Some-first_ready.new.events.items (on_book (stands a (On w)) st)
+    keeps_after r c.add_step-in-Some-dispatch.new.log.items (Step w) c.dispatch.new.self c.hand_out-in-Some-dispatch.new.desk c.hand_out-in-Some-dispatch.new.events.items (on_book (stands a (On w)) st)
     (ap choices logged ∙ choices-with_step w r.log) (dispatches r.image st w a going on next)
-    (c.in_ok-dispatch-in-Some-first_ready.ensures.ok r.image st.book.events st h.shows (known_first r k.desk k.events.items h a next))
-    c.hand_out-in-Some-first_ready.ensures.desk c.hand_out-in-Some-first_ready.ensures.events (subst (λ l. All (IsEntry r.workers) l) (sym logged) (entries-with_step r.workers w r.log fits h.entries)) k.desk k.events.items h
+    (c.in-Some-dispatch.ensures.some r.image st.book.events st h.shows)
+    c.hand_out-in-Some-dispatch.ensures.desk c.hand_out-in-Some-dispatch.ensures.events (subst (λ l. All (IsEntry r.workers) l) (sym logged) (entries-with_step r.workers w r.log fits h.entries)) k.desk k.events.items h
 
 pub returns-in_ok-turn-in-Some-clause-stepped : goal.returns-in_ok-turn-in-Some-clause-stepped
 returns-in_ok-turn-in-Some-clause-stepped c =
@@ -94,8 +87,8 @@ returns-in_ok-turn-in-Some-clause-stepped c =
     let st = state_of r in
     let w = c.args.w in
     let a = c.in-Some.activity in
-    let going : outcome st.book ≡ Going = outcome_is r k.desk k.events.items h ∙ sym c.in-Going.ensures in
-    let on : on_worker c.args.w st.book.line ≡ Some a = on_is r k.desk k.events.items h c.args.w (subst (λ (x : Run). c.args.w < x.workers) (sym c.self.view_is) c.requires) ∙ sym c.in-Some.ensures in
+    let going : outcome st.book ≡ Going = sym (c.in-Going.ensures r.image st.book.events st h.shows) in
+    let on : on_worker c.args.w st.book.line ≡ Some a = sym (c.in-Some.ensures.on r.image st.book.events st h.shows) in
     sym (comes_turned w a r going on) ∙ ap (comes_to w) c.self.view_is
 
 pub returns-in_ok-turn-in-Some-clause-state : goal.returns-in_ok-turn-in-Some-clause-state
@@ -108,49 +101,73 @@ returns-in_ok-turn-in-Some-clause-state c =
     let logged = c.add_step.ensures ∙ ap (with_step w) c.reserve.ensures.items in
     state_after r c.add_step.new.log.items (Step w) (ap choices logged ∙ choices-with_step w r.log) ∙ ap (λ (x : Run). happens (machine x.image) (Step w) (state_of x)) c.self.view_is
 
-pub returns-in_ok-dispatch-in-Some-first_ready-clause-stepped : goal.returns-in_ok-dispatch-in-Some-first_ready-clause-stepped
-returns-in_ok-dispatch-in-Some-first_ready-clause-stepped c =
+pub returns-in-Some-dispatch-clause-stepped : goal.returns-in-Some-dispatch-clause-stepped
+returns-in-Some-dispatch-clause-stepped c =
     let k = c.self.inside in
     let r : Run = record { image = arc_value k.image; workers = k.workers; budget = k.budget; log = k.log.items } in
     let h = c.self.invariant in
     let st = state_of r in
     let w = c.args.w in
-    let a = c.in-Some-first_ready.activity in
-    let going : outcome st.book ≡ Going = outcome_is r k.desk k.events.items h ∙ sym c.in-Going.ensures in
-    let on : on_worker c.args.w st.book.line ≡ None = on_is r k.desk k.events.items h c.args.w (subst (λ (x : Run). c.args.w < x.workers) (sym c.self.view_is) c.requires) ∙ sym c.in-None.ensures in
-    let next : first_ready st.book.line ≡ Some a = first_is r k.desk k.events.items h ∙ sym c.in-Some-first_ready.ensures in
+    let a = c.in-Some-dispatch.field-0 in
+    let going : outcome st.book ≡ Going = sym (c.in-Going.ensures r.image st.book.events st h.shows) in
+    let on : on_worker c.args.w st.book.line ≡ None = sym (c.in-None.ensures.on r.image st.book.events st h.shows) in
+    let next : first_ready st.book.line ≡ Some a = sym (c.in-Some-dispatch.ensures.first r.image st.book.events st h.shows) in
     sym (comes_dispatched w a r going on next) ∙ ap (comes_to w) c.self.view_is
 
-pub returns-in_ok-dispatch-in-Some-first_ready-clause-state : goal.returns-in_ok-dispatch-in-Some-first_ready-clause-state
-returns-in_ok-dispatch-in-Some-first_ready-clause-state c =
+pub returns-in-Some-dispatch-clause-state : goal.returns-in-Some-dispatch-clause-state
+returns-in-Some-dispatch-clause-state c =
     let k = c.self.inside in
     let r : Run = record { image = arc_value k.image; workers = k.workers; budget = k.budget; log = k.log.items } in
     let h = c.self.invariant in
     let st = state_of r in
     let w = c.args.w in
-    let logged = c.add_step-in-Some-first_ready.ensures ∙ ap (with_step w) c.reserve-in-Some-first_ready.ensures.items in
-    state_after r c.add_step-in-Some-first_ready.new.log.items (Step w) (ap choices logged ∙ choices-with_step w r.log) ∙ ap (λ (x : Run). happens (machine x.image) (Step w) (state_of x)) c.self.view_is
+    let logged = c.add_step-in-Some-dispatch.ensures ∙ ap (with_step w) c.reserve-in-None.ensures.items in
+    state_after r c.add_step-in-Some-dispatch.new.log.items (Step w) (ap choices logged ∙ choices-with_step w r.log) ∙ ap (λ (x : Run). happens (machine x.image) (Step w) (state_of x)) c.self.view_is
 
-pub returns-in-None-first_ready-clause-stepped : goal.returns-in-None-first_ready-clause-stepped
-returns-in-None-first_ready-clause-stepped c =
+pub returns-in-None-dispatch-clause-stepped : goal.returns-in-None-dispatch-clause-stepped
+returns-in-None-dispatch-clause-stepped c =
     let k = c.self.inside in
     let r : Run = record { image = arc_value k.image; workers = k.workers; budget = k.budget; log = k.log.items } in
     let h = c.self.invariant in
     let st = state_of r in
     let w = c.args.w in
-    let going : outcome st.book ≡ Going = outcome_is r k.desk k.events.items h ∙ sym c.in-Going.ensures in
-    let on : on_worker c.args.w st.book.line ≡ None = on_is r k.desk k.events.items h c.args.w (subst (λ (x : Run). c.args.w < x.workers) (sym c.self.view_is) c.requires) ∙ sym c.in-None.ensures in
-    let next : first_ready st.book.line ≡ None = first_is r k.desk k.events.items h ∙ sym c.in-None-first_ready.ensures in
+    let going : outcome st.book ≡ Going = sym (c.in-Going.ensures r.image st.book.events st h.shows) in
+    let on : on_worker c.args.w st.book.line ≡ None = sym (c.in-None.ensures.on r.image st.book.events st h.shows) in
+    let next : first_ready st.book.line ≡ None = sym (c.in-None-dispatch.ensures.first r.image st.book.events st h.shows) in
     sym (comes_idle w r going on next) ∙ ap (comes_to w) c.self.view_is
 
-pub returns-in-None-first_ready-clause-state : goal.returns-in-None-first_ready-clause-state
-returns-in-None-first_ready-clause-state c =
+pub returns-in-None-dispatch-clause-state : goal.returns-in-None-dispatch-clause-state
+returns-in-None-dispatch-clause-state c =
     let k = c.self.inside in
     let r : Run = record { image = arc_value k.image; workers = k.workers; budget = k.budget; log = k.log.items } in
     let h = c.self.invariant in
     let st = state_of r in
     let w = c.args.w in
-    let going : outcome st.book ≡ Going = outcome_is r k.desk k.events.items h ∙ sym c.in-Going.ensures in
-    let on : on_worker c.args.w st.book.line ≡ None = on_is r k.desk k.events.items h c.args.w (subst (λ (x : Run). c.args.w < x.workers) (sym c.self.view_is) c.requires) ∙ sym c.in-None.ensures in
-    let next : first_ready st.book.line ≡ None = first_is r k.desk k.events.items h ∙ sym c.in-None-first_ready.ensures in
-    subst (λ (x : Run). state_of x ≡ happens (machine x.image) (Step w) (state_of x)) c.self.view_is (sym (idles r.image st w going on next))
+    let going : outcome st.book ≡ Going = sym (c.in-Going.ensures r.image st.book.events st h.shows) in
+    let on : on_worker c.args.w st.book.line ≡ None = sym (c.in-None.ensures.on r.image st.book.events st h.shows) in
+    let next : first_ready st.book.line ≡ None = sym (c.in-None-dispatch.ensures.first r.image st.book.events st h.shows) in
+    ap (λ (l : List Sched). state_of (record r { log = l })) c.reserve-in-None.ensures.items ∙ ap state_of c.self.view_is
+    ∙ subst (λ (x : Run). state_of x ≡ happens (machine x.image) (Step w) (state_of x)) c.self.view_is (sym (idles r.image st w going on next))
+
+pub turn-requires : goal.turn-requires
+turn-requires c =
+    let k = c.self.inside in
+    let r : Run = record { image = arc_value k.image; workers = k.workers; budget = k.budget; log = k.log.items } in
+    let h = c.self.invariant in
+    let st = state_of r in
+    let on : on_worker c.args.w st.book.line ≡ Some c.in-Some.activity = sym (c.in-Some.ensures.on r.image st.book.events st h.shows) in
+    has_turn r k.desk k.events.items h c.args.w c.in-Some.activity (subst (λ (x : Run). c.args.w < x.workers) (sym c.self.view_is) c.requires) on
+
+pub dispatch-requires-clause-stood : goal.dispatch-requires-clause-stood
+dispatch-requires-clause-stood c =
+    let k = c.self.inside in
+    let r : Run = record { image = arc_value k.image; workers = k.workers; budget = k.budget; log = k.log.items } in
+    is_stood r k.desk k.events.items c.self.invariant
+
+pub invariant_of-self-in-None-dispatch : goal.invariant_of-self-in-None-dispatch
+invariant_of-self-in-None-dispatch c =
+    let k = c.self.inside in
+    let r : Run = record { image = arc_value k.image; workers = k.workers; budget = k.budget; log = k.log.items } in
+    let h = c.self.invariant in
+    let st = state_of r in
+    keeps_silent r k.desk k.events.items h c.dispatch.new.self c.reserve-in-None.new.self.items (c.in-None-dispatch.ensures.none r.image refl st.book.events st h.shows) c.reserve-in-None.ensures.items

@@ -1,0 +1,162 @@
+// The activities by their numbers.
+ghost use Rattle.std.specs.Prelude.{◌≡◌, ℕ, [], Option, Some, IfOk, Vec, map, reverse, slice_get, slice_set};
+ghost use Rattle.std.specs.declared.alloc.Global.{Global};
+ghost use Rattle.aos_base.specs.declared.kernel.LockName.{LockName};
+ghost use Rattle.aos_base.specs.Rooted.{Made as MadeAs};
+ghost use Rattle.aos_code.specs.Machine.{Frames as FramesOf, bodies, body_frame, body_of, position, regions_of};
+ghost use Rattle.aos_store.specs.declared.frames.Frames.{Frames as KeptFrames};
+ghost use Rattle.aos_store.specs.Store.{frames_in, memory_in};
+ghost use Rattle.aos_cpu.specs.Turns.{where_in, Alike};
+ghost use Rattle.aos_kernel.specs.Shows.{IsPopped, IsEmptied};
+
+use aos_base::{LockName, NoMemory, Pos};
+use aos_code::Image;
+use aos_cpu::{begin_body, numbered, position as position_of};
+use aos_ready::Priority;
+use aos_store::{Frames, Store};
+use aos_trap::unwind;
+use std::alloc::Global;
+
+/// What an activity's next turn is: its own, a trap that is due, what follows a trap, or none once it has ended.
+#[derive(Clone, Copy)]
+pub enum Next {
+    Runs,
+    WillTrap(u8),
+    Unwinds,
+    Gone,
+}
+
+/// An activity: its priority, its next turn, the locks that it is still to release after a trap, the next one last, and its
+/// frames, with the statements that it has begun.
+#[derive(Drop)]
+pub struct Activity {
+    pub priority: Priority,
+    pub next: Next,
+    pub locks: Vec<LockName>,
+    pub frames: Frames,
+}
+
+/// An activity's priority.
+pub fn priority_of(activities: &[Activity], activity: u32) -> Priority
+    ensures { (kept : Activity) → slice_get activities.now activity ≡ Some kept →
+        result ≡ kept.priority }
+{
+    match activities.get(activity as usize) {
+        Some(kept) => kept.priority,
+        None => Priority::Normal,
+    }
+}
+
+/// An activity's next turn.
+pub fn next_of(activities: &[Activity], activity: u32) -> Next
+    ensures { (kept : Activity) → slice_get activities.now activity ≡ Some kept →
+        result ≡ kept.next }
+{
+    match activities.get(activity as usize) {
+        Some(kept) => kept.next,
+        None => Next::Gone,
+    }
+}
+
+/// Where an activity stands in the text.
+pub fn place_of(image: &Image, activities: &[Activity], activity: u32) -> (u32, Pos)
+    ensures { (made : ℕ → Option MadeAs) (kept : Activity) (fs : FramesOf) → slice_get activities.now activity ≡ Some kept →
+        Alike image.now made fs (frames_in kept.frames) → position image.now fs ≡ where_in result }
+{
+    match activities.get(activity as usize) {
+        Some(kept) => position_of(image, &kept.frames),
+        None => (0, Pos { line: 0, col: 0 }),
+    }
+}
+
+/// The locks of an activity's open regions, the one entered first before the others.
+pub fn locks_of(
+    alloc: Global,
+    image: &Image,
+    activities: &[Activity],
+    activity: u32,
+) -> Result<Vec<LockName>, NoMemory>
+    ensures { (made : ℕ → Option MadeAs) (kept : Activity) (fs : FramesOf) → slice_get activities.now activity ≡ Some kept →
+        Alike image.now made fs (frames_in kept.frames) →
+        IfOk result (λ locks. reverse locks.items ≡ regions_of image.now fs.frames) }
+{
+    match activities.get(activity as usize) {
+        Some(kept) => {
+            let mut locks = unwind(alloc, image, &kept.frames)?;
+            locks.reverse();
+            Ok(locks)
+        }
+        None => Ok(Vec::new(alloc)),
+    }
+}
+
+/// The procedure that is the body of an object, 0 for none.
+fn body_of_object(image: &Image, store: &Store, object: u32) -> u32
+    ensures { body_of image.now (memory_in store.now) object ≡
+        record { following = []; frames = map (body_frame object) (bodies result) } }
+{
+    match store.type_of(object) {
+        None => 0,
+        Some(of) => match numbered(&image.types, of) {
+            None => 0,
+            Some(desc) => desc.body,
+        },
+    }
+}
+
+/// The frames with which an object's activity begins.
+pub fn frames_of_object(
+    alloc: Global,
+    image: &Image,
+    store: &Store,
+    object: u32,
+) -> Result<Frames, NoMemory>
+    ensures frames { IfOk result
+        (λ frames. frames_in frames ≡ body_of image.now (memory_in store.now) object) }
+    ensures begun { IfOk result (λ frames. frames.begun ≡ 0) }
+{
+    let mut frames = Frames::new(alloc);
+    let body = body_of_object(image, store, object);
+    if body != 0 {
+        begin_body(alloc, image, &mut frames, object, body)?;
+    }
+    Ok(frames)
+}
+
+/// An activity has trapped: these locks are to be released.
+pub fn set_unwinds(activities: &mut Vec<Activity>, activity: u32, locks: Vec<LockName>)
+    ensures { (kept : Activity) → slice_get activities.old.items activity ≡ Some kept →
+        activities.new.items ≡
+        slice_set activities.old.items activity (record kept { next = Next.Unwinds; locks = locks }) }
+{
+    if let Some(kept) = activities.get_mut(activity as usize) {
+        kept.next = Next::Unwinds;
+        kept.locks = locks;
+    }
+}
+
+/// The next lock that an activity is to release after a trap; None where none is left.
+pub fn pop_lock(activities: &mut Vec<Activity>, activity: u32) -> Option<LockName>
+    ensures { (kept : Activity) → slice_get activities.old.items activity ≡ Some kept →
+        (rest : Vec LockName Global) × (IsPopped result kept.locks.items rest.items) ×
+        (activities.new.items ≡ slice_set activities.old.items activity (record kept { locks = rest })) }
+{
+    match activities.get_mut(activity as usize) {
+        Some(kept) => kept.locks.pop(),
+        None => None,
+    }
+}
+
+/// An activity has ended, and its frames are dropped.
+pub fn drop_frames(alloc: Global, activities: &mut Vec<Activity>, activity: u32)
+    ensures { (kept : Activity) → slice_get activities.old.items activity ≡ Some kept →
+        (frames : KeptFrames) × (IsEmptied kept.frames frames) ×
+        (activities.new.items ≡
+        slice_set activities.old.items activity (record kept { next = Next.Gone; frames = frames })) }
+{
+    if let Some(kept) = activities.get_mut(activity as usize) {
+        kept.next = Next::Gone;
+        kept.frames.list = Vec::new(alloc);
+        kept.frames.following = Vec::new(alloc);
+    }
+}
