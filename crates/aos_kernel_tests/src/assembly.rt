@@ -69,6 +69,8 @@ fn plain(name: &str) -> Option<Instr> {
         "put_text" => Some(Instr::PutText(false)),
         "put_text_strict" => Some(Instr::PutText(true)),
         "start" => Some(Instr::Start),
+        "enter" => Some(Instr::Enter),
+        "leave" => Some(Instr::Leave),
         "return" => Some(Instr::Return),
         "out_char" => Some(Instr::OutChar),
         "out_int" => Some(Instr::OutInt),

@@ -111,18 +111,11 @@ fn wake(waits: &mut [bool], owner: Option<u32>)
     }
 }
 
-fn leave(
-    links: &mut Links,
-    locks: &mut Locks,
-    waits: &mut [bool],
-    owner: u32,
-    mut verdicts: Verdicts,
-) -> Passed
-    requires keeps { Keeps links.old locks.old waits.old }
-    requires owner { owner_of locks.old 0 ≡ Some owner }
+fn leave(links: &mut Links, locks: &mut Locks, waits: &mut [bool], mut verdicts: Verdicts) -> Passed
+    requires { Keeps links.old locks.old waits.old }
     ensures { Keeps links.new locks.new waits.new }
 {
-    let passed = locks.leave(links, 0, owner, &mut verdicts);
+    let passed = locks.leave(links, 0, &mut verdicts);
     wake(waits, passed.owner());
     passed
 }
@@ -187,7 +180,7 @@ fn make_call(
         },
         Leave(activity) => {
             must_own(rt, locks, activity);
-            Passes(leave(links, locks, waits, activity, verdicts))
+            Passes(leave(links, locks, waits, verdicts))
         },
     }
 }

@@ -1,5 +1,5 @@
 //! Tests of what a run stands on: arithmetic, locks, shelves and sinks, scripts, soundness of code,
-//! instructions, the kernel, and replays.
+//! instructions, the kernel, regions and their locks, and replays.
 #![tactic(auto)]
 
 #[cfg(test)]
@@ -17,8 +17,14 @@ mod kernels;
 #[cfg(test)]
 mod outside;
 #[cfg(test)]
+mod programs;
+#[cfg(test)]
+mod regions;
+#[cfg(test)]
 mod replays;
 #[cfg(test)]
 mod scripts;
 #[cfg(test)]
 mod soundness;
+#[cfg(test)]
+mod unwinding;

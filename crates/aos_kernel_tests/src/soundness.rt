@@ -232,6 +232,20 @@ static CONDITIONS: [&str; 5] = [
     "param 0; length 0; index 3 1; drop; fail 7",
 ];
 
+/// Regions take and give nothing, and none stands in a condition.
+static REGIONS: [&str; 4] = [
+    "enter; begin 1 1; leave; return",
+    "num 1; enter; out_char; leave; fail 7",
+    "enter; module 0 1; load n; jump_false 4; fail 7",
+    "module 0 1; load n; jump_false 4; leave; fail 7",
+];
+
+static UNSOUND_REGIONS: [&str; 3] = [
+    "num 1; enter; leave; return",
+    "enter; out_char; return",
+    "leave",
+];
+
 #[test]
 fn soundness_of_calls_and_arrays(rt: HostRuntime) -> Result<(), Fail> {
     let alloc = rt.alloc();
@@ -266,5 +280,13 @@ fn soundness_of_methods(rt: HostRuntime) -> Result<(), Fail> {
     assert_eq!(rt; sound(&rt, alloc, given, 4)?, (true, false));
     let asked = "self; is 2; jump_false 3; fail 7";
     assert_eq!(rt; sound(&rt, alloc, asked, 4)?, (true, true));
+    Ok(())
+}
+
+#[test]
+fn soundness_of_regions(rt: HostRuntime) -> Result<(), Fail> {
+    let alloc = rt.alloc();
+    expect(&rt, alloc, &REGIONS, (true, false))?;
+    expect(&rt, alloc, &UNSOUND_REGIONS, (false, false))?;
     Ok(())
 }

@@ -5,5 +5,5 @@ use Rattle.aos_kernel_tests.proofs.handovers.leave.Goals as goal
 
 pub returns : goal.returns
 returns c =
-    keeps_left _ _ _ _ _ _ _ c.owner.result c.requires.keeps c.leave-passed.ensures.others c.leave-passed.ensures.belong c.leave-passed.ensures.table.room
+    keeps_left _ _ _ _ _ _ _ c.owner.result c.requires c.leave-passed.ensures.others c.leave-passed.ensures.belong c.leave-passed.ensures.table.room
     c.leave-passed.ensures.list (ap new_owner (sym c.leave-passed.ensures.heir) ∙ sym c.owner.ensures) c.wake.ensures.some c.wake.ensures.none
