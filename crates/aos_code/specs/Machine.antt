@@ -1,5 +1,5 @@
 -- An image as a machine: its memory, its frames, and the turns of an activity.
-use Rattle.std.specs.Prelude.{ℕ, zero, suc, ℤ, pos, negsuc, ◌+◌, ◌*◌, List, [], ◌∷◌, ◌++◌, length, take, drop, Bool, true, false, ◌&&◌, Option, Some, None, map, sum_by, nat_le, nat_lt, nat_eq, if◌then◌else◌, is_some, option_and_then, option_map, slice_get, slice_set}
+use Rattle.std.specs.Prelude.{ℕ, zero, suc, ℤ, pos, negsuc, ◌+◌, List, [], ◌∷◌, ◌++◌, length, take, drop, Bool, true, false, Option, Some, None, map, sum_by, nat_lt, nat_eq, if◌then◌else◌, is_some, option_and_then, option_map}
 use Rattle.std.specs.List.{flat_map}
 use Rattle.aos_base.specs.declared.text.Pos.{Pos}
 use Rattle.aos_base.specs.declared.number.Relation.{Relation}
@@ -15,7 +15,7 @@ use Rattle.aos_base.specs.Operators.{natural, flag}
 use Rattle.aos_base.specs.Text.{order, ended_within, cut_within}
 use Rattle.aos_base.specs.Book.{Where}
 use Rattle.aos_base.specs.Machine.{Turn, Machine, State, start_of}
-use Rattle.aos_base.specs.Rooted.{Made, Rooted, by_number, from_last, change_from_last, change_at, change_by_number, at_root, load, load_all, spliced}
+use Rattle.aos_base.specs.Rooted.{Made, Rooted, by_number, change_from_last, change_at, change_by_number, load, load_all, spliced}
 use Rattle.aos_base.specs.Question.{Reads, Stores, Copies, PutsText, ComparesTexts, Calls, Ends, Makes, Starts, Enters, Leaves, PutsInt, PutsChar, PutsString, PutsNothing, PutsLn, Places, Lengths, Opens, Sizes, Tests}
 use Rattle.aos_code.specs.declared.instr.Cell.{Cell}
 use Rattle.aos_code.specs.declared.instr.Cell.TheVariants.{Num, Ref, Call as CallCell, Place}
@@ -480,10 +480,15 @@ module _ (image : Image) where
   position_or none [] = none
   position_or none (f ∷ fs) = or_below f.at (home_of f.procedure) (position_or none fs)
 
-  -- where the topmost frame that has begun a statement stands; line 0 and column 0 where none has
+  -- the module of the lowest frame, or this one where there is none
+  abbrev pub lowest_home : ℕ → List Frame → ℕ
+  lowest_home home [] = home
+  lowest_home home (f ∷ fs) = lowest_home (home_of f.procedure) fs
+
+  -- where the topmost frame that has begun a statement stands; where none has, line 0 and column 0 of the module of the body with which
+  -- the activity began
   abbrev pub position_in : List Frame → Where
-  position_in [] = record { module_ = 0; pos = record { line = 0; col = 0 } }
-  position_in (f ∷ fs) = position_or (record { module_ = home_of f.procedure; pos = record { line = 0; col = 0 } }) (f ∷ fs)
+  position_in fs = position_or (record { module_ = lowest_home 0 fs; pos = record { line = 0; col = 0 } }) fs
 
   abbrev pub position : Frames → Where
   position fs = position_in (opened fs).frames

@@ -1,7 +1,7 @@
 -- Turns don't see silent work.
 use Rattle.std.proofs.Common.{◌≡◌, ◌<◌, ◌+◌, ◌-◌, ◌^◌, ℕ, ℤ, zero, suc, List, [], ◌∷◌, ◌++◌, map, length, take, drop, reverse, refl, sym, ap, ◌∙◌, subst, arith}
 use Rattle.std.specs.Prelude.{Option, Some, None, Bool, true, false, slice_get, slice_set, get_or, if◌then◌else◌, option_map, is_some}
-use Rattle.std.proofs.lemmas.List.{append-nil, set_split, drop_all, length-map, length-reverse, length-take}
+use Rattle.std.proofs.lemmas.List.{append-nil, reverse-append, set_split, drop_all, length-map, length-reverse, length-take}
 use Rattle.std.proofs.lemmas.Option.{slice_get_within, slice_get_read}
 use Rattle.aos_base.specs.declared.text.Pos.{Pos}
 use Rattle.aos_base.specs.declared.number.Relation.{Relation}
@@ -20,7 +20,7 @@ use Rattle.aos_code.specs.declared.image.TypeDesc.{TypeDesc}
 use Rattle.aos_code.specs.Memory.{Memory, Addr, has_room}
 use Rattle.aos_code.specs.Numbered.{numbered}
 use Rattle.aos_code.specs.Silent.{Stack, Keeps, Question, Begins, Fails, Stop, Work, Ended, is_of}
-use Rattle.aos_code.specs.Machine.{here_of, object_of, arguments_of, Frame, Frames, Turned, Handed, rooted, cells_at, written, leaves, goes_on, reads, writes, copies, ends, prints, writes_out, makes, makes_with, makes_of, numbers_in, in_rows, first_cell, made_in, starts, stores_text, fitted, puts_text, compares, is_deep, enters, calls_with, calls, handed, called_frame, answer, goes, text_at, length_in, code_in, before as before_it, own_lock, lock_in, opens, regions_of, opened, opened_by, past, past_all, past_stop, is_passed, code_of, stop_of, turn, turn_at, behind, home_of, position, position_in, position_or, or_below}
+use Rattle.aos_code.specs.Machine.{here_of, object_of, arguments_of, Frame, Frames, Turned, Handed, rooted, cells_at, written, leaves, goes_on, reads, writes, copies, ends, prints, writes_out, makes, makes_with, makes_of, numbers_in, in_rows, first_cell, made_in, starts, stores_text, fitted, puts_text, compares, is_deep, enters, calls_with, calls, handed, called_frame, answer, goes, text_at, length_in, code_in, before as before_it, own_lock, lock_in, opens, regions_of, opened, opened_by, past, past_all, past_stop, is_passed, code_of, stop_of, turn, turn_at, behind, home_of, position, position_in, position_or, lowest_home, or_below}
 use Rattle.aos_store.specs.declared.frames.Frame.{Frame as KeptFrame}
 use Rattle.aos_store.specs.declared.frames.Frames.{Frames as KeptFrames}
 use Rattle.aos_store.specs.Store.{frame_in, list_in, frames_in}
@@ -31,7 +31,7 @@ use Rattle.aos_silent.specs.declared.silent.Stop.TheVariants.{Work as AtWork, Be
 use Rattle.aos_silent.specs.Acts.{question_in, operands_of}
 use Rattle.aos_cpu.specs.Answers.{Made as HasMade, begun_at}
 use Rattle.aos_silent.specs.Silent.{Seen, stop_in, IsStopOf, silent_at, seen_at}
-use Rattle.aos_cpu.specs.Turns.{SeenFrames, seen, seen_all, seen_frames, Alike, Shown, StandsAtStop, HasAnswered, Stands, Same, WhereLeft, IsBefore, IsBeforeAsking, StandsAsking, StandsAtWork, operands_left, open_behind, IsTurned, home_of_top, counted}
+use Rattle.aos_cpu.specs.Turns.{SeenFrames, seen, seen_all, seen_frames, Alike, Shown, StandsAtStop, HasAnswered, Stands, Same, WhereLeft, IsBefore, IsBeforeAsking, StandsAsking, StandsAtWork, operands_left, open_behind, IsTurned, where_in, beginning, counted}
 use Rattle.aos_silent.specs.Known.{Knows}
 use Rattle.aos_cpu.proofs.Asking.{is_left, with_operands, asked_on_top, asked_again, asks_there}
 use Rattle.aos_silent.proofs.Topmost.{top_some, reverse-push}
@@ -558,13 +558,35 @@ position_same image made ps qs (f ∷ fs) [] h = absurd (none_other (seen image 
 position_same image made ps qs (f ∷ fs) (g ∷ gs) h =
     let e : seen image made f fs ≡ seen image made g gs = some_same _ _ (ap (λ (x : SeenFrames). x.top) h) in
     let below : fs ≡ gs = ap (λ (x : SeenFrames). x.below) h in
-    λ i. or_below (e i).at (home_of image (e i).procedure) (position_or image (record { module_ = home_of image (e i).procedure; pos = record { line = 0; col = 0 } }) (below i))
+    λ i. or_below (e i).at (home_of image (e i).procedure) (position_or image (record { module_ = lowest_home image (home_of image (e i).procedure) (below i); pos = record { line = 0; col = 0 } }) (below i))
 
 pub position_alike : (image : Image) (made : ℕ → Option Made) (fs gs : Frames) → Alike image made fs gs → position image fs ≡ position image gs
 position_alike image made fs gs h = position_same image made (opened fs).following (opened gs).following (opened fs).frames (opened gs).frames (h made (itself made))
 
+-- the lowest frame is the first that is kept
+lowest_last : (image : Image) (home : ℕ) (fs : List KeptFrame) (f : KeptFrame) → lowest_home image home (map frame_in (fs ++ f ∷ [])) ≡ home_of image f.procedure
+lowest_last image home [] f = refl
+lowest_last image home (g ∷ gs) f = lowest_last image (home_of image g.procedure) gs f
+
+lowest_first : (image : Image) (ps : List ℕ) (f : KeptFrame) (fs : List KeptFrame) →
+    lowest_home image 0 (opened (record { following = ps; frames = list_in (f ∷ fs) })).frames ≡ home_of image f.procedure
+lowest_first image ps f fs = ap (λ (l : List KeptFrame). lowest_home image 0 (opened_by (map frame_in l) ps).frames) (reverse-append (f ∷ []) fs) ∙ opened_last (reverse fs)
+  where
+    opened_last : (l : List KeptFrame) → lowest_home image 0 (opened_by (map frame_in (l ++ f ∷ [])) ps).frames ≡ home_of image f.procedure
+    opened_last [] = refl
+    opened_last (g ∷ gs) = lowest_last image (home_of image g.procedure) gs f
+
+pub lowest_read : (image : Image) (frames : KeptFrames) (f : KeptFrame) → slice_get frames.list.items 0 ≡ Some f →
+    where_in (home_of image f.procedure, record { line = 0; col = 0 }) ≡ beginning image (frames_in frames)
+lowest_read image frames f e = go (reverse frames.following.items) frames.list.items e
+  where
+    go : (ps : List ℕ) (fs : List KeptFrame) → slice_get fs 0 ≡ Some f → where_in (home_of image f.procedure, record { line = 0; col = 0 }) ≡ beginning image (record { following = ps; frames = list_in fs })
+    go ps [] h = absurd (none_other f h)
+    go ps (g ∷ gs) h =
+        ap (λ m. where_in (m, record { line = 0; col = 0 })) (ap (λ (x : KeptFrame). home_of image x.procedure) (some_same f g (sym h)) ∙ sym (lowest_first image ps g gs))
+
 pub position_home : (image : Image) (ps : List ℕ) (l : List Frame) →
-    position_or image (home_of_top image (record { following = ps; frames = l })) l ≡ position image (record { following = ps; frames = l })
+    position_or image (beginning image (record { following = ps; frames = l })) l ≡ position image (record { following = ps; frames = l })
 position_home image [] [] = refl
 position_home image (p ∷ ps) [] = refl
 position_home image ps (f ∷ fs) = refl

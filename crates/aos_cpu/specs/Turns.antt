@@ -10,7 +10,7 @@ use Rattle.aos_code.specs.declared.instr.Cell.TheVariants.{Ref}
 use Rattle.aos_code.specs.declared.image.Image.{Image}
 use Rattle.aos_code.specs.Memory.{Memory}
 use Rattle.aos_code.specs.Silent.{Question, Work}
-use Rattle.aos_code.specs.Machine.{Frame, Frames, Turned, opened, home_of, made_in, stop_of, turn, answer}
+use Rattle.aos_code.specs.Machine.{Frame, Frames, Turned, opened, lowest_home, made_in, stop_of, turn, answer}
 use Rattle.aos_store.specs.declared.frames.Frames.{Frames as KeptFrames}
 use Rattle.aos_store.specs.Store.{list_in, frames_in}
 use Rattle.aos_silent.specs.declared.act.Question.{Question as KeptQuestion}
@@ -62,13 +62,9 @@ module _ (image : Image) where
   HasCome made None fs = fs ≡ record { following = []; frames = [] }
   HasCome made (Some stop) fs = StandsAtStop made stop fs.frames
 
-  abbrev pub home_of_list : List Frame → Where
-  home_of_list [] = record { module_ = 0; pos = record { line = 0; col = 0 } }
-  home_of_list (f ∷ fs) = record { module_ = home_of image f.procedure; pos = record { line = 0; col = 0 } }
-
-  -- no place in the module of the topmost frame, or of the next body that is to follow
-  abbrev pub home_of_top : Frames → Where
-  home_of_top fs = home_of_list (opened fs).frames
+  -- no place, in the module of the body with which the activity began, or of the next body that is to follow
+  abbrev pub beginning : Frames → Where
+  beginning fs = record { module_ = lowest_home image 0 (opened fs).frames; pos = record { line = 0; col = 0 } }
 
   -- a turn has come to this; the output grows from one list to another
   pub record Shown (t : Turned) (did : Did) (old new : KeptFrames) (mem : Memory) (before after : List ℕ) : Type 0 where

@@ -5,7 +5,7 @@ ghost use Rattle.aos_code.specs.Machine.{Frame as FrameOf, Frames as FramesOf, o
 ghost use Rattle.aos_store.specs.Store.{frame_in, list_in, frames_in, memory_in, SameCounts};
 ghost use Rattle.aos_silent.specs.Known.{known};
 ghost use Rattle.aos_cpu.specs.Answers.{begun_at};
-ghost use Rattle.aos_cpu.specs.Turns.{where_in, counted, home_of_top, Alike, HasCome, StandsAtStop, StandsAtWork, operands_left, open_behind, IsTurned, IsBefore, Rests, WhereLeft};
+ghost use Rattle.aos_cpu.specs.Turns.{where_in, counted, beginning as beginning_of, Alike, HasCome, StandsAtStop, StandsAtWork, operands_left, open_behind, IsTurned, IsBefore, Rests, WhereLeft};
 
 use crate::answers::answer;
 use crate::in_place::{count, turn_in_place};
@@ -196,26 +196,26 @@ pub fn pass(frames: &mut Frames, left: Did)
     }
 }
 
-/// The module of the topmost frame, or of the next body that is to follow, and no place in it.
-fn top_home(image: &Image, frames: &Frames) -> (u32, Pos)
-    ensures { where_in result ≡ home_of_top image.now (frames_in frames.now) }
+/// The module of the body with which the activity began, or of the next body that is to follow, and no place in it.
+#[tactic(auto, using(crate::proofs::Turns::lowest_read))]
+fn beginning(image: &Image, frames: &Frames) -> (u32, Pos)
+    ensures { where_in result ≡ beginning_of image.now (frames_in frames.now) }
 {
-    let procedure = match frames.list.last() {
-        None => frames.following.last().copied(),
-        Some(frame) => Some(frame.procedure),
-    };
-    match procedure {
+    if let Some(lowest) = frames.list.first() {
+        return (home_of(image, lowest.procedure), Pos { line: 0, col: 0 });
+    }
+    match frames.following.last().copied() {
         None => (0, Pos { line: 0, col: 0 }),
         Some(procedure) => (home_of(image, procedure), Pos { line: 0, col: 0 }),
     }
 }
 
-/// Where the topmost frame that has begun a statement stands: the module's number, and the place. An activity without frames stands
-/// where the next body that is to follow begins.
+/// Where the topmost frame that has begun a statement stands: the module's number, and the place. Where none has, the activity stands
+/// at its beginning.
 pub fn position(image: &Image, frames: &Frames) -> (u32, Pos)
     ensures { (made : ℕ → Option Made) (fs : FramesOf) → Alike image.now made fs (frames_in frames.now) → position_at image.now fs ≡ where_in result }
 {
-    let mut found = top_home(image, frames);
+    let mut found = beginning(image, frames);
     for frame in frames.list.as_slice() {
         if let Some(pos) = frame.at {
             found = (home_of(image, frame.procedure), pos);

@@ -8,7 +8,7 @@ use Rattle.aos_base.specs.Machine.{Choice, State, execution}
 use Rattle.aos_base.specs.Observation.{WaitRow, waits_below}
 use Rattle.aos_code.specs.declared.image.Image.{Image}
 use Rattle.aos_code.specs.declared.report.TrapRec.{TrapRec}
-use Rattle.aos_kernel.specs.declared.waits.WaitRec.{WaitRec}
+use Rattle.aos_code.specs.declared.report.WaitRec.{WaitRec}
 use Rattle.aos_code.specs.Memory.{Memory}
 use Rattle.aos_code.specs.Machine.{Frames, machine, first_state}
 use Rattle.aos_base.specs.declared.kernel.Sched.{Sched}

@@ -13,9 +13,8 @@ ghost use Rattle.aos_kernel.specs.Run.{state_of, events_of, traps_of, waits_of, 
 use crate::activity::{Activity, Next};
 use crate::desk::Desk;
 use crate::log::{Stepped, add_step};
-use crate::waits::WaitRec;
 use aos_base::{Event, NoMemory, Outcome, Sched};
-use aos_code::{Image, TrapRec};
+use aos_code::{Image, TrapRec, WaitRec};
 use aos_line::Line;
 use aos_ready::Priority;
 use aos_store::{Frames, Store};

@@ -9,8 +9,7 @@ mod locks;
 pub mod log;
 mod traps;
 mod turns;
-pub mod waits;
+mod waits;
 
 pub use kernel::{Kernel, MAX_BUDGET, MAX_WORKERS};
 pub use log::Stepped;
-pub use waits::WaitRec;

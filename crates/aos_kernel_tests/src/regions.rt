@@ -251,6 +251,38 @@ static QUEUED_BODY_RUNS: [Run<'static>; 2] = [
     ),
 ];
 
+// An object's body in the second module that has begun no statement where it calls a procedure of the first one, whose lock another
+// activity owns.
+const CALLING_BODY: Program<'static> = Program {
+    modules: &[(&[], 1), (&[], 0)],
+    types: &[(&[], 3)],
+    procedures: &[
+        (
+            0,
+            false,
+            &[],
+            "enter; begin 1 1; new_object 1; start; begin 1 2; leave; return",
+        ),
+        (0, false, &[], "enter; begin 2 1; leave; return"),
+        (1, true, &[], "call 2; return"),
+    ],
+};
+
+static CALLING_BODY_RUNS: [Run<'static>; 2] = [
+    (
+        1,
+        &[Steps(0, 5), Tick(0), Steps(0, 3)],
+        "Going ; 1 enters m0 at 1:0:0",
+        "2 enter m0 0; 5 start 1; 9 wait m0 1",
+    ),
+    (
+        1,
+        &[Steps(0, 5), Tick(0), Steps(0, 100)],
+        "Ended ",
+        "2 enter m0 0; 5 start 1; 9 wait m0 1; 12 pass m0 0 1; 14 end 0; 17 free m0 1; 20 end 1",
+    ),
+];
+
 // An object's body that traps in its own region, for which another activity waits.
 const TRAPPING_BODY: Program<'static> = Program {
     modules: &[(&[Cell::Ref(0)], 1)],
@@ -584,6 +616,7 @@ fn waits_for_locks(rt: HostRuntime) -> Result<(), Fail> {
     let alloc = rt.alloc();
     expect_all(&rt, alloc, CROSSWISE, &CROSSWISE_RUNS)?;
     expect_all(&rt, alloc, QUEUED_BODY, &QUEUED_BODY_RUNS)?;
+    expect_all(&rt, alloc, CALLING_BODY, &CALLING_BODY_RUNS)?;
     expect_all(&rt, alloc, IN_TURN, &IN_TURN_RUNS)
 }
 

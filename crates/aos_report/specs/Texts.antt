@@ -1,7 +1,10 @@
 -- The lines that the program writes beside a run's output. Each ends with the byte 10; numbers are decimal.
-use Rattle.std.specs.Prelude.{ℕ, List, [], ◌∷◌, ◌++◌, codes, decimal, slice_get, unwrap_or}
+use Rattle.std.specs.Prelude.{ℕ, List, [], ◌∷◌, ◌++◌, codes, decimal, slice_get, unwrap_or, Bool, true, false}
 use Rattle.aos_base.specs.declared.text.Pos.{Pos}
+use Rattle.aos_base.specs.declared.kernel.LockName.{LockName}
+use Rattle.aos_base.specs.declared.kernel.LockName.TheVariants.{Module, Object}
 use Rattle.aos_base.specs.Book.{TrapRow, Where}
+use Rattle.aos_base.specs.Observation.{WaitRow}
 
 -- a module's name, by its number
 abbrev pub name_of : List (List ℕ) → ℕ → List ℕ
@@ -96,6 +99,26 @@ row_text names row = trap_text names row.number row.code row.activity row.at
 abbrev pub rows_text : List (List ℕ) → List TrapRow → List ℕ
 rows_text names [] = []
 rows_text names (row ∷ rows) = row_text names row ++ rows_text names rows
+
+-- object N, or module NAME
+abbrev pub lock_text : List (List ℕ) → LockName → List ℕ
+lock_text names (Object n) = codes "object " ++ decimal n
+lock_text names (Module m) = codes "module " ++ name_of names m
+
+-- what is waited for: a condition, or else the lock itself
+abbrev pub wait_word : Bool → List ℕ
+wait_word true = codes "await "
+wait_word false = codes "enter "
+
+-- waiting A enter LOCK at MODULE:LINE:COL, or await in the place of enter
+abbrev pub wait_text : List (List ℕ) → WaitRow → List ℕ
+wait_text names row =
+    codes "waiting " ++ decimal row.activity ++ codes " " ++ wait_word row.awaits ++ lock_text names row.lock ++ codes " at " ++ place_text (name_of names row.at.module_) row.at.pos ++ codes "\n"
+
+-- the lines of all who wait, in their order
+abbrev pub waits_text : List (List ℕ) → List WaitRow → List ℕ
+waits_text names [] = []
+waits_text names (row ∷ rows) = wait_text names row ++ waits_text names rows
 
 -- activity A began B statements
 abbrev pub budget_text : (activity budget : ℕ) → List ℕ

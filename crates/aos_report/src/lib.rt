@@ -3,10 +3,10 @@
 
 ghost use Rattle.std.specs.Prelude.{◌≡◌, ◌++◌, IfOk, OnOk, map, codes, decimal, slice_get, unwrap_or};
 ghost use Rattle.std.specs.String.{string_bytes};
-ghost use Rattle.aos_report.specs.Texts.{name_of, rule_text, place_text, refusal_text, usage_text, unread_text, too_long_text, trap_text, budget_text, script_ended_text, script_refused_text, no_worker_text};
+ghost use Rattle.aos_report.specs.Texts.{name_of, rule_text, place_text, refusal_text, usage_text, unread_text, too_long_text, trap_text, lock_text, wait_text, budget_text, script_ended_text, script_refused_text, no_worker_text};
 
-use aos_base::{NoMemory, Pos, Refusal};
-use aos_code::{ModuleDesc, TrapRec};
+use aos_base::{LockName, NoMemory, Pos, Refusal};
+use aos_code::{ModuleDesc, TrapRec, WaitRec};
 use itoa::Buffer;
 use std::alloc::Global;
 
@@ -173,6 +173,42 @@ pub fn trap_line(alloc: Global, t: &TrapRec, modules: &[ModuleDesc]) -> Result<V
     put_number(&mut line, u64::from(t.activity))?;
     put(&mut line, " at ")?;
     put_place(&mut line, name_in(modules, t.module), t.pos)?;
+    put(&mut line, "\n")?;
+    Ok(line)
+}
+
+// object N, or module NAME
+fn put_lock(line: &mut Vec<u8>, lock: LockName, modules: &[ModuleDesc]) -> Result<(), NoMemory>
+    ensures { OnOk result (line.new.items ≡ line.old.items ++ lock_text (map (λ m. string_bytes m.name) modules.now) lock) }
+{
+    match lock {
+        LockName::Object(number) => {
+            put(line, "object ")?;
+            put_number(line, u64::from(number))
+        },
+        LockName::Module(number) => {
+            put(line, "module ")?;
+            put(line, name_in(modules, number))
+        },
+    }
+}
+
+/// The line of an activity that waits for a lock: `waiting A enter LOCK at MODULE:LINE:COL`, or `await` where it waits for a condition;
+/// the lock is `object N`, or `module NAME` with its name among these.
+pub fn wait_line(alloc: Global, w: &WaitRec, modules: &[ModuleDesc]) -> Result<Vec<u8>, NoMemory>
+    ensures { IfOk result
+        (λ line. line.items ≡
+        wait_text (map (λ m. string_bytes m.name) modules.now)
+        (record { activity = w.now.activity; lock = w.now.lock; awaits = w.now.awaits; at = record { module_ = w.now.module; pos = w.now.pos } })) }
+{
+    let mut line = Vec::new(alloc);
+    put(&mut line, "waiting ")?;
+    put_number(&mut line, u64::from(w.activity))?;
+    put(&mut line, " ")?;
+    put(&mut line, if w.awaits { "await " } else { "enter " })?;
+    put_lock(&mut line, w.lock, modules)?;
+    put(&mut line, " at ")?;
+    put_place(&mut line, name_in(modules, w.module), w.pos)?;
     put(&mut line, "\n")?;
     Ok(line)
 }

@@ -14,6 +14,6 @@ returns c made fs h =
     let items = frames.list.items in
     let all : take c.loop-frame.frame-index items ≡ items = take_all c.loop-frame.frame-index items (omega (arith, c.loop-frame-test.false, ap (λ (xs : List KeptFrame). length xs) c.as_slice-frame-items.ensures.value)) in
     let here : position image (frames_in frames) ≡ where_in c.loop-frame.found =
-    sym (position_home image (reverse frames.following.items) (list_in items)) ∙ ap (λ w. position_or image w (list_in items)) (sym c.top_home-found.ensures)
-    ∙ ap (λ (xs : List KeptFrame). position_or image (where_in c.top_home-found.result) (list_in xs)) (sym all) ∙ c.loop-frame.invariant in
+    sym (position_home image (reverse frames.following.items) (list_in items)) ∙ ap (λ w. position_or image w (list_in items)) (sym c.beginning-found.ensures)
+    ∙ ap (λ (xs : List KeptFrame). position_or image (where_in c.beginning-found.result) (list_in xs)) (sym all) ∙ c.loop-frame.invariant in
     position_alike image made fs (frames_in frames) h ∙ here
