@@ -33,7 +33,7 @@ use Rattle.aos_typed.specs.Routines.{Routine, parameters_of, result_of}
 use Rattle.aos_layout.specs.Layout.{kind_of as cell_kind}
 use Rattle.aos_typed.specs.Program.{Program, Parameter, Procedure as Declared, Arguments, Place, Expr, Lit, Read, Binary, Call, Open, Char, Int, String, Ln, Stat, Assign, Copy, PutText, If, Case, While, Repeat, Loop, Exit, For, Block, Assert, Halt, Change, Perform, Return, New, Make, With, WithRecord, Out, Stats, Nothing, Then, Arms, Otherwise, Arm, Cases, NoElse, Else, OfLabels}
 use Rattle.aos_typed.specs.WellTyped.{Includes, amount_type, IsPlaceOf, IsOf, AreArguments, AreLengthsOf, IsInitialized, IsCall, IsReturn, IsStatement, AreStatements, AreArms, AreCases}
-use Rattle.aos_sim.specs.Code.{begin, kind_of, cells_of, place_code, arguments_code, value_code, values_code, make_instr, make_code, out_code, stash, unstash, initial_kinds, initialize_code, carry_out_instr, store_code, new_code, assign_code, change_code, changed_code, for_head, step_code, body_place, stat_code, stats_code, arms_code, cases_code, arm_place}
+use Rattle.aos_sim.specs.Code.{Within, NoRegion, AroundLoop, InLoop, Ways, loop_within, loop_ways, block_ways, block_at, block_code, exit_code, return_code, begin, kind_of, cells_of, place_code, arguments_code, value_code, values_code, make_instr, make_code, out_code, stash, unstash, initial_kinds, initialize_code, carry_out_instr, store_code, new_code, assign_code, change_code, changed_code, for_head, step_code, body_place, stat_code, stats_code, arms_code, cases_code, arm_place}
 use Rattle.aos_sim.specs.Search.{Search, Nowhere, At as Labels, Split, arms_in, search_of, label_code, search_size, search_code}
 use Rattle.aos_sim.specs.Need.{operands, arguments_need, place_need, value_need, values_need, out_need, assign_need, changed_need, stat_need, stats_need, arms_need, cases_need, stat_level, stats_level, arms_level, cases_level}
 use Rattle.aos_sim.proofs.Sizes.{search_length, stats_length, arms_length, cases_length, arm_ahead, stats_above}
@@ -319,15 +319,30 @@ module _ (p : Program) (o : Option Declared) (image : Image) (own : ℕ) (depth 
   labels_piece place (OfLabels rs ss cases) d at lt ahead room =
       search_piece place (suc (arms_in cases)) (search_of (OfLabels rs ss cases)) d at lt ahead (omega (arith, room))
 
+  -- EXIT and RETURN leave a region first
+  exit_piece : (u : Within) (x at : ℕ) → at + length (exit_code u x) ≤ x → Piece image own Procedure depth (At x []) (exit_code u x) at [] []
+  exit_piece NoRegion x at le = jump_forth x (omega (arith, le)) (omega arith)
+  exit_piece AroundLoop x at le = jump_forth x (omega (arith, le)) (omega arith)
+  exit_piece InLoop x at le = one_then i.Leave refl refl (omega arith) (λ whole q. refl) (jump_forth x (omega (arith, le)) (omega arith))
+
+  left_piece : {Asks : Round} (u : Within) {at : ℕ} {s t : Kinds} → length s ≤ depth → ((at' : ℕ) → Piece image own Procedure depth Asks (i.Return ∷ []) at' s t) → Piece image own Procedure depth Asks (return_code u) at s t
+  left_piece NoRegion {at = at} few ends = ends at
+  left_piece AroundLoop {at = at} few ends = one_then i.Leave refl refl few (λ whole q. refl) (ends (at + 1))
+  left_piece InLoop {at = at} few ends = one_then i.Leave refl refl few (λ whole q. refl) (ends (at + 1))
+
+  -- a region with these statements
+  region_piece : {Asks : Round} {b : List Instr} {at : ℕ} → Piece image own Procedure depth Asks b (at + 1) [] [] → Piece image own Procedure depth Asks (block_code true b) at [] []
+  region_piece q = one_then i.Enter refl refl (omega arith) (λ whole p. refl) (then_one q i.Leave refl refl (omega arith) (λ whole p. refl))
+
   -- a procedure that gives nothing ends without operands,
   nothing_returned : (r : Option TType) → result_of o ≡ r → IsReturn p o None r → returned (numbered image.shapes.items own) [] ≡ Some []
   nothing_returned None e h = ap (λ f. returned f []) has.mine.1 ∙ ap (λ k. alone k []) (has.mine.2 ∙ ap (option_map (λ t. cell_kind p.types (id_of t))) e)
   nothing_returned (Some t) e h = absurd h
 
   -- and a function with its result
-  return_piece : {Asks : Round} (e : Expr) (r : Option TType) → result_of o ≡ r → IsReturn p o (Some e) r → (at : ℕ) → value_need e ≤ depth → Piece image own Procedure depth Asks (value_code p o e at ++ i.Return ∷ []) at [] []
-  return_piece e None is h at room = absurd h
-  return_piece e (Some t) is h at room =
+  return_piece : {Asks : Round} (u : Within) (e : Expr) (r : Option TType) → result_of o ≡ r → IsReturn p o (Some e) r → (at : ℕ) → value_need e ≤ depth → Piece image own Procedure depth Asks (value_code p o e at ++ return_code u) at [] []
+  return_piece u e None is h at room = absurd h
+  return_piece u e (Some t) is h at room =
       let k = some_need e in
       let ends : returned (numbered image.shapes.items own) (kind_of p.types t ∷ []) ≡ Some [] =
       ap (λ f. returned f (kind_of p.types t ∷ [])) has.mine.1
@@ -335,11 +350,11 @@ module _ (p : Program) (o : Option Declared) (image : Image) (own : ℕ) (depth 
       ∙ alone_one (kind_of p.types t) in
       both
       (value_piece p o image own Procedure depth has refl e t h at [] (omega (arith, room)))
-      (stops i.Return [] ends refl (omega (arith, room, k)) (λ whole q. refl))
+      (left_piece u (omega (arith, room, k)) (λ at'. stops i.Return [] ends refl (omega (arith, room, k)) (λ whole q. refl)))
 
   mutual
     -- a statement; an EXIT in it leads behind it, to what has the same operands
-    pub stat_piece : (t : Stat) → IsStatement p o t → (at x d : ℕ) → at + length (stat_code p o t at x d) ≤ x → stat_level t d ≤ keeps → stat_need t ≤ depth → Piece image own Procedure depth (At x []) (stat_code p o t at x d) at [] []
+    pub stat_piece : (t : Stat) → IsStatement p o t → (at : ℕ) (x : Ways) (d : ℕ) → at + length (stat_code p o t at x d) ≤ x.exit → stat_level t d ≤ keeps → stat_need t ≤ depth → Piece image own Procedure depth (At x.exit []) (stat_code p o t at x d) at [] []
     stat_piece (Assign here t y e) h at x d le kept room = assign_piece here t y e h.0 h.2 at [] (omega (arith, room))
     stat_piece (Copy here t y z) h at x d le kept room =
         begins here (omega (arith, room)) (both
@@ -351,7 +366,7 @@ module _ (p : Program) (o : Option Declared) (image : Image) (own : ℕ) (depth 
         begins here (omega (arith, room)) (texts_piece p o image own Procedure depth has refl a b h.0 h.1 (i.PutText strict) (at + 1) [] (omega (arith, room)) refl refl (λ whole q. refl))
     stat_piece (If here arms) h at x d le kept room =
         let end = at + 1 + length (arms_code p o arms (at + 1) 0 x d) in
-        let same = arms_length p o arms (at + 1) end 0 x x d in
+        let same = arms_length p o arms (at + 1) end 0 x.within x.exit x.exit d in
         begins here (omega (arith, room)) (arms_piece arms h (at + 1) end x d (omega (arith, same)) (omega (arith, le)) kept room)
     stat_piece (Case here e cases) h at x d le kept room =
         let c = value_code p o e (at + 1) in
@@ -361,14 +376,14 @@ module _ (p : Program) (o : Option Declared) (image : Image) (own : ℕ) (depth 
         let place = arm_place p o cases first x d in
         let search = search_code place (arms_in cases) (search_of cases) d from in
         let arms = cases_code p o cases first end x d in
-        let same = cases_length p o cases first end 0 x x d in
+        let same = cases_length p o cases first end 0 x.within x.exit x.exit d in
         let size = search_length place (arms_in cases) (search_of cases) d from in
         let l1 = length-append c (i.Keep d N ∷ (search ++ arms)) in
         let l2 = length-append search arms in
         let k = some_need e in
         let lt : d < keeps = omega (arith, kept, le-max_left (suc d) (cases_level cases d)) in
         let z : first ≡ from + length search = omega (arith, size) in
-        let all = subst (λ n. Entries image own Procedure depth (At x []) arms n place [] []) z
+        let all = subst (λ n. Entries image own Procedure depth (At x.exit []) arms n place [] []) z
         (cases_piece cases h.2 first end x d (omega (arith, same)) (omega (arith, le, same, size, l1, l2)) (omega (arith, kept, le-max_right (suc d) (cases_level cases d))) (omega (arith, room))) in
         begins here (omega (arith, room)) (both (selector_piece e h.0 (at + 1) [] (omega (arith, room)))
         (one_then (i.Keep d N) refl refl (omega (arith, room, k)) (may_keep d lt)
@@ -390,11 +405,11 @@ module _ (p : Program) (o : Option Declared) (image : Image) (own : ℕ) (depth 
         (stats_piece body h.0 (at + 1) x d (omega (arith, le, length-append b (c ++ i.JumpFalse at ∷ []))) kept (omega (arith, room)))
         (value_piece p o image own Procedure depth has refl e type.Boolean h.1 (at + 1 + length b) [] (omega (arith, room)))
     stat_piece (Loop here body) h at x d le kept room =
-        let out = at + 1 + length (stats_code p o body (at + 1) 0 d) + 1 in
-        let same = stats_length p o body (at + 1) out 0 d in
+        let out = at + 1 + length (stats_code p o body (at + 1) (loop_ways 0 x) d) + 1 in
+        let same = stats_length p o body (at + 1) (loop_within x.within) out 0 d in
         loops here.line here.col out (omega (arith, same)) refl (omega (arith, room))
-        (stats_piece body h (at + 1) out d (omega (arith, same)) kept (omega (arith, room)))
-    stat_piece (Exit here) h at x d le kept room = begins here (omega (arith, room)) (jump_forth x (omega (arith, le)) (omega (arith, room)))
+        (stats_piece body h (at + 1) (loop_ways out x) d (omega (arith, same)) kept (omega (arith, room)))
+    stat_piece (Exit here) h at x d le kept room = begins here (omega (arith, room)) (exit_piece x.within x.exit (at + 1) (omega (arith, le)))
     stat_piece (For here w y from to step body) h at x d le kept room =
         let last = value_code p o to (at + 1) in
         let k = some_need to in
@@ -427,7 +442,10 @@ module _ (p : Program) (o : Option Declared) (image : Image) (own : ℕ) (depth 
         (both
         (moved (omega (arith, l1)) (stats_piece body h.5 first x (suc d) (omega (arith, le, l1, l2, l3, l4, l5)) kept (omega (arith, room))))
         (moved (omega (arith, l1)) (assign_piece here (type.Integer w) y (Binary (binary.Add w) (Read (type.Integer w) y) (Lit (literal.Int step))) h.1 (((h.1, refl, inl (included_self w)), inl h.4), included_self w) (first + length b) [] (omega (arith, room)))))))
-    stat_piece (Block here body) h at x d le kept room = begins here (omega (arith, room)) (stats_piece body h (at + 1) x d (omega (arith, le)) kept room)
+    stat_piece (Block here false body) h at x d le kept room = begins here (omega (arith, room)) (stats_piece body h (at + 1) x d (omega (arith, le)) kept room)
+    stat_piece (Block here true body) h at x d le kept room =
+        let b = stats_code p o body (at + 1 + 1) (block_ways true x) d in
+        begins here (omega (arith, room)) (region_piece (stats_piece body h (at + 1 + 1) (block_ways true x) d (omega (arith, le, length-append b (i.Leave ∷ []))) kept room))
     stat_piece (Assert here e code) h at x d le kept room =
         let k = some_need e in
         begins here (omega (arith, room)) (then_one (value_piece p o image own Procedure depth has refl e type.Boolean h.0 (at + 1) [] (omega (arith, room))) (i.Assert code) refl refl (omega (arith, room, k)) (λ whole q. refl))
@@ -437,8 +455,8 @@ module _ (p : Program) (o : Option Declared) (image : Image) (own : ℕ) (depth 
         let gives = ap (λ r. given (option_map (λ t. cell_kind p.types (id_of t)) r) (Some [])) h.2 in
         begins here (omega (arith, room)) (call_piece p o image own Procedure depth has refl c h.0 h.1 more h.3 (at + 1) [] gives (omega (arith, room)) (omega (arith, room)))
     stat_piece (Return here None) h at x d le kept room =
-        begins here (omega (arith, room)) (stops i.Return [] (nothing_returned (result_of o) refl h) refl (omega (arith, room)) (λ whole q. refl))
-    stat_piece (Return here (Some e)) h at x d le kept room = begins here (omega (arith, room)) (return_piece e (result_of o) refl h (at + 1) room)
+        begins here (omega (arith, room)) (left_piece x.within (omega (arith, room)) (λ at'. stops i.Return [] (nothing_returned (result_of o) refl h) refl (omega (arith, room)) (λ whole q. refl)))
+    stat_piece (Return here (Some e)) h at x d le kept room = begins here (omega (arith, room)) (return_piece x.within e (result_of o) refl h (at + 1) room)
     stat_piece (New here y t more) h at x d le kept room =
         let one_kept = le-max_left (suc d) (d + operands more) in
         let all_kept = le-max_right (suc d) (d + operands more) in
@@ -461,7 +479,7 @@ module _ (p : Program) (o : Option Declared) (image : Image) (own : ℕ) (depth 
     stat_piece (Out here call) h at x d le kept room = begins here (omega (arith, room)) (out_piece call h (at + 1) [] (omega (arith, room)))
 
     -- a sequence of statements
-    pub stats_piece : (ss : Stats) → AreStatements p o ss → (at x d : ℕ) → at + length (stats_code p o ss at x d) ≤ x → stats_level ss d ≤ keeps → stats_need ss ≤ depth → Piece image own Procedure depth (At x []) (stats_code p o ss at x d) at [] []
+    pub stats_piece : (ss : Stats) → AreStatements p o ss → (at : ℕ) (x : Ways) (d : ℕ) → at + length (stats_code p o ss at x d) ≤ x.exit → stats_level ss d ≤ keeps → stats_need ss ≤ depth → Piece image own Procedure depth (At x.exit []) (stats_code p o ss at x d) at [] []
     stats_piece Nothing h at x d le kept room = nothing
     stats_piece (Then t ss) h at x d le kept room =
         let c = stat_code p o t at x d in
@@ -470,7 +488,7 @@ module _ (p : Program) (o : Option Declared) (image : Image) (own : ℕ) (depth 
         (stat_piece t h.0 at x d (omega (arith, le, l)) (omega (arith, kept, le-max_left (stat_level t d) (stats_level ss d))) (omega (arith, room)))
         (stats_piece ss h.1 (at + length c) x d (omega (arith, le, l)) (omega (arith, kept, le-max_right (stat_level t d) (stats_level ss d))) (omega (arith, room)))
 
-    arms_piece : (arms : Arms) → AreArms p o arms → (at end x d : ℕ) → end ≡ at + length (arms_code p o arms at end x d) → end ≤ x → arms_level arms d ≤ keeps → arms_need arms ≤ depth → Piece image own Procedure depth (At x []) (arms_code p o arms at end x d) at [] []
+    arms_piece : (arms : Arms) → AreArms p o arms → (at end : ℕ) (x : Ways) (d : ℕ) → end ≡ at + length (arms_code p o arms at end x d) → end ≤ x.exit → arms_level arms d ≤ keeps → arms_need arms ≤ depth → Piece image own Procedure depth (At x.exit []) (arms_code p o arms at end x d) at [] []
     arms_piece (Otherwise ss) h at end x d ends le kept room = stats_piece ss h at x d (omega (arith, ends, le)) kept room
     arms_piece (Arm e ss arms) h at end x d ends le kept room =
         let c = value_code p o e at in
@@ -486,9 +504,9 @@ module _ (p : Program) (o : Option Declared) (image : Image) (own : ℕ) (depth 
         (stats_piece ss h.1 first x d (omega (arith, ends, le, l1, l2)) (omega (arith, kept, le-max_left (stats_level ss d) (arms_level arms d))) (omega (arith, room)))
         (arms_piece arms h.2 next end x d (omega (arith, ends, l1, l2)) le (omega (arith, kept, le-max_right (stats_level ss d) (arms_level arms d))) (omega (arith, room)))
 
-    cases_piece : (cases : Cases) → AreCases p o cases → (at end x d : ℕ) → end ≡ at + length (cases_code p o cases at end x d) → end ≤ x → cases_level cases d ≤ keeps → cases_need cases ≤ depth → Entries image own Procedure depth (At x []) (cases_code p o cases at end x d) at (arm_place p o cases at x d) [] []
+    cases_piece : (cases : Cases) → AreCases p o cases → (at end : ℕ) (x : Ways) (d : ℕ) → end ≡ at + length (cases_code p o cases at end x d) → end ≤ x.exit → cases_level cases d ≤ keeps → cases_need cases ≤ depth → Entries image own Procedure depth (At x.exit []) (cases_code p o cases at end x d) at (arm_place p o cases at x d) [] []
     cases_piece NoElse h at end x d ends le kept room =
-        let q : Piece image own Procedure depth (At x []) (i.Fail 4 ∷ []) at [] [] = stops (i.Fail 4) [] refl refl (omega (arith, room)) (λ whole q. refl) in
+        let q : Piece image own Procedure depth (At x.exit []) (i.Fail 4 ∷ []) at [] [] = stops (i.Fail 4) [] refl refl (omega (arith, room)) (λ whole q. refl) in
         (q, λ kinds l e n. q.enters kinds l e)
     cases_piece (Else ss) h at end x d ends le kept room =
         let q = stats_piece ss h at x d (omega (arith, ends, le)) kept room in
@@ -500,3 +518,10 @@ module _ (p : Program) (o : Option Declared) (image : Image) (own : ℕ) (depth 
         arm end (arm_place p o (OfLabels rs ss cases) at x d) (omega (arith, ends, la)) refl (omega (arith, room))
         (stats_piece ss h.1 at x d (omega (arith, ends, le, la)) (omega (arith, kept, le-max_left (stats_level ss d) (cases_level cases d))) (omega (arith, room)))
         (cases_piece cases h.2 next end x d (omega (arith, ends, la)) le (omega (arith, kept, le-max_right (stats_level ss d) (cases_level cases d))) (omega (arith, room)))
+
+  -- the statements of a body, which are a region where it is exclusive
+  pub block_piece : (exclusive : Bool) (ss : Stats) → AreStatements p o ss → (at : ℕ) (x : Ways) (d : ℕ) → at + length (block_code exclusive (stats_code p o ss (block_at exclusive at) (block_ways exclusive x) d)) ≤ x.exit → stats_level ss d ≤ keeps → stats_need ss ≤ depth → Piece image own Procedure depth (At x.exit []) (block_code exclusive (stats_code p o ss (block_at exclusive at) (block_ways exclusive x) d)) at [] []
+  block_piece false ss h at x d le kept room = stats_piece ss h at x d le kept room
+  block_piece true ss h at x d le kept room =
+      let b = stats_code p o ss (at + 1) (block_ways true x) d in
+      region_piece (stats_piece ss h (at + 1) (block_ways true x) d (omega (arith, le, length-append b (i.Leave ∷ []))) kept room)

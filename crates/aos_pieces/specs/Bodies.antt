@@ -13,7 +13,7 @@ use Rattle.aos_sim.specs.Need.{body_need}
 pub record IsBodySound (p : Program) (image : Image) (k : ℕ) (b : Body) : Type 0 where
   pub routine : Routine
   pub are : slice_get (routines p) k ≡ Some routine
-  pub sound : (need : ℕ) → body_need routine.body ≤ need → IsSound image (k + 1) Procedure b.code.items need
+  pub sound : (need : ℕ) → body_need routine.body.statements ≤ need → IsSound image (k + 1) Procedure b.code.items need
 
 -- each body of the image is such a one
 abbrev pub AreBodiesSound : Program → Image → Type 0

@@ -68,22 +68,22 @@ module _ (p : Program) (tables : Tables) (shaped : HasShapes p tables) (number :
       by None = refl
       by (Some q) = refl
 
-  pub keeps_known : keeps_in (numbered tables.procedures number) ≡ keeps_of r.body
+  pub keeps_known : keeps_in (numbered tables.procedures number) ≡ keeps_of r.body.statements
   keeps_known = let x = shaped.shapes number r there in ap keeps_in x.1 ∙ ap (λ z. z.keeps) x.2 ∙ by r.own
     where
-      by : (own : Option Procedure) → (shape_of p.types (record { home = r.home; own = own; body = r.body })).keeps ≡ keeps_of r.body
+      by : (own : Option Procedure) → (shape_of p.types (record { home = r.home; own = own; body = r.body })).keeps ≡ keeps_of r.body.statements
       by None = refl
       by (Some q) = refl
 
 module _ (p : Program) where
   -- the statements of each routine are well typed
   abbrev IsTyped : Routine → Type 0
-  IsTyped r = AreStatements p r.own r.body
+  IsTyped r = AreStatements p r.own r.body.statements
 
-  bodies_typed : (m : ℕ) (xs : List Module) → All (λ x. AreStatements p None x.body) xs → All IsTyped (bodies_from m xs)
+  bodies_typed : (m : ℕ) (xs : List Module) → All (λ x. AreStatements p None x.body.statements) xs → All IsTyped (bodies_from m xs)
   bodies_typed m [] h = All-nil IsTyped
   bodies_typed m (x ∷ xs) h =
-      let P : Module → Type 0 = λ x. AreStatements p None x.body in
+      let P : Module → Type 0 = λ x. AreStatements p None x.body.statements in
       All-cons IsTyped (record { home = m; own = None; body = x.body }) (bodies_from (suc m) xs) (all_get P (x ∷ xs) 0 x h refl) (bodies_typed (suc m) xs (All-tail P x xs h))
 
   abbrev IsPlainly : Procedure → Type 0

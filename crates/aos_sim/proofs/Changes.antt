@@ -24,7 +24,7 @@ use Rattle.aos_code.specs.declared.instr.Instr.TheVariants as i
 use Rattle.aos_code.specs.declared.instr.Kind.TheVariants.{N}
 use Rattle.aos_code.specs.Silent.{Keeps, Stack}
 use Rattle.aos_sim.specs.Cells.{place_in}
-use Rattle.aos_sim.specs.Code.{begin, kind_of, place_code, value_code, change_code}
+use Rattle.aos_sim.specs.Code.{Ways, begin, kind_of, place_code, value_code, change_code}
 use Rattle.aos_sim.proofs.Runs.{Run, Onward, Tables, runs, drop_next, drop_past}
 use Rattle.aos_sim.proofs.Types.{IsValueOf, number_cell}
 use Rattle.aos_sim.proofs.Does.{HasTypes, HasShapes, Does, along, does_bind, Knows, knows_grows}
@@ -96,7 +96,7 @@ module _ (program : Program) (own : Option Procedure) (tables : Tables) (number 
   change_does change.Exclude v n iv is rest p k s w m e =
       element_does Minus v n is (λ y iy. on_numbers_does program own tables number here code Minus type.Set v y (iv, iy) refl) rest p k s w m e
 
-  module _ (x d : ℕ) (k : Keeps) (after : List Item) (typed : HasTypes program) (shaped : HasShapes program tables) where
+  module _ (x : Ways) (d : ℕ) (k : Keeps) (after : List Item) (typed : HasTypes program) (shaped : HasShapes program tables) where
     abbrev Leaves : World Sort → After → Run → Type 0
     Leaves = Behind program own tables number here code after
 

@@ -25,7 +25,7 @@ use Rattle.aos_code.specs.declared.instr.Kind.TheVariants.{N}
 use Rattle.aos_code.specs.Numbered.{numbered}
 use Rattle.aos_code.specs.Silent.{Keeps, kept, keeps_in}
 use Rattle.aos_sim.specs.Search.{Search, Nowhere, At, Split, arms_in, search_of, found, label_code, search_size, search_code}
-use Rattle.aos_sim.specs.Code.{begin, value_code, stats_code, cases_code, arm_place}
+use Rattle.aos_sim.specs.Code.{Ways, begin, value_code, stats_code, cases_code, arm_place}
 use Rattle.aos_sim.specs.Need.{stats_level, cases_level}
 use Rattle.aos_sim.proofs.Runs.{Tables, Run, Onward, runs, run, drop_next, drop_past}
 use Rattle.aos_sim.proofs.Does.{HasTypes, HasShapes, Does, along}
@@ -111,7 +111,7 @@ module _ (program : Program) (own : Option Procedure) (tables : Tables) (number 
         by true q eb ea = eb
         by false q eb ea = ea
 
-    module _ (x : ℕ) (after : List Item) where
+    module _ (x : Ways) (after : List Item) where
       abbrev Carried : ℕ → Type 0
       Carried p = Carries program own tables number here code after p x d k
 
@@ -120,7 +120,7 @@ module _ (program : Program) (own : Option Procedure) (tables : Tables) (number 
       cases_do NoElse p end w ok holds st len c = (from_here program own tables number here code p (i.Fail 4 ∷ st.rest) k [] st.here, omega arith)
       cases_do (Else ss) p end w ok holds st len c =
           let has : HasStatements program own tables number here code ss p x d = record { stands = st; typed = ok; holds = holds } in
-          record { at = p; exit = x; level = d; keeps = k; runs = refl; carries = carries_all program own tables number here code ss p x d k after has (subst Carried len c) }
+          record { at = p; ways = x; level = d; keeps = k; runs = refl; carries = carries_all program own tables number here code ss p x d k after has (subst Carried len c) }
       cases_do (OfLabels rs ss cases) p end w ok holds st len c =
           let b = stats_code program own ss p x d in
           let pj = p + length b in
@@ -131,19 +131,19 @@ module _ (program : Program) (own : Option Procedure) (tables : Tables) (number 
           let h2 : drop pj code ≡ i.Jump end ∷ rest2 = drop_past b p code (i.Jump end ∷ rest2) h1 in
           let h3 : drop next code ≡ rest2 = drop_next pj code (i.Jump end) rest2 h2 in
           let len2 : end ≡ next + length more = omega (arith, len, length-append b (i.Jump end ∷ more)) in
-          let le : end ≤ x = bound program own tables number here code after end x d k c in
+          let le : end ≤ x.exit = bound program own tables number here code after end x d k c in
           let over : Same program own tables number here code pj end = λ k' s. from_here program own tables number here code pj (i.Jump end ∷ rest2) k' s h2 ∙ jumps_on program own tables number here code rest2 end pj k' s (omega (arith, len2)) h3 in
           let has : HasStatements program own tables number here code ss p x d = record { stands = record { rest = i.Jump end ∷ rest2; here = h1 }; typed = ok.1; holds = omega (arith, holds, le-max_left (stats_level ss d) (cases_level cases d)) } in
           let row = carries_all program own tables number here code ss p x d k after has (moved program own tables number here code after pj end x d k (omega (arith, len2, le)) over c) in
           taken (list_any (is_in z) rs)
-          (record { at = p; exit = x; level = d; keeps = k; runs = refl; carries = row })
+          (record { at = p; ways = x; level = d; keeps = k; runs = refl; carries = row })
           (cases_do cases next end w ok.2 (omega (arith, holds, le-max_right (stats_level ss d) (cases_level cases d))) (record { rest = st.rest; here = h3 }) len2 c)
         where
           taken : (b : Bool) → Goes (items_of ss ++ after) (from p k) → Does program here (Leaves after) w (from (arm_place program own cases (p + length (stats_code program own ss p x d) + 1) x d (arm_of z cases)) k) (case_of z cases) → Does program here (Leaves after) w (from (arm_place program own (OfLabels rs ss cases) p x d (if b then 0 else suc (arm_of z cases))) k) (if b then Val (Into (items_of ss)) else case_of z cases)
           taken true on_hit others = on_hit
           taken false on_hit others = others
 
-  module _ (typed : HasTypes program) (shaped : HasShapes program tables) (x d : ℕ) (k : Keeps) (after : List Item) where
+  module _ (typed : HasTypes program) (shaped : HasShapes program tables) (x : Ways) (d : ℕ) (k : Keeps) (after : List Item) where
     -- with a selector of this type
     selected : (of_type : TType) (there : Pos) (e : Expr) (cases : Cases) → is_basic of_type ≡ true → IsOf program own e of_type → StatementDoes program own tables number here code x d k after (Case there e cases)
     selected of_type there e cases basic of w at known has c =
@@ -159,7 +159,7 @@ module _ (program : Program) (own : Option Procedure) (tables : Tables) (number 
         let cs = cases_code program own cases pa end x d in
         let tail = search ++ (cs ++ rest) in
         let size : length search ≡ search_size t = search_length place (arms_in cases) t d ps in
-        let z : end ≡ pa + length cs = ap (λ n. pa + n) (cases_length program own cases pa 0 end x x d) in
+        let z : end ≡ pa + length cs = ap (λ n. pa + n) (cases_length program own cases pa 0 end x.within x.exit x.exit d) in
         let h1 : drop (at + 1) code ≡ c1 ++ (i.Keep d N ∷ tail) =
         drop_next at code (begin there) ((c1 ++ (i.Keep d N ∷ (search ++ cs))) ++ rest) has.stands.here ∙ append_assoc c1 (i.Keep d N ∷ (search ++ cs)) rest
         ∙ ap (λ l. c1 ++ (i.Keep d N ∷ l)) (append_assoc search cs rest) in

@@ -13,7 +13,7 @@ use Rattle.aos_types.specs.Chain.{IsRanked}
 use Rattle.aos_types.specs.Shape.{Shape, One, size, part, before, inside, offset, number_of, leaves, row}
 use Rattle.aos_types.specs.World.{World}
 use Rattle.aos_typed.specs.declared.tree.TType.{TType}
-use Rattle.aos_typed.specs.Program.{Parameter, Variable, Procedure, Stats, Program}
+use Rattle.aos_typed.specs.Program.{Parameter, Variable, Body, Procedure, Program}
 use Rattle.aos_typed.specs.Numbers.{id_of}
 use Rattle.aos_typed.specs.Open.{open_dimensions}
 use Rattle.aos_typed.specs.Routines.{Routine, parameters_of, locals_of, has_self, result_of}
@@ -87,7 +87,7 @@ behind_these (z ∷ front) s back = let h = behind_these front s back in (h.0, a
 
 -- What code knows of a routine
 
-module _ (rows : List TypeRow) (home : ℕ) (body : Stats) where
+module _ (rows : List TypeRow) (home : ℕ) (body : Body) where
   abbrev known_of : Option Procedure → Known
   known_of own = shape_of rows (record { home = home; own = own; body = body })
 

@@ -17,7 +17,7 @@ use Rattle.aos_typed.specs.Spot.{Spot}
 use Rattle.aos_typed.specs.Text.{text_in, with_text, fitted}
 use Rattle.aos_typed.specs.Value.{Value, Int, Flag, Char, Set, Object, Callable, Place, number_of, is_true}
 use Rattle.aos_typed.specs.Store.{Store, store_with, has_room, made_in}
-use Rattle.aos_typed.specs.Meaning.{Question, Doing, Item, Do, Rounds, Round, Until, After, Into, Returns, Exits, leave, item_of, value_of}
+use Rattle.aos_typed.specs.Meaning.{Question, Doing, Item, Do, Rounds, Round, Until, Region, End, Gives, After, Into, Returns, Exits, leave, leave_all, item_of, value_of}
 use Rattle.aos_typed.specs.Source.{here_of, Frame, Turned, answered, done, all_rooted, begins, ends, tests, finishes, settles, first_value, made_shape, written, prints, makes, makes_with, starts, copies, stores_text, calm, noted, is_deep, enters, called_frame, calls, answer, goes, item_turn, turn_at}
 
 -- more objects than before
@@ -83,7 +83,7 @@ module _ (program : Program) (following : List ℕ) where
 
   answer_grown : (q : Question) (f : Frame) (fs : List Frame) (s : Store) → Grown s.made (answer program following q f fs s).store.made
   answer_grown (Stores p v) f fs s = writes_grown following p.root (placed p.path (Scalar v)) s
-  answer_grown (Ends result) f fs s = ends_grown following result fs s
+  answer_grown (Ends result) f fs s = none s.made
   answer_grown (Makes t vs) f fs s = makes_with_grown (array_lengths (map number_of vs)) t f fs s
   answer_grown (Starts v) f fs s = starts_grown following v f fs s
   answer_grown Enters f fs s = none s.made
@@ -131,11 +131,14 @@ module _ (program : Program) (following : List ℕ) where
       let test = value_of program (here_of f fs) e in
       tests_grown (calm program.types (made_in s) f.variables test) (settles program following is f fs s) (begins following at (Do (Repeat at b e) ∷ is) f fs s)
       (record f { items = Until at b e ∷ is; answers = Some (noted program.types (made_in s) f.variables test) }) fs s (settles_grown is f fs s) (none s.made)
+  settles_grown (Region ss ∷ is) f fs s = none s.made
+  settles_grown (End ∷ is) f fs s = none s.made
+  settles_grown (Gives r ∷ is) f fs s = ends_grown following r fs s
 
   goes_grown : (d : Doing After) (rest : List Item) (f : Frame) (fs : List Frame) (s : Store) → Grown s.made (goes program following d rest f fs s).store.made
   goes_grown (Val (Into is)) rest f fs s = settles_grown (is ++ rest) f fs s
   goes_grown (Val Exits) rest f fs s = settles_grown (leave rest) f fs s
-  goes_grown (Val (Returns r)) rest f fs s = ends_grown following r fs s
+  goes_grown (Val (Returns r)) rest f fs s = settles_grown (leave_all r rest) f fs s
   goes_grown (Asks q k) rest f fs s = answer_grown q f fs s
   goes_grown (Traps n c) rest f fs s = none s.made
 

@@ -15,7 +15,7 @@ use Rattle.aos_code.specs.declared.instr.Cell.TheVariants.{Num}
 use Rattle.aos_code.specs.declared.instr.Instr.{Instr}
 use Rattle.aos_code.specs.declared.instr.Instr.TheVariants as i
 use Rattle.aos_code.specs.Silent.{Keeps, Stack, jumps}
-use Rattle.aos_sim.specs.Code.{begin, value_code, stat_code, stats_code, arms_code}
+use Rattle.aos_sim.specs.Code.{Ways, loop_within, loop_ways, begin, value_code, stat_code, stats_code, arms_code}
 use Rattle.aos_sim.specs.Need.{stats_level, arms_level}
 use Rattle.aos_sim.proofs.Runs.{Tables, Run, Onward, on_run, runs, run, drop_next, drop_past}
 use Rattle.aos_sim.proofs.Does.{HasTypes, HasShapes, Does, along, Knows, knows_grows}
@@ -75,7 +75,7 @@ module _ (program : Program) (own : Option Procedure) (tables : Tables) (number 
         told true q w' held failed = held
         told false q w' held failed = failed
 
-    module _ (x d : ℕ) (k : Keeps) (after : List Item) where
+    module _ (x : Ways) (d : ℕ) (k : Keeps) (after : List Item) where
       abbrev Carried : List Item → ℕ → Type 0
       Carried is p = Carries program own tables number here code is p x d k
 
@@ -83,7 +83,7 @@ module _ (program : Program) (own : Option Procedure) (tables : Tables) (number 
       arms_do : (arms : Arms) (p end : ℕ) (w : World Sort) → Knows program own here w → AreArms program own arms → Holds program own tables number here code (arms_level arms d) → Stands code p (arms_code program own arms p end x d) → end ≡ p + length (arms_code program own arms p end x d) → Carried after end → Does program here (Leaves after) w (from p k []) (arms_of program here arms)
       arms_do (Otherwise ss) p end w known ok holds st z c =
           let has : HasStatements program own tables number here code ss p x d = record { stands = st; typed = ok; holds = holds } in
-          record { at = p; exit = x; level = d; keeps = k; runs = refl; carries = carries_all program own tables number here code ss p x d k after has (subst (Carried after) z c) }
+          record { at = p; ways = x; level = d; keeps = k; runs = refl; carries = carries_all program own tables number here code ss p x d k after has (subst (Carried after) z c) }
       arms_do (Arm e ss arms) p end w known ok holds st z c =
           let c1 = value_code program own e p in
           let q = p + length c1 in
@@ -101,11 +101,11 @@ module _ (program : Program) (own : Option Procedure) (tables : Tables) (number 
           let h2 : drop pj code ≡ i.Jump end ∷ rest2 = drop_past b hit code (i.Jump end ∷ rest2) h1 in
           let h3 : drop next code ≡ rest2 = drop_next pj code (i.Jump end) rest2 h2 in
           let z2 : end ≡ next + length more = omega (arith, z, length-append c1 tail, length-append b (i.Jump end ∷ more)) in
-          let le : end ≤ x = bound program own tables number here code after end x d k c in
+          let le : end ≤ x.exit = bound program own tables number here code after end x d k c in
           let over : Same program own tables number here code pj end = λ k' s. from_here program own tables number here code pj (i.Jump end ∷ rest2) k' s h2 ∙ jumps_on program own tables number here code rest2 end pj k' s (omega (arith, z2)) h3 in
           let has : HasStatements program own tables number here code ss hit x d = record { stands = record { rest = i.Jump end ∷ rest2; here = h1 }; typed = ok.1; holds = omega (arith, holds, le-max_left (stats_level ss d) (arms_level arms d)) } in
           let row = carries_all program own tables number here code ss hit x d k after has (moved program own tables number here code after pj end x d k (omega (arith, z2, le)) over c) in
-          let taken : Goes (items_of ss ++ after) (from hit k []) = record { at = hit; exit = x; level = d; keeps = k; runs = refl; carries = row } in
+          let taken : Goes (items_of ss ++ after) (from hit k []) = record { at = hit; ways = x; level = d; keeps = k; runs = refl; carries = row } in
           test_does e (λ v. if is_true v then Val (Into (items_of ss)) else arms_of program here arms) after p next rest1 k w known ok.0 h0
           (jumps_on program own tables number here code rest1 next q k [] (omega arith) h1)
           (λ w' up. taken)
@@ -116,7 +116,7 @@ module _ (program : Program) (own : Option Procedure) (tables : Tables) (number 
           let end = at + 1 + length (arms_code program own arms (at + 1) 0 x d) in
           let cs = arms_code program own arms (at + 1) end x d in
           let rest = has.stands.rest in
-          let z : end ≡ at + 1 + length cs = ap (λ n. at + 1 + n) (arms_length program own arms (at + 1) 0 end x x d) in
+          let z : end ≡ at + 1 + length cs = ap (λ n. at + 1 + n) (arms_length program own arms (at + 1) 0 end x.within x.exit x.exit d) in
           let len : at + suc (length cs) ≡ end = omega (arith, z) in
           arms_do arms (at + 1) end w known has.typed has.holds (record { rest = rest; here = drop_next at code (begin there) (cs ++ rest) has.stands.here }) z (subst (Carried after) len c)
 
@@ -140,33 +140,34 @@ module _ (program : Program) (own : Option Procedure) (tables : Tables) (number 
           let h5 : drop end code ≡ rest = drop_next pj code (i.Jump at) rest h4 in
           let len : at + suc (length (c1 ++ tail)) ≡ end = omega (arith, length-append c1 tail, length-append b1 (i.Jump at ∷ [])) in
           let c' : Carried after end = subst (Carried after) len c in
-          let le : end ≤ x = bound program own tables number here code after end x d k c' in
+          let le : end ≤ x.exit = bound program own tables number here code after end x d k c' in
           let again : Carried (Do l ∷ after) pj = (at, omega (arith, le), back, has, c) in
           let inner : HasStatements program own tables number here code b pb x d = record { stands = record { rest = i.Jump at ∷ rest; here = h3 }; typed = has.typed.1; holds = has.holds } in
           let body : Carried ((items_of b ++ Do l ∷ []) ++ after) pb = subst (λ is. Carried is pb) (sym (append_assoc (items_of b) (Do l ∷ []) after)) (carries_all program own tables number here code b pb x d k (Do l ∷ after) inner again) in
           test_does e (λ v. Val (Into (if is_true v then items_of b ++ Do l ∷ [] else []))) after (at + 1) end rest1 k w known has.typed.0 h1
           (jumps_on program own tables number here code rest1 end p k [] (omega arith) h3)
-          (λ w' up. record { at = pb; exit = x; level = d; keeps = k; runs = refl; carries = body })
-          (λ w' up. record { at = end; exit = x; level = d; keeps = k; runs = refl; carries = c' })
+          (λ w' up. record { at = pb; ways = x; level = d; keeps = k; runs = refl; carries = body })
+          (λ w' up. record { at = end; ways = x; level = d; keeps = k; runs = refl; carries = c' })
 
       -- the statements of LOOP lead back to it, and EXIT behind it
       pub loop_does : (there : Pos) (b : Stats) → StatementDoes program own tables number here code x d k after (Loop there b)
       loop_does there b w at known has c =
           let l = Loop there b in
           let rest = has.stands.rest in
-          let out = at + 1 + length (stats_code program own b (at + 1) 0 d) + 1 in
-          let b1 = stats_code program own b (at + 1) out d in
+          let out = at + 1 + length (stats_code program own b (at + 1) (loop_ways 0 x) d) + 1 in
+          let y = loop_ways out x in
+          let b1 = stats_code program own b (at + 1) y d in
           let pj = at + 1 + length b1 in
-          let size = stats_length program own b (at + 1) 0 out d in
+          let size = stats_length program own b (at + 1) (loop_within x.within) 0 out d in
           let h0 : drop at code ≡ begin there ∷ (b1 ++ (i.Jump at ∷ rest)) = has.stands.here ∙ ap (λ l. begin there ∷ l) (append_assoc b1 (i.Jump at ∷ []) rest) in
           let h1 : drop (at + 1) code ≡ b1 ++ (i.Jump at ∷ rest) = drop_next at code (begin there) (b1 ++ (i.Jump at ∷ rest)) h0 in
           let h2 : drop pj code ≡ i.Jump at ∷ rest = drop_past b1 (at + 1) code (i.Jump at ∷ rest) h1 in
           let len : out ≡ at + suc (length (b1 ++ i.Jump at ∷ [])) = omega (arith, size, length-append b1 (i.Jump at ∷ [])) in
           let back : Same program own tables number here code pj at = λ k' s. from_here program own tables number here code pj (i.Jump at ∷ rest) k' s h2 ∙ jumps_back program own tables number here code at pj there rest (b1 ++ (i.Jump at ∷ rest)) k' s (omega arith) h0 in
-          let inner : HasStatements program own tables number here code b (at + 1) out d = record { stands = record { rest = i.Jump at ∷ rest; here = h1 }; typed = has.typed; holds = has.holds } in
-          let again : Carries program own tables number here code (Round l ∷ after) pj out d k = (at, omega (arith, size), back, (x, has, len, subst (Carried after) (sym len) c)) in
-          let all = carries_all program own tables number here code b (at + 1) out d k (Round l ∷ after) inner again in
-          record { at = at + 1; exit = out; level = d; keeps = k; runs = refl; carries = subst (λ is. Carries program own tables number here code is (at + 1) out d k) (sym (append_assoc (items_of b) (Round l ∷ []) after)) all }
+          let inner : HasStatements program own tables number here code b (at + 1) y d = record { stands = record { rest = i.Jump at ∷ rest; here = h1 }; typed = has.typed; holds = has.holds } in
+          let again : Carries program own tables number here code (Round l ∷ after) pj y d k = (at, omega (arith, size), back, (x, has, ap (λ n. loop_ways n x) len, subst (Carried after) (sym len) c)) in
+          let all = carries_all program own tables number here code b (at + 1) y d k (Round l ∷ after) inner again in
+          record { at = at + 1; ways = y; level = d; keeps = k; runs = refl; carries = subst (λ is. Carries program own tables number here code is (at + 1) y d k) (sym (append_assoc (items_of b) (Round l ∷ []) after)) all }
 
       -- where the code of a REPEAT has come to its condition
       pub until_does : (there : Pos) (b : Stats) (e : Expr) (w : World Sort) (at : ℕ) → let l = Repeat there b e in Knows program own here w → HasStatement program own tables number here code l at x d → Carries program own tables number here code after (at + length (stat_code program own l at x d)) x d k → Does program here (Behind program own tables number here code after) w (run tables number here code (at + 1 + length (stats_code program own b (at + 1) x d)) k []) (item_of program here (Until there b e))
@@ -183,11 +184,11 @@ module _ (program : Program) (own : Option Procedure) (tables : Tables) (number 
           let last = i.JumpFalse at ∷ [] in
           let len : at + suc (length (b1 ++ (c1 ++ last))) ≡ pj + 1 = omega (arith, length-append b1 (c1 ++ last), length-append c1 last) in
           let c' : Carried after (pj + 1) = subst (Carried after) len c in
-          let le : pj + 1 ≤ x = bound program own tables number here code after (pj + 1) x d k c' in
+          let le : pj + 1 ≤ x.exit = bound program own tables number here code after (pj + 1) x d k c' in
           let again : Carried (Do l ∷ after) at = (at, omega (arith, le), (λ k' s. refl), has, c) in
           tested
-          (λ w' up. record { at = pj + 1; exit = x; level = d; keeps = k; runs = refl; carries = c' })
-          (λ w' up. record { at = at; exit = x; level = d; keeps = k; runs = refl; carries = again })
+          (λ w' up. record { at = pj + 1; ways = x; level = d; keeps = k; runs = refl; carries = c' })
+          (λ w' up. record { at = at; ways = x; level = d; keeps = k; runs = refl; carries = again })
 
       pub repeat_does : (there : Pos) (b : Stats) (e : Expr) → StatementDoes program own tables number here code x d k after (Repeat there b e)
       repeat_does there b e w at known has c =
@@ -196,8 +197,8 @@ module _ (program : Program) (own : Option Procedure) (tables : Tables) (number 
           let b1 = stats_code program own b (at + 1) x d in
           let tail = value_code program own e (at + 1 + length b1) ++ i.JumpFalse at ∷ [] in
           let h1 : drop (at + 1) code ≡ b1 ++ (tail ++ rest) = drop_next at code (begin there) ((b1 ++ tail) ++ rest) has.stands.here ∙ append_assoc b1 tail rest in
-          let le : at + suc (length (b1 ++ tail)) ≤ x = bound program own tables number here code after (at + suc (length (b1 ++ tail))) x d k c in
+          let le : at + suc (length (b1 ++ tail)) ≤ x.exit = bound program own tables number here code after (at + suc (length (b1 ++ tail))) x d k c in
           let inner : HasStatements program own tables number here code b (at + 1) x d = record { stands = record { rest = tail ++ rest; here = h1 }; typed = has.typed.0; holds = has.holds } in
           let behind : Carried (Until there b e ∷ after) (at + 1 + length b1) = (at, omega (arith, le, length-append b1 tail), (λ k' s. refl), has, c) in
           let all = carries_all program own tables number here code b (at + 1) x d k (Until there b e ∷ after) inner behind in
-          record { at = at + 1; exit = x; level = d; keeps = k; runs = refl; carries = subst (λ is. Carried is (at + 1)) (sym (append_assoc (items_of b) (Until there b e ∷ []) after)) all }
+          record { at = at + 1; ways = x; level = d; keeps = k; runs = refl; carries = subst (λ is. Carried is (at + 1)) (sym (append_assoc (items_of b) (Until there b e ∷ []) after)) all }

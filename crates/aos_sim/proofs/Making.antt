@@ -37,7 +37,7 @@ use Rattle.aos_code.specs.declared.instr.Instr.TheVariants as i
 use Rattle.aos_code.specs.declared.instr.Kind.TheVariants.{R}
 use Rattle.aos_code.specs.Silent.{Stack, Keeps, Act, Sees, counted_on}
 use Rattle.aos_sim.specs.Cells.{place_in, cell_of}
-use Rattle.aos_sim.specs.Code.{begin, place_code, value_code, values_code, stats_code, make_instr}
+use Rattle.aos_sim.specs.Code.{Ways, begin, place_code, value_code, values_code, stats_code, make_instr}
 use Rattle.aos_sim.specs.Need.{stats_level}
 use Rattle.aos_sim.proofs.Runs.{Run, Onward, Tables, on_run, runs, run, drop_next, drop_past}
 use Rattle.aos_sim.proofs.Types.{number_cell, integer_is, is_integer}
@@ -241,7 +241,7 @@ module _ (program : Program) (own : Option Procedure) (tables : Tables) (number 
             closed_lengths program (record { type = suc t; lengths = ns }) (row_of program.types (id_of (type.Named t))) isnt
             (empty ns (long ∙ none_open program.types (id_of (type.Named t)) (length program.types) isnt))
 
-  module _ (x d : ℕ) (k : Keeps) (after : List Item) where
+  module _ (x : Ways) (d : ℕ) (k : Keeps) (after : List Item) where
     abbrev Carried : ℕ → Type 0
     Carried p = Carries program own tables number here code after p x d k
 
@@ -312,7 +312,7 @@ module _ (program : Program) (own : Option Procedure) (tables : Tables) (number 
           let all = carries_all program own tables number here code b (p + 1) x d k after inner (subst Carried len cont) in
           along program here (Leaves after) w _ _ (bind r (λ _. Val (Into (items_of b)))) (from_here program own tables number here code (at + 1) ((xs ++ tail) ++ st) k [] h1)
           (piece_does program own tables number here code P c (Leaves after) (λ _. Val (Into (items_of b))) xs tail r (at + 1) st k [] ha w known
-          (λ w1 up a m is e. record { at = p + 1; exit = x; level = d; keeps = k; runs = e ∙ sym (from_here program own tables number here code (p + 1) (cs ++ st) k [] h3); carries = all }))
+          (λ w1 up a m is e. record { at = p + 1; ways = x; level = d; keeps = k; runs = e ∙ sym (from_here program own tables number here code (p + 1) (cs ++ st) k [] h3); carries = all }))
 
       pub with_does : (there : Pos) (e : Expr) (b : Stats) → StatementDoes program own tables number here code x d k after (With there e b)
       with_does there e b w at known has c =

@@ -33,7 +33,7 @@ use Rattle.aos_typed.specs.Text.{text_in, fitted}
 use Rattle.aos_typed.specs.Value.{Value, Int, Flag, Char, Set, Object, Callable, Place as Spotted, number_of, Sort, Integer, Character, Elements, element, given, unary_sort, binary_sort, is_true}
 use Rattle.aos_typed.specs.Store.{Store, has_room, made_in}
 use Rattle.aos_typed.specs.Routines.{Routine, routines}
-use Rattle.aos_typed.specs.Meaning.{Here, Question, Doing, object_in, by_number as by_object, dereferenced, sizes_from, spread, is_instance, guarded, has_type, record_guarded, place_in, dispatched, calls as calls_of, receiver_of, called, Item, Do, Rounds, Round, Until, After, Into, Exits, Returns, leave, is_in, element_of, Found, row_at, lengths_from, place_of, rows_of, arguments_of, value_of, values_of, changed, arms_of, case_of, out_of, stat_of, item_of, bound, bound_to, carried_out, initialized, procedure_in}
+use Rattle.aos_typed.specs.Meaning.{Here, Question, Doing, object_in, by_number as by_object, dereferenced, sizes_from, spread, is_instance, guarded, has_type, record_guarded, place_in, dispatched, calls as calls_of, receiver_of, called, Item, Do, Rounds, Round, Until, Region, End, Gives as GivesItem, After, Into, Exits, Returns, leave, leave_all, is_in, element_of, Found, row_at, lengths_from, place_of, rows_of, arguments_of, value_of, values_of, changed, arms_of, case_of, out_of, stat_of, item_of, bound, bound_to, carried_out, initialized, procedure_in}
 use Rattle.aos_typed.specs.Source.{here_of, Frame, Turned, answered, done, all_rooted, begins, ends, finishes, tests, settles, first_value, made_shape, written, prints, makes, makes_with, starts, copies, stores_text, is_deep, enters, called_frame, calls, known, length_in, object_place, has_type_in, calm, noted, answer, goes, item_turn, turn_at, opened, source, first_state, first_store, first_frames}
 use Rattle.aos_sim.specs.Shows.{Shows, NeverLost}
 use Rattle.aos_sim.proofs.Traps.{Leaves, traps_with}
@@ -326,7 +326,7 @@ module _ (program : Program) (here : Here) where
   stat_comes (Loop at body) = tt
   stat_comes (Exit at) = tt
   stat_comes (For at w p from to step body) = comes_then (value_of program here to) _ (value_comes to) (λ x. tt)
-  stat_comes (Block at body) = tt
+  stat_comes (Block at exclusive body) = tt
   stat_comes (Assert at e code) = comes_then (value_of program here e) _ (value_comes e) (λ x. either_comes (is_true x) _ _ tt (omega arith))
   stat_comes (Halt at code) = omega arith
   stat_comes (Change at c p e) =
@@ -351,6 +351,9 @@ module _ (program : Program) (here : Here) where
   item_comes (Rounds at w p last step b) = comes_then _ _ (value_comes (Read (type.Integer w) p)) (λ v. tt)
   item_comes (Round s) = stat_comes s
   item_comes (Until at b e) = comes_then (value_of program here e) _ (value_comes e) (λ x. tt)
+  item_comes (Region ss) = tt
+  item_comes End = tt
+  item_comes (GivesItem r) = tt
 
 -- what is left behind silent questions
 module _ (rows : List TypeRow) (made : ℕ → Option Made) (c : Content Value) where
@@ -437,7 +440,7 @@ module _ (program : Program) (following : List ℕ) where
       let c = first_content (first_value program) (made_shape program.types m) in makes_known following (has_room m c s) m c f fs s
 
   answer_known : (q : Question) (f : Frame) (fs : List Frame) (s : Store) → Known (answer program following q f fs s)
-  answer_known (Ends result) f fs s = ends_known following result fs s
+  answer_known (Ends result) f fs s = tt
   answer_known (Makes t vs) f fs s = makes_with_known (array_lengths (map number_of vs)) t f fs s
   answer_known (Starts v) f fs s = starts_known following v f fs s
   answer_known EntersRegion f fs s = tt
@@ -487,11 +490,14 @@ module _ (program : Program) (following : List ℕ) where
       tests_known (calm program.types (made_in s) f.variables test) (settles program following is f fs s) (begins following at (Do (Repeat at b e) ∷ is) f fs s)
       (record f { items = Until at b e ∷ is; answers = Some (noted program.types (made_in s) f.variables test) }) fs s
       (calm_comes program.types (made_in s) f.variables test (value_comes program (here_of f fs) e)) (settles_known is f fs s) tt
+  settles_known (Region ss ∷ is) f fs s = tt
+  settles_known (End ∷ is) f fs s = tt
+  settles_known (GivesItem r ∷ is) f fs s = ends_known following r fs s
 
   goes_known : (d : Doing After) (rest : List Item) (f : Frame) (fs : List Frame) (s : Store) → Comes d → Known (goes program following d rest f fs s)
   goes_known (Val (Into is)) rest f fs s h = settles_known (is ++ rest) f fs s
   goes_known (Val Exits) rest f fs s h = settles_known (leave rest) f fs s
-  goes_known (Val (Returns r)) rest f fs s h = ends_known following r fs s
+  goes_known (Val (Returns r)) rest f fs s h = settles_known (leave_all r rest) f fs s
   goes_known (Asks q k) rest f fs s h = answer_known q f fs s
   goes_known (Traps n c) rest f fs s h = h
 

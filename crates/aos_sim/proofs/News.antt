@@ -39,7 +39,7 @@ use Rattle.aos_code.specs.declared.instr.Kind.{Kind}
 use Rattle.aos_code.specs.declared.instr.Kind.TheVariants.{N, R}
 use Rattle.aos_code.specs.Silent.{Stack, Keeps, kinds_of, kept}
 use Rattle.aos_sim.specs.Cells.{place_in, cell_of}
-use Rattle.aos_sim.specs.Code.{begin, place_code, arguments_code, handed_kinds, stash, unstash, initialize_code, carry_out_instr, store_code, initial_kinds}
+use Rattle.aos_sim.specs.Code.{Ways, begin, place_code, arguments_code, handed_kinds, stash, unstash, initialize_code, carry_out_instr, store_code, initial_kinds}
 use Rattle.aos_sim.proofs.Runs.{Run, Onward, Tables, runs, drop_next, drop_past, pushed_reverse}
 use Rattle.aos_sim.proofs.Does.{HasTypes, HasShapes, IsObject, IsSelf, Given, Valid, Does, knows_grows, along, does_bind, given_grows, given_cells}
 use Rattle.aos_sim.proofs.References.{made_reference, to_target, comes_same, reference_value}
@@ -142,7 +142,7 @@ object_below program typed t object = by (row_of program.types (id_of (type.Name
 abbrev as_made : ℕ → Made
 as_made t = record { type = suc t; lengths = [] }
 
-module _ (program : Program) (own : Option Procedure) (tables : Tables) (number : ℕ) (here : Here) (code : List Instr) (typed : HasTypes program) (shaped : HasShapes program tables) (x d : ℕ) (after : List Item) where
+module _ (program : Program) (own : Option Procedure) (tables : Tables) (number : ℕ) (here : Here) (code : List Instr) (typed : HasTypes program) (shaped : HasShapes program tables) (x : Ways) (d : ℕ) (after : List Item) where
   abbrev onward : List Instr → Onward
   onward = runs tables number here code
 

@@ -20,7 +20,7 @@ use Rattle.aos_code.specs.declared.instr.Instr.TheVariants as i
 use Rattle.aos_code.specs.declared.instr.Kind.TheVariants.{N}
 use Rattle.aos_code.specs.Numbered.{numbered}
 use Rattle.aos_code.specs.Silent.{Keeps, kept, keeps_in}
-use Rattle.aos_sim.specs.Code.{begin, value_code, assign_code, for_head, step_code, body_place, stats_code, rounds_code}
+use Rattle.aos_sim.specs.Code.{Ways, begin, value_code, assign_code, for_head, step_code, body_place, stats_code, rounds_code}
 use Rattle.aos_sim.specs.Need.{stats_level}
 use Rattle.aos_sim.proofs.Runs.{Run, Onward, Tables, runs, run, drop_next, drop_past}
 use Rattle.aos_sim.proofs.Does.{HasTypes, HasShapes, Does, along, Knows}
@@ -47,11 +47,11 @@ module _ (program : Program) (own : Option Procedure) (tables : Tables) (number 
   abbrev Leaves : List Item → World Sort → After → Run → Type 0
   Leaves = Behind program own tables number here code
 
-  abbrev Carried : List Item → (at exit level : ℕ) → Keeps → Type 0
+  abbrev Carried : List Item → (at : ℕ) → Ways → (level : ℕ) → Keeps → Type 0
   Carried = Carries program own tables number here code
 
   -- one round, where the last value is kept
-  module _ (there : Pos) (w : Width) (q : Place) (last step : ℤ) (b : Stats) (x e : ℕ) (k : Keeps) (after : List Item) where
+  module _ (there : Pos) (w : Width) (q : Place) (last step : ℤ) (b : Stats) (x : Ways) (e : ℕ) (k : Keeps) (after : List Item) where
     abbrev rounds : Item
     rounds = Rounds there w q last step b
 
@@ -63,7 +63,7 @@ module _ (program : Program) (own : Option Procedure) (tables : Tables) (number 
     body = items_of b ++ next ∷ (rounds ∷ [])
 
     body_carries : (at pb : ℕ) (rest : List Instr) → let b1 = stats_code program own b pb x (suc e) in let inc = step_code program own there w q step (pb + length b1) in
-        HasRounds program own tables number here code there w q step b at x e → pb + length b1 + length inc ≤ x → drop pb code ≡ b1 ++ (inc ++ rest) → Carried (rounds ∷ after) (pb + length b1 + length inc) x (suc e) k → Carried (body ++ after) pb x (suc e) k
+        HasRounds program own tables number here code there w q step b at x e → pb + length b1 + length inc ≤ x.exit → drop pb code ≡ b1 ++ (inc ++ rest) → Carried (rounds ∷ after) (pb + length b1 + length inc) x (suc e) k → Carried (body ++ after) pb x (suc e) k
     body_carries at pb rest has le st again =
         let b1 = stats_code program own b pb x (suc e) in
         let pi = pb + length b1 in
@@ -76,8 +76,8 @@ module _ (program : Program) (own : Option Procedure) (tables : Tables) (number 
         (carries_all program own tables number here code b pb x (suc e) k (next ∷ (rounds ∷ after)) inner (pi, omega (arith, le), (λ k' s. refl), step_has, again))
 
     chosen : (c : Bool) (p over : ℕ) (m : Run) → m ≡ from (if c then p else over) k → Carried (body ++ after) p x (suc e) k → Carried after over x e k → GoesOn program own tables number here code ((if c then body else []) ++ after) m
-    chosen true p over m runs inside behind = record { at = p; exit = x; level = suc e; keeps = k; runs = runs; carries = inside }
-    chosen false p over m runs inside behind = record { at = over; exit = x; level = e; keeps = k; runs = runs; carries = behind }
+    chosen true p over m runs inside behind = record { at = p; ways = x; level = suc e; keeps = k; runs = runs; carries = inside }
+    chosen false p over m runs inside behind = record { at = over; ways = x; level = e; keeps = k; runs = runs; carries = behind }
 
     -- rounds whose test compares the variable with the last value by any relation that holds where the meaning's does
     rounds_by : (r : Relation) → ((z : ℤ) → holds r z last ≡ holds (until step) z last) → (world : World Sort) (at : ℕ) → Knows program own here world → (has : HasRounds program own tables number here code there w q step b at x e) → let ct = value_code program own (Read (Integer w) q) (at + 1) in let test = ct ++ (i.Kept e N ∷ (i.Binary (Cmp r) ∷ [])) in let pb = body_place program own w q at in let b1 = stats_code program own b pb x (suc e) in let inc = step_code program own there w q step (pb + length b1) in
@@ -111,7 +111,7 @@ module _ (program : Program) (own : Option Procedure) (tables : Tables) (number 
         let z : pj + 1 ≡ over = omega (arith, lt, lc) in
         let len : at + length (rounds_code program own there w q step b at x e) ≡ over = omega (arith, round_length there ct step e b1 inc at, lt) in
         let c' : Carried after over x e k = subst (λ n. Carried after n x e k) len c in
-        let ends : over ≤ x = bound program own tables number here code after over x e k c' in
+        let ends : over ≤ x.exit = bound program own tables number here code after over x e k c' in
         let again_back : Same program own tables number here code pj at = λ k' s. from_here program own tables number here code pj back k' s h7 ∙ jumps_back program own tables number here code at pj there rest (test ++ tail) k' s (omega arith) h0 in
         let again : Carried (rounds ∷ after) pj x (suc e) k = (at, omega (arith, ends, z), again_back, (e, omega arith, has, is_last, c)) in
         let inside = subst (λ n. Carried (body ++ after) n x (suc e) k) (sym lc) (body_carries at pb back has (omega (arith, ends, z)) h6 again) in
@@ -132,7 +132,7 @@ module _ (program : Program) (own : Option Procedure) (tables : Tables) (number 
     rounds_does world at known has is_last c = rounds_by _ (λ z. refl) world at known has has.stands.here is_last c
 
   -- FOR up to its first round
-  module _ (x d : ℕ) (k : Keeps) (after : List Item) where
+  module _ (x : Ways) (d : ℕ) (k : Keeps) (after : List Item) where
     pub for_does : (there : Pos) (w : Width) (q : Place) (first to : Expr) (step : ℤ) (b : Stats) → StatementDoes program own tables number here code x d k after (For there w q first to step b)
     for_does there w q first to step b world at known has c =
         let rest = has.stands.rest in
@@ -167,7 +167,7 @@ module _ (program : Program) (own : Option Procedure) (tables : Tables) (number 
         let all : Carried (Do (Assign there (Integer w) q first) ∷ (Rounds there w q last step b ∷ after)) pa x (suc d) k' = (pa, omega (arith, ends, lh), (λ k s. refl), first_has, subst (λ n. Carried (Rounds there w q last step b ∷ after) n x (suc d) k') (sym lh) round) in
         record {
           at = pa;
-          exit = x;
+          ways = x;
           level = suc d;
           keeps = k';
           runs = e' ∙ keeps_number program own tables number here code d last rest2 pk k [] (omega (arith, room, has.holds)) ∙ sym (from_here program own tables number here code pa rest2 k' [] h3);

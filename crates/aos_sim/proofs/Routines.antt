@@ -8,14 +8,14 @@ use Rattle.std.proofs.lemmas.Option.{slice_get-map}
 use Rattle.aos_base.specs.Rooted.{by_number}
 use Rattle.aos_typed.specs.Methods.{methods_before, first_method}
 use Rattle.aos_typed.specs.Numbers.{procedures_before, procedure_number}
-use Rattle.aos_typed.specs.Program.{Stats, Procedure, Method, Module, ObjectType, Program}
+use Rattle.aos_typed.specs.Program.{Body, Procedure, Method, Module, ObjectType, Program}
 use Rattle.aos_typed.specs.Routines.{Routine, routine_of, bodies_from, procedures_from, methods_from, routines}
 use Rattle.aos_typed.specs.WellTyped.{procedure_in}
 use Rattle.aos_sim.proofs.Lists.{get_left, get_right}
 
 -- the body of a module
-abbrev pub body : ℕ → Stats → Routine
-body m ss = record { home = m; own = None; body = ss }
+abbrev pub body : ℕ → Body → Routine
+body m b = record { home = m; own = None; body = b }
 
 -- the procedure of a module with this number
 abbrev pub called : ℕ → Procedure → Routine

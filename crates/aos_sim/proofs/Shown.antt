@@ -29,7 +29,11 @@ use Rattle.aos_code.specs.Memory.{Memory}
 use Rattle.aos_code.specs.Machine as I
 use Rattle.aos_code.specs.Machine.{machine, bodies, home_of}
 use Rattle.aos_concurrency.specs.Simulates.{Simulates, Matches}
-use Rattle.aos_concurrency.specs.Spot.{Anyone}
+use Rattle.aos_concurrency.specs.Regions.{Outside}
+use Rattle.aos_concurrency.proofs.Begin.{start_sound}
+use Rattle.aos_concurrency.proofs.Steps.{sound_always}
+use Rattle.aos_sim.proofs.Regions.{Stands, source_keeps, body_none}
+use Rattle.aos_sim.proofs.Locks.{regions_same}
 use Rattle.aos_concurrency.proofs.Matching.{execution_matches, start_matches, observation_matches, events_match}
 use Rattle.aos_sim.specs.Shows.{numbers_from, body_in, IsCodeOf, Shows}
 use Rattle.aos_places.specs.Shows.{AllShown}
@@ -42,7 +46,7 @@ use Rattle.aos_sim.proofs.References.{comes_same}
 use Rattle.aos_sim.proofs.Typed.{has_types}
 use Rattle.aos_sim.proofs.Runs.{tables_of}
 use Rattle.aos_sim.proofs.Does.{HasTypes, HasShapes, IsFrameOf, IsSelf}
-use Rattle.aos_sim.proofs.States.{world_of, IsFew, AreFew, number_get, SameStore, Placed, RoutinesRun, Follows, Waiting, SameFrames, Same, frames_closed, body_same, body_shown, opened_same, same_grows}
+use Rattle.aos_sim.proofs.States.{world_of, IsFew, AreFew, number_get, SameStore, Placed, RoutinesRun, Follows, Waiting, SameFrames, Same, body_same, body_shown, opened_same, same_grows}
 use Rattle.aos_sim.proofs.Routines.{module_there, object_there}
 use Rattle.aos_sim.proofs.Bodies.{alike_at, range_get, range_past, has_shapes, home_known, routines_run}
 use Rattle.aos_sim.proofs.Grown.{turn_grown}
@@ -60,15 +64,24 @@ module _ (program : Program) (image : Image) (shaped : HasShapes program (tables
   waiting_position made result below (f ∷ fs) (g ∷ gs) h =
       λ j. S.or_below (sym h.0.place.at_is j) (home_same (λ o. by_number o made) f g h.0.place j) (waiting_position made (result_of h.0.place.routine.own) below fs gs h.1 j)
 
+  lowest_same : (made : List Made) (result : Option TType) (h k : ℕ) (fs : List S.Frame) (gs : List I.Frame) → h ≡ k → Waiting program image made result fs gs →
+      S.lowest_home h fs ≡ I.lowest_home image k gs
+  lowest_same made result h k [] [] e w = e
+  lowest_same made result h k [] (g ∷ gs) e w = absurd w
+  lowest_same made result h k (f ∷ fs) [] e w = absurd w
+  lowest_same made result h k (f ∷ fs) (g ∷ gs) e w =
+      lowest_same made (result_of w.0.place.routine.own) f.home (home_of image g.procedure) fs gs (home_same (λ o. by_number o made) f g w.0.place) w.1
+
   pub position_same : (made : List Made) (fs : List S.Frame) (gs : List I.Frame) → SameFrames program image made fs gs → S.position_in fs ≡ I.position_in image gs
   position_same made [] [] h = refl
   position_same made [] (g ∷ gs) h = absurd h
   position_same made (f ∷ fs) [] h = absurd h
   position_same made (f ∷ fs) (g ∷ gs) h =
       let from : ℕ → Where = λ m. record { module_ = m; pos = record { line = 0; col = 0 } } in
+      let result = result_of h.0.place.routine.own in
       let home = home_same (λ o. by_number o made) f g h.0.place in
-      (λ j. S.or_below (sym h.0.place.at_is j) (home j) (waiting_position made (result_of h.0.place.routine.own) (from f.home) fs gs h.1 j))
-      ∙ ap (λ m. I.position_or image (from m) (g ∷ gs)) home
+      (λ j. S.or_below (sym h.0.place.at_is j) (home j) (waiting_position made result (from (S.lowest_home f.home fs)) fs gs h.1 j))
+      ∙ ap (λ m. I.position_or image (from m) (g ∷ gs)) (lowest_same made result f.home (home_of image g.procedure) fs gs home h.1)
 
 module _ (p : Program) (image : Image) (well : IsWellTyped p) (ok : IsCodeOf p image) where
   abbrev ms : List Module
@@ -119,6 +132,7 @@ module _ (p : Program) (image : Image) (well : IsWellTyped p) (ok : IsCodeOf p i
         let extends = comes_on p.types typed.ranked (id_of_made self.1.type) (id_of_made (suc t)) (id_of_made (suc b)) self.5 has.extends in
         body_same p image run made o (body_number p b) (routine_of x.home x.body) (object_there p b x has.there) (sym (ap is_some has.body.proper)) (frame is.bare)
         (subst (λ z. IsSelf p (λ o. by_number o made) z o) (sym has.body.own) (self.0, self.1, self.2, self.3, self.4, extends))
+        (λ e. absurd (let some : Some b ≡ None = sym has.body.own ∙ e in cc some))
       where
         frame : has.object.body.locals ≡ [] → IsFrameOf p (Some has.object.body) Nothing
         frame bare =
@@ -161,15 +175,15 @@ module _ (p : Program) (image : Image) (well : IsWellTyped p) (ok : IsCodeOf p i
         begun fs n = Same p image made (record { following = []; frames = fs }) (record { following = []; frames = map (I.body_frame o) (bodies n) })
 
         by : (body : Option ℕ) → body_type p t ≡ body → (d : Option TypeDesc) → slice_get image.types.items t ≡ d → Same p image made (S.object_frames o (option_and_then (λ b. slice_get os b) body)) (I.object_frames o d)
-        by None e None f = record { follows = tt; frames = tt; shown = tt }
-        by None e (Some d) f = subst (begun []) (sym (described d f ∙ ap (body_in p) e)) (record { follows = tt; frames = tt; shown = tt })
+        by None e None f = record { follows = tt; frames = tt; shown = tt; regions = tt }
+        by None e (Some d) f = subst (begun []) (sym (described d f ∙ ap (body_in p) e)) (record { follows = tt; frames = tt; shown = tt; regions = tt })
         by (Some b) e None f = let r = told (typed.methods.bodies t b e).below in let there = r.1 in absurd (cc (f, there))
         by (Some b) e (Some d) f =
             let has = typed.methods.bodies t b e in
             let x = has.object in
             subst (λ z. Same p image made (S.object_frames o z) (I.object_frames o (Some d))) (sym has.there)
             (subst (begun (S.body_frame x.home o x.body.body ∷ [])) (sym (described d f ∙ ap (body_in p) e))
-            (record { follows = tt; frames = body_begins b has; shown = body_shown p image made o (body_number p b) x.home x.body.body }))
+            (record { follows = tt; frames = body_begins b has; shown = body_shown p image made o (body_number p b) x.home x.body.body; regions = (body_none (S.lock_of (S.body_frame x.home o x.body.body)) x.body.body, tt) }))
 
   -- an object is one of its own type
   self_made : (made : List Made) → AreFew p made → (o : ℕ) (m : Made) (t : ℕ) → by_number o made ≡ Some m → m.type ≡ suc t → IsSelf p (λ o. by_number o made) (Some t) o
@@ -178,11 +192,11 @@ module _ (p : Program) (image : Image) (well : IsWellTyped p) (ok : IsCodeOf p i
       (k, m, refl, e, (number_get (IsFew p) (suc k) made m few e).1, subst (λ z. comes_to p.types (id_of_made m.type) (id_of_made z) ≡ true) type_is (comes_same p.types (id_of_made m.type)))
 
   made_same : (made : List Made) → AreFew p made → (o : ℕ) (m : Option Made) → by_number o made ≡ m → Same p image made (S.object_frames o (option_and_then (λ t. slice_get os t) (option_and_then (S.made_body p) (option_map (λ (m : Made). m.type) m)))) (I.object_frames o (option_and_then (numbered image.types.items) (option_map (λ (m : Made). m.type) m)))
-  made_same made few o None e = record { follows = tt; frames = tt; shown = tt }
+  made_same made few o None e = record { follows = tt; frames = tt; shown = tt; regions = tt }
   made_same made few o (Some m) e = by m.type refl
     where
       by : (n : ℕ) → m.type ≡ n → Same p image made (S.object_frames o (option_and_then (λ t. slice_get os t) (S.made_body p n))) (I.object_frames o (numbered image.types.items n))
-      by zero is = record { follows = tt; frames = tt; shown = tt }
+      by zero is = record { follows = tt; frames = tt; shown = tt; regions = tt }
       by (suc n) is = object_same made o n (self_made made few o m n e is) (slice_get image.types.items n) refl
 
   object_body_same : (s : Store) (mem : Memory) (o : ℕ) → SameStore p s mem → Same p image s.made (S.body_of p s o) (I.body_of image mem o)
@@ -191,7 +205,7 @@ module _ (p : Program) (image : Image) (well : IsWellTyped p) (ok : IsCodeOf p i
       subst (λ l. Same p image s.made (S.body_of p s o) (I.object_frames o (option_and_then (numbered image.types.items) (t l)))) (sym stores.made) (made_same s.made stores.few o (by_number o s.made) refl)
 
   -- one turn of the image is one turn of the source
-  simulates : Simulates (SameStore p) (Together p image) Anyone (S.source p) (machine image)
+  simulates : Simulates (SameStore p) (Together p image) (Outside (S.source p)) (S.source p) (machine image)
   simulates = record {
     turn = λ s mem fs gs stores h. turn_alike p image typed shaped run (items_do p) s mem fs gs stores h.now;
     kept = λ s mem fs gs stores h w fs' gs' h'.
@@ -202,7 +216,7 @@ module _ (p : Program) (image : Image) (well : IsWellTyped p) (ok : IsCodeOf p i
         };
     past = λ s mem w fs gs goes stores h. record { now = h.behind goes; behind = λ k. absurd k };
     verdict = λ s mem l c fs gs stores h. refl;
-    regions = λ s mem w fs gs may stores h. sym (frames_closed p image s.made fs.frames gs.frames h.now.frames);
+    regions = λ s mem w fs gs may stores h. regions_same p image shaped s.made fs.frames gs.frames h.now.frames h.now.regions;
     position = λ s mem w fs gs may stores h. position_same p image shaped s.made (S.opened p fs).frames (I.opened gs).frames (opened_same p image run s.made fs gs h.now).frames;
     anew = λ s mem w fs gs may stores h. tt;
     body = λ s mem o fs gs stores h. record { now = object_body_same s mem o stores; behind = λ k. absurd k };
@@ -215,16 +229,18 @@ module _ (p : Program) (image : Image) (well : IsWellTyped p) (ok : IsCodeOf p i
         follows = bodies_follow 0 ms image.modules.items (λ j m e. let n : j ≡ 0 + j = omega arith in subst (λ q. slice_get ms q ≡ Some m) n e) ok.starts;
         frames = tt;
         shown = tt;
+        regions = tt;
       }
 
-  matched : (budget : ℕ) (choices : List Choice) → Matches (SameStore p) (Together p image) Anyone (execution (S.source p) choices (S.first_state p budget)) (execution (machine image) choices (I.first_state image budget))
+  matched : (budget : ℕ) (choices : List Choice) → Matches (SameStore p) (Together p image) (Outside (S.source p)) (execution (S.source p) choices (S.first_state p budget)) (execution (machine image) choices (I.first_state image budget))
   matched budget choices =
-      execution_matches (SameStore p) (Together p image) Anyone (S.source p) (machine image) simulates choices (S.first_state p budget) (I.first_state image budget) (λ later a l asks. tt)
-      (start_matches (SameStore p) (Together p image) Anyone (S.source p) (machine image) simulates (S.first_store p) (I.first_memory image) (S.first_frames p) (I.first_frames image) budget first_store_same
+      execution_matches (SameStore p) (Together p image) (Outside (S.source p)) (S.source p) (machine image) simulates choices (S.first_state p budget) (I.first_state image budget)
+      (sound_always (S.source p) (Stands p) (source_keeps p) (S.first_state p budget) (start_sound (S.first_store p) (S.first_frames p) budget (S.source p) (Stands p) tt refl))
+      (start_matches (SameStore p) (Together p image) (Outside (S.source p)) (S.source p) (machine image) simulates (S.first_store p) (I.first_memory image) (S.first_frames p) (I.first_frames image) budget first_store_same
       (record { now = first_same; behind = λ k. absurd k }))
 
   pub shown : Shows p image
   shown = record {
-    observation = λ budget choices. sym (observation_matches (SameStore p) (Together p image) Anyone (S.source p) (machine image) simulates (execution (S.source p) choices (S.first_state p budget)) (execution (machine image) choices (I.first_state image budget)) (matched budget choices));
-    events = λ budget choices. sym (events_match (SameStore p) (Together p image) Anyone (S.source p) (machine image) simulates (execution (S.source p) choices (S.first_state p budget)) (execution (machine image) choices (I.first_state image budget)) (matched budget choices));
+    observation = λ budget choices. sym (observation_matches (SameStore p) (Together p image) (Outside (S.source p)) (S.source p) (machine image) simulates (execution (S.source p) choices (S.first_state p budget)) (execution (machine image) choices (I.first_state image budget)) (matched budget choices));
+    events = λ budget choices. sym (events_match (SameStore p) (Together p image) (Outside (S.source p)) (S.source p) (machine image) simulates (execution (S.source p) choices (S.first_state p budget)) (execution (machine image) choices (I.first_state image budget)) (matched budget choices));
   }

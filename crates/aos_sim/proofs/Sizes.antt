@@ -1,6 +1,6 @@
 -- How long the code of statements is depends neither on where EXIT leads nor on where an arm goes on, so each jump forward knows where
 -- it goes; and what is around statements is not counted again.
-use Rattle.std.proofs.Common.{◌≡◌, ℕ, zero, suc, ◌+◌, ◌≤◌, ℤ, Option, Some, None, List, [], ◌∷◌, ◌++◌, length, refl, ap, ◌∙◌, arith, length-append}
+use Rattle.std.proofs.Common.{◌≡◌, ℕ, zero, suc, ◌+◌, ◌≤◌, ℤ, Bool, true, false, Option, Some, None, List, [], ◌∷◌, ◌++◌, length, refl, ap, ◌∙◌, arith, length-append}
 use Rattle.std.proofs.Math.Nat.{le-max_left}
 use Rattle.aos_base.specs.declared.text.Pos.{Pos}
 use Rattle.aos_base.specs.declared.number.Width.{Width}
@@ -10,7 +10,7 @@ use Rattle.aos_code.specs.declared.instr.Instr.{Instr}
 use Rattle.aos_code.specs.declared.instr.Instr.TheVariants as i
 use Rattle.aos_code.specs.declared.instr.Kind.TheVariants.{N}
 use Rattle.aos_sim.specs.Search.{Search, Nowhere, At, Split, arms_in, search_of, search_size, search_code}
-use Rattle.aos_sim.specs.Code.{place_code, value_code, while_code, repeat_code, arm_code, round_code, for_head, step_code, body_place, rounds_with, stat_code, stats_code, arms_code, cases_code, arm_place}
+use Rattle.aos_sim.specs.Code.{Within, NoRegion, AroundLoop, InLoop, Ways, block_within, block_at, block_code, exit_code, place_code, value_code, while_code, repeat_code, arm_code, round_code, for_head, step_code, body_place, rounds_with, stat_code, stats_code, arms_code, cases_code, arm_place}
 use Rattle.aos_sim.specs.Need.{stat_level, stats_level, arms_level, cases_level}
 use Rattle.aos_typed.specs.Operands.{operands}
 
@@ -50,6 +50,19 @@ repeat_alike there b b' c c' at e f = pieces_alike b b' c c' _ e f
 pub round_length : (there : Pos) (v : List Instr) (step : ℤ) (d : ℕ) (b n : List Instr) (at : ℕ) → length (round_code there v step d b n at) ≡ length v + length b + length n + 5
 round_length there v step d b n at = round_size _ _ _ _ v b n
 
+-- how statements in such a place are left where EXIT leads there
+abbrev pub way : Within → ℕ → Ways
+way u x = record { exit = x; within = u }
+
+exit_length : (u : Within) (x y : ℕ) → length (exit_code u x) ≡ length (exit_code u y)
+exit_length NoRegion x y = refl
+exit_length AroundLoop x y = refl
+exit_length InLoop x y = refl
+
+pub block_alike : (exclusive : Bool) (b c : List Instr) → length b ≡ length c → length (block_code exclusive b) ≡ length (block_code exclusive c)
+block_alike true b c e = omega (arith, e, length-append b (i.Leave ∷ []), length-append c (i.Leave ∷ []))
+block_alike false b c e = e
+
 module _ (program : Program) (own : Option Procedure) where
   -- rounds of a FOR behind other code, wherever they are told they stand
   rounds_alike : (head : List Instr) (there : Pos) (w : Width) (q : Place) (step : ℤ) (b b' : List Instr) (at d : ℕ) → length b ≡ length b' → length (head ++ rounds_with program own there w q step b at d) ≡ length (head ++ rounds_with program own there w q step b' at d)
@@ -62,90 +75,91 @@ module _ (program : Program) (own : Option Procedure) where
       omega (arith, e, same, whole b, whole b', round_length there v step d b (n b) at, round_length there v step d b' (n b') at)
 
   mutual
-    pub stat_length : (s : Stat) (at x y d : ℕ) → length (stat_code program own s at x d) ≡ length (stat_code program own s at y d)
-    stat_length (Assign here t p e) at x y d = refl
-    stat_length (Copy here t p q) at x y d = refl
-    stat_length (PutText here strict a b) at x y d = refl
-    stat_length (If here arms) at x y d =
-        ap (λ n. suc n) (arms_length arms (at + 1) (at + 1 + length (arms_code program own arms (at + 1) 0 x d)) (at + 1 + length (arms_code program own arms (at + 1) 0 y d)) x y d)
-    stat_length (Case here e cases) at x y d =
+    pub stat_length : (s : Stat) (at : ℕ) (u : Within) (x y d : ℕ) → length (stat_code program own s at (way u x) d) ≡ length (stat_code program own s at (way u y) d)
+    stat_length (Assign here t p e) at u x y d = refl
+    stat_length (Copy here t p q) at u x y d = refl
+    stat_length (PutText here strict a b) at u x y d = refl
+    stat_length (If here arms) at u x y d =
+        ap (λ n. suc n) (arms_length arms (at + 1) (at + 1 + length (arms_code program own arms (at + 1) 0 (way u x) d)) (at + 1 + length (arms_code program own arms (at + 1) 0 (way u y) d)) u x y d)
+    stat_length (Case here e cases) at u x y d =
         let c = value_code program own e (at + 1) in
         let t = search_of cases in
         let from = at + 1 + length c + 1 in
         let first = from + search_size t in
-        let end : ℕ → ℕ = λ z. first + length (cases_code program own cases first 0 z d) in
-        let search : ℕ → List Instr = λ z. search_code (arm_place program own cases first z d) (arms_in cases) t d from in
-        let arms : ℕ → List Instr = λ z. cases_code program own cases first (end z) z d in
-        let size : (z : ℕ) → length (search z) ≡ search_size t = λ z. search_length (arm_place program own cases first z d) (arms_in cases) t d from in
+        let end : ℕ → ℕ = λ z. first + length (cases_code program own cases first 0 (way u z) d) in
+        let search : ℕ → List Instr = λ z. search_code (arm_place program own cases first (way u z) d) (arms_in cases) t d from in
+        let arms : ℕ → List Instr = λ z. cases_code program own cases first (end z) (way u z) d in
+        let size : (z : ℕ) → length (search z) ≡ search_size t = λ z. search_length (arm_place program own cases first (way u z) d) (arms_in cases) t d from in
         let whole : ℕ → _ = λ z. length-append c (i.Keep d N ∷ (search z ++ arms z)) in
-        omega (arith, cases_length cases first (end x) (end y) x y d, size x, size y, whole x, whole y, length-append (search x) (arms x), length-append (search y) (arms y))
-    stat_length (While here e body) at x y d =
+        omega (arith, cases_length cases first (end x) (end y) u x y d, size x, size y, whole x, whole y, length-append (search x) (arms x), length-append (search y) (arms y))
+    stat_length (While here e body) at u x y d =
         let c = value_code program own e (at + 1) in
-        let b : ℕ → List Instr = λ z. stats_code program own body (at + 1 + length c + 1) z d in
-        omega (arith, stats_length body (at + 1 + length c + 1) x y d, while_length here c (b x) at, while_length here c (b y) at)
-    stat_length (Repeat here body e) at x y d =
-        let b : ℕ → List Instr = λ z. stats_code program own body (at + 1) z d in
+        let b : ℕ → List Instr = λ z. stats_code program own body (at + 1 + length c + 1) (way u z) d in
+        omega (arith, stats_length body (at + 1 + length c + 1) u x y d, while_length here c (b x) at, while_length here c (b y) at)
+    stat_length (Repeat here body e) at u x y d =
+        let b : ℕ → List Instr = λ z. stats_code program own body (at + 1) (way u z) d in
         let c : ℕ → List Instr = λ z. value_code program own e (at + 1 + length (b z)) in
-        let h = stats_length body (at + 1) x y d in
+        let h = stats_length body (at + 1) u x y d in
         repeat_alike here (b x) (b y) (c x) (c y) at h (ap (λ n. length (value_code program own e (at + 1 + n))) h)
-    stat_length (Loop here body) at x y d = refl
-    stat_length (Exit here) at x y d = refl
-    stat_length (For here w p from to step body) at x y d =
+    stat_length (Loop here body) at u x y d = refl
+    stat_length (Exit here) at u x y d = ap (λ n. suc n) (exit_length u x y)
+    stat_length (For here w p from to step body) at u x y d =
         let head = for_head program own here w p from to at d in
         let first = body_place program own w p (at + length head) in
-        let b : ℕ → List Instr = λ z. stats_code program own body first z (suc d) in
-        rounds_alike head here w p step (b x) (b y) _ d (stats_length body first x y (suc d))
-    stat_length (Block here body) at x y d = ap (λ n. suc n) (stats_length body (at + 1) x y d)
-    stat_length (Assert here e code) at x y d = refl
-    stat_length (Halt here code) at x y d = refl
-    stat_length (Change here c p e) at x y d = refl
-    stat_length (Perform here c more) at x y d = refl
-    stat_length (Return here None) at x y d = refl
-    stat_length (Return here (Some e)) at x y d = refl
-    stat_length (New here p t more) at x y d = refl
-    stat_length (Make here p t ns) at x y d = refl
-    stat_length (With here e body) at x y d =
+        let b : ℕ → List Instr = λ z. stats_code program own body first (way u z) (suc d) in
+        rounds_alike head here w p step (b x) (b y) _ d (stats_length body first u x y (suc d))
+    stat_length (Block here exclusive body) at u x y d =
+        ap (λ n. suc n) (block_alike exclusive _ _ (stats_length body (block_at exclusive (at + 1)) (block_within exclusive u) x y d))
+    stat_length (Assert here e code) at u x y d = refl
+    stat_length (Halt here code) at u x y d = refl
+    stat_length (Change here c p e) at u x y d = refl
+    stat_length (Perform here c more) at u x y d = refl
+    stat_length (Return here None) at u x y d = refl
+    stat_length (Return here (Some e)) at u x y d = refl
+    stat_length (New here p t more) at u x y d = refl
+    stat_length (Make here p t ns) at u x y d = refl
+    stat_length (With here e body) at u x y d =
         let c = value_code program own e (at + 1) in
-        let b : ℕ → List Instr = λ z. stats_code program own body (at + 1 + length c + 1) z d in
-        omega (arith, stats_length body (at + 1 + length c + 1) x y d, length-append c (i.Drop ∷ b x), length-append c (i.Drop ∷ b y))
-    stat_length (WithRecord here p body) at x y d =
+        let b : ℕ → List Instr = λ z. stats_code program own body (at + 1 + length c + 1) (way u z) d in
+        omega (arith, stats_length body (at + 1 + length c + 1) u x y d, length-append c (i.Drop ∷ b x), length-append c (i.Drop ∷ b y))
+    stat_length (WithRecord here p body) at u x y d =
         let c = place_code program own p (at + 1) in
-        let b : ℕ → List Instr = λ z. stats_code program own body (at + 1 + length c + 1) z d in
-        omega (arith, stats_length body (at + 1 + length c + 1) x y d, length-append c (i.Drop ∷ b x), length-append c (i.Drop ∷ b y))
-    stat_length (Out here call) at x y d = refl
+        let b : ℕ → List Instr = λ z. stats_code program own body (at + 1 + length c + 1) (way u z) d in
+        omega (arith, stats_length body (at + 1 + length c + 1) u x y d, length-append c (i.Drop ∷ b x), length-append c (i.Drop ∷ b y))
+    stat_length (Out here call) at u x y d = refl
 
-    pub stats_length : (ss : Stats) (at x y d : ℕ) → length (stats_code program own ss at x d) ≡ length (stats_code program own ss at y d)
-    stats_length Nothing at x y d = refl
-    stats_length (Then s ss) at x y d =
-        let a = stat_code program own s at x d in
-        let b = stat_code program own s at y d in
-        let h = stat_length s at x y d in
-        let more = stats_length ss (at + length a) x y d ∙ ap (λ n. length (stats_code program own ss (at + n) y d)) h in
-        omega (arith, h, more, length-append a (stats_code program own ss (at + length a) x d), length-append b (stats_code program own ss (at + length b) y d))
+    pub stats_length : (ss : Stats) (at : ℕ) (u : Within) (x y d : ℕ) → length (stats_code program own ss at (way u x) d) ≡ length (stats_code program own ss at (way u y) d)
+    stats_length Nothing at u x y d = refl
+    stats_length (Then s ss) at u x y d =
+        let a = stat_code program own s at (way u x) d in
+        let b = stat_code program own s at (way u y) d in
+        let h = stat_length s at u x y d in
+        let more = stats_length ss (at + length a) u x y d ∙ ap (λ n. length (stats_code program own ss (at + n) (way u y) d)) h in
+        omega (arith, h, more, length-append a (stats_code program own ss (at + length a) (way u x) d), length-append b (stats_code program own ss (at + length b) (way u y) d))
 
-    pub arms_length : (arms : Arms) (at end other x y d : ℕ) → length (arms_code program own arms at end x d) ≡ length (arms_code program own arms at other y d)
-    arms_length (Otherwise ss) at end other x y d = stats_length ss at x y d
-    arms_length (Arm e ss arms) at end other x y d =
+    pub arms_length : (arms : Arms) (at end other : ℕ) (u : Within) (x y d : ℕ) → length (arms_code program own arms at end (way u x) d) ≡ length (arms_code program own arms at other (way u y) d)
+    arms_length (Otherwise ss) at end other u x y d = stats_length ss at u x y d
+    arms_length (Arm e ss arms) at end other u x y d =
         let c = value_code program own e at in
         let first = at + length c + 1 in
-        let b : ℕ → List Instr = λ z. stats_code program own ss first z d in
+        let b : ℕ → List Instr = λ z. stats_code program own ss first (way u z) d in
         let next : ℕ → ℕ = λ z. first + length (b z) + 1 in
-        let h = stats_length ss first x y d in
-        let more = arms_length arms (next x) end other x y d ∙ ap (λ n. length (arms_code program own arms (first + n + 1) other y d)) h in
-        omega (arith, h, more, arm_length c (b x) at end (arms_code program own arms (next x) end x d), arm_length c (b y) at other (arms_code program own arms (next y) other y d))
+        let h = stats_length ss first u x y d in
+        let more = arms_length arms (next x) end other u x y d ∙ ap (λ n. length (arms_code program own arms (first + n + 1) other (way u y) d)) h in
+        omega (arith, h, more, arm_length c (b x) at end (arms_code program own arms (next x) end (way u x) d), arm_length c (b y) at other (arms_code program own arms (next y) other (way u y) d))
 
-    pub cases_length : (cases : Cases) (at end other x y d : ℕ) → length (cases_code program own cases at end x d) ≡ length (cases_code program own cases at other y d)
-    cases_length NoElse at end other x y d = refl
-    cases_length (Else ss) at end other x y d = stats_length ss at x y d
-    cases_length (OfLabels rs ss cases) at end other x y d =
-        let b : ℕ → List Instr = λ z. stats_code program own ss at z d in
+    pub cases_length : (cases : Cases) (at end other : ℕ) (u : Within) (x y d : ℕ) → length (cases_code program own cases at end (way u x) d) ≡ length (cases_code program own cases at other (way u y) d)
+    cases_length NoElse at end other u x y d = refl
+    cases_length (Else ss) at end other u x y d = stats_length ss at u x y d
+    cases_length (OfLabels rs ss cases) at end other u x y d =
+        let b : ℕ → List Instr = λ z. stats_code program own ss at (way u z) d in
         let next : ℕ → ℕ = λ z. at + length (b z) + 1 in
-        let h = stats_length ss at x y d in
-        let more = cases_length cases (next x) end other x y d ∙ ap (λ n. length (cases_code program own cases (at + n + 1) other y d)) h in
-        omega (arith, h, more, length-append (b x) (i.Jump end ∷ cases_code program own cases (next x) end x d), length-append (b y) (i.Jump other ∷ cases_code program own cases (next y) other y d))
+        let h = stats_length ss at u x y d in
+        let more = cases_length cases (next x) end other u x y d ∙ ap (λ n. length (cases_code program own cases (at + n + 1) other (way u y) d)) h in
+        omega (arith, h, more, length-append (b x) (i.Jump end ∷ cases_code program own cases (next x) end (way u x) d), length-append (b y) (i.Jump other ∷ cases_code program own cases (next y) other (way u y) d))
 
   -- no arm begins before the first
-  pub arm_ahead : (cases : Cases) (at x d n : ℕ) → at ≤ arm_place program own cases at x d n
+  pub arm_ahead : (cases : Cases) (at : ℕ) (x : Ways) (d n : ℕ) → at ≤ arm_place program own cases at x d n
   arm_ahead NoElse at x d n = omega arith
   arm_ahead (Else ss) at x d n = omega arith
   arm_ahead (OfLabels rs ss cases) at x d zero = omega arith
@@ -164,7 +178,7 @@ mutual
   stat_above (Loop here body) d = stats_above body d
   stat_above (Exit here) d = omega arith
   stat_above (For here w p from to step body) d = omega (arith, stats_above body (suc d))
-  stat_above (Block here body) d = stats_above body d
+  stat_above (Block here exclusive body) d = stats_above body d
   stat_above (Assert here e code) d = omega arith
   stat_above (Halt here code) d = omega arith
   stat_above (Change here c p e) d = omega arith

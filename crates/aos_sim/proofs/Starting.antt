@@ -1,11 +1,11 @@
 -- Silent work that ends at a question has come to the instruction that asks it; and what starts an activity asks so once more, where
 -- the object lies on top.
-use Rattle.std.proofs.Common.{◌≡◌, ◌+◌, ℕ, ℤ, zero, suc, pos, negsuc, List, [], ◌∷◌, ◌++◌, drop, reverse, refl, sym, ap, ◌∙◌}
+use Rattle.std.proofs.Common.{◌≡◌, ◌⊎◌, inl, inr, subst, ◌+◌, ℕ, ℤ, zero, suc, pos, negsuc, List, [], ◌∷◌, ◌++◌, drop, reverse, refl, sym, ap, ◌∙◌}
 use Rattle.std.specs.Prelude.{Option, Some, None, Bool, true, false, nat_lt, slice_get, if◌then◌else◌}
 use Rattle.aos_base.specs.declared.place.Root.{Root}
 use Rattle.aos_base.specs.declared.operator.Given.{Given}
 use Rattle.aos_base.specs.declared.operator.Given.TheVariants.{Number, Trap, Undefined}
-use Rattle.aos_base.specs.Question.{Asks, Reads, Stores, Copies, PutsText, ComparesTexts, Starts, PutsString}
+use Rattle.aos_base.specs.Question.{ByName, Asks, Reads, Stores, Copies, PutsText, ComparesTexts, Calls, Ends, Makes, Starts, Enters, Leaves, PutsInt, PutsChar, PutsString, PutsNothing, PutsLn, Places, Lengths, Opens, Sizes, Tests}
 use Rattle.aos_base.specs.Operators.{flag, unary, binary, natural}
 use Rattle.aos_code.specs.declared.instr.Cell.{Cell}
 use Rattle.aos_code.specs.declared.instr.Cell.TheVariants.{Num, Ref, Call as CallCell, Place}
@@ -21,10 +21,12 @@ use Rattle.aos_base.specs.Rooted.{Made}
 use Rattle.aos_sim.proofs.Runs.{Tables, in_code, on_run, runs, run, drop_next}
 use Rattle.aos_typed.specs.Meaning.{Here}
 
--- What isn't a start.
+-- What is no start, no entry of a region, and no end of one.
 
 abbrev mark : Act → ℕ
 mark (Sees (Starts v) s) = 1
+mark (Sees Enters s) = 1
+mark (Sees Leaves s) = 1
 mark _ = 0
 
 calm_if : (b : Bool) (a : Act) → mark a ≡ 0 → mark (if b then a else Stops lost) ≡ 0
@@ -191,9 +193,6 @@ calm_on_false code to at (negsuc n) s = refl
 calm_looks : (l : Look) (at_nil : Stack → Act) (s : Stack) → ((s' : Stack) → mark (at_nil s') ≡ 0) → mark (looks l at_nil s) ≡ 0
 calm_looks l at_nil s h = calm_object _ s (λ o s'. calm_nil o (at_nil s') (Looks l o s') (h s') refl)
 
-marked : (a : Act) (v : Cell) (s s' : Stack) → mark a ≡ 0 → a ≡ Sees (Starts v) s' → s ≡ v ∷ s'
-marked a v s s' h e = (let z : 0 ≡ 1 = sym h ∙ ap mark e in absurd (cc z))
-
 start_if : (b : Bool) (w v : Cell) (s s' : Stack) → (if b then Sees (Starts w) s else Stops lost) ≡ Sees (Starts v) s' → w ∷ s ≡ v ∷ s'
 start_if true w v s s' e = (let p : w ≡ v = cc e in let q : s ≡ s' = cc e in λ i. p i ∷ q i)
 start_if false w v s s' e = absurd (cc e)
@@ -202,70 +201,153 @@ start_on_top : (s : Stack) (v : Cell) (s' : Stack) → on_kind R (λ o s1. Sees 
 start_on_top [] v s' e = absurd (cc e)
 start_on_top (w ∷ s) v s' e = start_if (is_of R w) w v s s' e
 
--- whose activity is started lies on top
-act_starts : (tables : Tables) (own : ℕ) (here : Here) (i : Instr) (code : List Instr) (at : ℕ) (s : Stack) (v : Cell) (s' : Stack) → act tables.procedures tables.types own (in_code here) i code at s ≡ Sees (Starts v) s' → s ≡ v ∷ s'
-act_starts tables own here (instr.Num n) code at s v s' e = marked _ v s s' refl e
-act_starts tables own here instr.Nil code at s v s' e = marked _ v s s' refl e
-act_starts tables own here instr.SelfRef code at s v s' e = marked _ v s s' (calm_self here.self s) e
-act_starts tables own here instr.Dup code at s v s' e = marked _ v s s' (calm_any _ s (λ w r. refl)) e
-act_starts tables own here instr.Drop code at s v s' e = marked _ v s s' (calm_any _ s (λ w r. refl)) e
-act_starts tables own here instr.Swap code at s v s' e = marked _ v s s' (calm_any _ s (λ w r. calm_any _ r (λ x y. refl))) e
-act_starts tables own here (instr.Frame c) code at s v s' e = marked _ v s s' refl e
-act_starts tables own here (instr.Module m c) code at s v s' e = marked _ v s s' refl e
-act_starts tables own here (instr.Param c) code at s v s' e = marked _ v s s' refl e
-act_starts tables own here (instr.Length c) code at s v s' e = marked _ v s s' refl e
-act_starts tables own here (instr.Deref c) code at s v s' e = marked _ v s s' (calm_looks (AtCell c) (λ r. Stops (Fails 1 0)) s (λ r. refl)) e
-act_starts tables own here (instr.OpenRef j) code at s v s' e = marked _ v s s' (calm_looks (AtElements j) (λ r. Stops (Fails 1 0)) s (λ r. refl)) e
-act_starts tables own here (instr.Offset c t) code at s v s' e = marked _ v s s' (calm_place (λ a u r. gives_place a.root (a.cell + c) t [] r) s (λ a u r. calm_gives a.root (a.cell + c) t [] r)) e
-act_starts tables own here (instr.Index n k) code at s v s' e = marked _ v s s' (calm_number _ s (λ z r. calm_place _ r (λ a t x. calm_element a (natural n z) k [] x))) e
-act_starts tables own here (instr.IndexOpen j k) code at s v s' e = marked _ v s s' (calm_number _ s (λ z r. calm_lengths j [] _ r (λ ns x. calm_rows ns z k x))) e
-act_starts tables own here (instr.PickLen d j) code at s v s' e = marked _ v s s' (calm_counted j [] _ s (λ zs r. calm_place _ r (λ a t x. calm_picked (slice_get zs d) x))) e
-act_starts tables own here (instr.Unary op) code at s v s' e = marked _ v s s' (calm_number _ s (λ a r. calm_given (unary op a) r)) e
-act_starts tables own here (instr.Binary op) code at s v s' e = marked _ v s s' (calm_number _ s (λ b r. calm_number _ r (λ a x. calm_given (binary op a b) x))) e
-act_starts tables own here instr.NilCall code at s v s' e = marked _ v s s' refl e
-act_starts tables own here (instr.Proc p) code at s v s' e = marked _ v s s' refl e
-act_starts tables own here instr.EqCall code at s v s' e = marked _ v s s' (calm_callable _ s (λ q i r. calm_callable _ r (λ p o x. refl))) e
-act_starts tables own here (instr.Bind k) code at s v s' e = marked _ v s s' (calm_looks (AsMethod k) (λ r. Stops (Fails 1 0)) s (λ r. refl)) e
-act_starts tables own here (instr.CallValue p) code at s v s' e = marked _ v s s' (calm_calls_value tables.procedures (numbered tables.procedures p) s) e
-act_starts tables own here instr.EqRef code at s v s' e = marked _ v s s' (calm_object _ s (λ b r. calm_object _ r (λ a x. refl))) e
-act_starts tables own here (instr.Is t) code at s v s' e = marked _ v s s' (calm_looks (IsType t) (λ r. gives (Num (pos 0)) r) s (λ r. refl)) e
-act_starts tables own here (instr.IsPlace t) code at s v s' e = marked _ v s s' (calm_place (λ a d r. gives (Num (flag (extends tables.types d t))) r) s (λ a d r. refl)) e
-act_starts tables own here (instr.Guard t) code at s v s' e = marked _ v s s' (calm_looks (AsType t) (λ r. Stops (Fails 3 0)) s (λ r. refl)) e
-act_starts tables own here (instr.GuardPlace t) code at s v s' e =
-    marked _ v s s'
+-- what an instruction does is none of these, or it is one of three
+act_kind : (tables : Tables) (own : ℕ) (here : Here) (i : Instr) (code : List Instr) (at : ℕ) (s : Stack) → (mark (act tables.procedures tables.types own (in_code here) i code at s) ≡ 0) ⊎ ((i ≡ instr.Start) ⊎ ((i ≡ instr.Enter) ⊎ (i ≡ instr.Leave)))
+act_kind tables own here (instr.Num n) code at s = inl refl
+act_kind tables own here instr.Nil code at s = inl refl
+act_kind tables own here instr.SelfRef code at s = inl (calm_self here.self s)
+act_kind tables own here instr.Dup code at s = inl (calm_any _ s (λ w r. refl))
+act_kind tables own here instr.Drop code at s = inl (calm_any _ s (λ w r. refl))
+act_kind tables own here instr.Swap code at s = inl (calm_any _ s (λ w r. calm_any _ r (λ x y. refl)))
+act_kind tables own here (instr.Frame c) code at s = inl refl
+act_kind tables own here (instr.Module m c) code at s = inl refl
+act_kind tables own here (instr.Param c) code at s = inl refl
+act_kind tables own here (instr.Length c) code at s = inl refl
+act_kind tables own here (instr.Deref c) code at s = inl (calm_looks (AtCell c) (λ r. Stops (Fails 1 0)) s (λ r. refl))
+act_kind tables own here (instr.OpenRef j) code at s = inl (calm_looks (AtElements j) (λ r. Stops (Fails 1 0)) s (λ r. refl))
+act_kind tables own here (instr.Offset c t) code at s = inl (calm_place (λ a u r. gives_place a.root (a.cell + c) t [] r) s (λ a u r. calm_gives a.root (a.cell + c) t [] r))
+act_kind tables own here (instr.Index n k) code at s = inl (calm_number _ s (λ z r. calm_place _ r (λ a t x. calm_element a (natural n z) k [] x)))
+act_kind tables own here (instr.IndexOpen j k) code at s = inl (calm_number _ s (λ z r. calm_lengths j [] _ r (λ ns x. calm_rows ns z k x)))
+act_kind tables own here (instr.PickLen d j) code at s = inl (calm_counted j [] _ s (λ zs r. calm_place _ r (λ a t x. calm_picked (slice_get zs d) x)))
+act_kind tables own here (instr.Unary op) code at s = inl (calm_number _ s (λ a r. calm_given (unary op a) r))
+act_kind tables own here (instr.Binary op) code at s = inl (calm_number _ s (λ b r. calm_number _ r (λ a x. calm_given (binary op a b) x)))
+act_kind tables own here instr.NilCall code at s = inl refl
+act_kind tables own here (instr.Proc p) code at s = inl refl
+act_kind tables own here instr.EqCall code at s = inl (calm_callable _ s (λ q i r. calm_callable _ r (λ p o x. refl)))
+act_kind tables own here (instr.Bind k) code at s = inl (calm_looks (AsMethod k) (λ r. Stops (Fails 1 0)) s (λ r. refl))
+act_kind tables own here (instr.CallValue p) code at s = inl (calm_calls_value tables.procedures (numbered tables.procedures p) s)
+act_kind tables own here instr.EqRef code at s = inl (calm_object _ s (λ b r. calm_object _ r (λ a x. refl)))
+act_kind tables own here (instr.Is t) code at s = inl (calm_looks (IsType t) (λ r. gives (Num (pos 0)) r) s (λ r. refl))
+act_kind tables own here (instr.IsPlace t) code at s = inl (calm_place (λ a d r. gives (Num (flag (extends tables.types d t))) r) s (λ a d r. refl))
+act_kind tables own here (instr.Guard t) code at s = inl (calm_looks (AsType t) (λ r. Stops (Fails 3 0)) s (λ r. refl))
+act_kind tables own here (instr.GuardPlace t) code at s =
+    inl
     (calm_place (λ a d r. if extends tables.types d t then gives (Place a.root a.cell d) r else Stops (Fails 3 0)) s
-    (λ a d r. calm_jump (extends tables.types d t) (gives (Place a.root a.cell d) r) (Stops (Fails 3 0)) refl refl)) e
-act_starts tables own here (instr.Keep c k) code at s v s' e = marked _ v s s' (calm_if (nat_lt c _) _ (calm_kind k _ s (λ w r. refl))) e
-act_starts tables own here (instr.Kept c k) code at s v s' e = marked _ v s s' (calm_if (nat_lt c _) _ refl) e
-act_starts tables own here (instr.Fail n) code at s v s' e = marked _ v s s' refl e
-act_starts tables own here (instr.Assert c) code at s v s' e = marked _ v s s' (calm_number _ s (λ a r. calm_asserts c a r)) e
-act_starts tables own here (instr.Halt c) code at s v s' e = marked _ v s s' refl e
-act_starts tables own here (instr.Jump to) code at s v s' e = marked _ v s s' (calm_jumps code to at s) e
-act_starts tables own here (instr.JumpFalse to) code at s v s' e = marked _ v s s' (calm_number _ s (λ a r. calm_on_false code to at a r)) e
-act_starts tables own here (instr.Begin line col) code at s v s' e = marked _ v s s' refl e
-act_starts tables own here (instr.Load kind) code at s v s' e = marked _ v s s' (calm_place (λ a t r. Sees (Reads kind a) r) s (λ a t r. refl)) e
-act_starts tables own here (instr.Store kind) code at s v s' e = marked _ v s s' (calm_kind kind _ s (λ w r. calm_place (λ a t x. Sees (Stores a w) x) r (λ a t x. refl))) e
-act_starts tables own here (instr.Copy n) code at s v s' e = marked _ v s s' (calm_place (λ a t r. on_place (λ b u x. Sees (Copies n a b) x) r) s (λ a t r. calm_place (λ b u x. Sees (Copies n a b) x) r (λ b u x. refl))) e
-act_starts tables own here (instr.PutText strict) code at s v s' e = marked _ v s s' (calm_text (λ a n r. on_text (λ b m x. Sees (PutsText strict b m a n) x) r) s (λ a n r. calm_text (λ b m x. Sees (PutsText strict b m a n) x) r (λ b m x. refl))) e
-act_starts tables own here (instr.CmpText o) code at s v s' e = marked _ v s s' (calm_text (λ b m r. on_text (λ a n x. Sees (ComparesTexts o a n b m) x) r) s (λ b m r. calm_text (λ a n x. Sees (ComparesTexts o a n b m) x) r (λ a n x. refl))) e
-act_starts tables own here (instr.Call p) code at s v s' e = marked _ v s s' (calm_calls (numbered tables.procedures p) p s) e
-act_starts tables own here (instr.Virtual k p) code at s v s' e = marked _ v s s' (calm_sends (numbered tables.procedures p) k p s) e
-act_starts tables own here (instr.NewObject t) code at s v s' e = marked _ v s s' refl e
-act_starts tables own here (instr.NewArray t j) code at s v s' e = marked _ v s s' (calm_counted j [] _ s (λ zs r. refl)) e
-act_starts tables own here instr.Start code at s v s' e = start_on_top s v s' e
-act_starts tables own here instr.Enter code at s v s' e = marked _ v s s' refl e
-act_starts tables own here instr.Leave code at s v s' e = marked _ v s s' refl e
-act_starts tables own here instr.Return code at s v s' e = marked _ v s s' (calm_ends (numbered tables.procedures own) s) e
-act_starts tables own here instr.OutChar code at s v s' e = marked _ v s s' (calm_kind N _ s (λ w r. refl)) e
-act_starts tables own here instr.OutInt code at s v s' e = marked _ v s s' (calm_kind N _ s (λ w r. calm_kind N _ r (λ x y. refl))) e
-act_starts tables own here instr.OutString code at s v s' e = marked _ v s s' (calm_text (λ a n r. Sees (PutsString a n) r) s (λ a n r. refl)) e
-act_starts tables own here instr.OutLn code at s v s' e = marked _ v s s' refl e
-act_starts tables own here instr.OutOpen code at s v s' e = marked _ v s s' refl e
+    (λ a d r. calm_jump (extends tables.types d t) (gives (Place a.root a.cell d) r) (Stops (Fails 3 0)) refl refl))
+act_kind tables own here (instr.Keep c k) code at s = inl (calm_if (nat_lt c _) _ (calm_kind k _ s (λ w r. refl)))
+act_kind tables own here (instr.Kept c k) code at s = inl (calm_if (nat_lt c _) _ refl)
+act_kind tables own here (instr.Fail n) code at s = inl refl
+act_kind tables own here (instr.Assert c) code at s = inl (calm_number _ s (λ a r. calm_asserts c a r))
+act_kind tables own here (instr.Halt c) code at s = inl refl
+act_kind tables own here (instr.Jump to) code at s = inl (calm_jumps code to at s)
+act_kind tables own here (instr.JumpFalse to) code at s = inl (calm_number _ s (λ a r. calm_on_false code to at a r))
+act_kind tables own here (instr.Begin line col) code at s = inl refl
+act_kind tables own here (instr.Load kind) code at s = inl (calm_place (λ a t r. Sees (Reads kind a) r) s (λ a t r. refl))
+act_kind tables own here (instr.Store kind) code at s = inl (calm_kind kind _ s (λ w r. calm_place (λ a t x. Sees (Stores a w) x) r (λ a t x. refl)))
+act_kind tables own here (instr.Copy n) code at s = inl (calm_place (λ a t r. on_place (λ b u x. Sees (Copies n a b) x) r) s (λ a t r. calm_place (λ b u x. Sees (Copies n a b) x) r (λ b u x. refl)))
+act_kind tables own here (instr.PutText strict) code at s = inl (calm_text (λ a n r. on_text (λ b m x. Sees (PutsText strict b m a n) x) r) s (λ a n r. calm_text (λ b m x. Sees (PutsText strict b m a n) x) r (λ b m x. refl)))
+act_kind tables own here (instr.CmpText o) code at s = inl (calm_text (λ b m r. on_text (λ a n x. Sees (ComparesTexts o a n b m) x) r) s (λ b m r. calm_text (λ a n x. Sees (ComparesTexts o a n b m) x) r (λ a n x. refl)))
+act_kind tables own here (instr.Call p) code at s = inl (calm_calls (numbered tables.procedures p) p s)
+act_kind tables own here (instr.Virtual k p) code at s = inl (calm_sends (numbered tables.procedures p) k p s)
+act_kind tables own here (instr.NewObject t) code at s = inl refl
+act_kind tables own here (instr.NewArray t j) code at s = inl (calm_counted j [] _ s (λ zs r. refl))
+act_kind tables own here instr.Start code at s = inr (inl refl)
+act_kind tables own here instr.Enter code at s = inr (inr (inl refl))
+act_kind tables own here instr.Leave code at s = inr (inr (inr refl))
+act_kind tables own here instr.Return code at s = inl (calm_ends (numbered tables.procedures own) s)
+act_kind tables own here instr.OutChar code at s = inl (calm_kind N _ s (λ w r. refl))
+act_kind tables own here instr.OutInt code at s = inl (calm_kind N _ s (λ w r. calm_kind N _ r (λ x y. refl)))
+act_kind tables own here instr.OutString code at s = inl (calm_text (λ a n r. Sees (PutsString a n) r) s (λ a n r. refl))
+act_kind tables own here instr.OutLn code at s = inl refl
+act_kind tables own here instr.OutOpen code at s = inl refl
 
-module _ (tables : Tables) (made : ℕ → Option Made) (own : ℕ) (here : Here) (cells : List Cell) (code : List Instr) (whom : Cell) (p : ℕ) (k' : Keeps) (s' : Stack) where
-  abbrev q : Question
-  q = Starts whom
+-- what these find below what they take
+abbrev Found : Question → Stack → Stack → Type 0
+Found (Starts v) s s' = s ≡ v ∷ s'
+Found Enters s s' = s ≡ s'
+Found Leaves s s' = s ≡ s'
+Found q s s' = ⊥
 
+-- one of the three
+abbrev IsWork : Question → Type 0
+IsWork (Starts v) = Unit {0}
+IsWork Enters = Unit {0}
+IsWork Leaves = Unit {0}
+IsWork q = ⊥
+
+one_marked : (q : Question) (s : Stack) → IsWork q → mark (Sees q s) ≡ 1
+one_marked (Starts v) s w = refl
+one_marked Enters s w = refl
+one_marked Leaves s w = refl
+one_marked (Reads k a) s w = absurd w
+one_marked (Stores a v) s w = absurd w
+one_marked (Copies n a b) s w = absurd w
+one_marked (PutsText strict a n b m) s w = absurd w
+one_marked (ComparesTexts r a n b m) s w = absurd w
+one_marked (Calls how p vs) s w = absurd w
+one_marked (Ends r) s w = absurd w
+one_marked (Makes t vs) s w = absurd w
+one_marked (PutsInt v n) s w = absurd w
+one_marked (PutsChar v) s w = absurd w
+one_marked (PutsString a n) s w = absurd w
+one_marked PutsNothing s w = absurd w
+one_marked PutsLn s w = absurd w
+one_marked (Places a) s w = absurd w
+one_marked (Lengths a) s w = absurd w
+one_marked (Opens v) s w = absurd w
+one_marked (Sizes v d) s w = absurd w
+one_marked (Tests v t) s w = absurd w
+
+start_finds : (q : Question) (s s' : Stack) → IsWork q → on_kind R (λ o s1. Sees (Starts o) s1) s ≡ Sees q s' → Found q s s'
+start_finds (Starts v) s s' w e = start_on_top s v s' e
+start_finds Enters [] s' w e = absurd (cc e)
+start_finds Enters (x ∷ s) s' w e = by (is_of R x) e
+  where
+    by : (b : Bool) → (if b then Sees (Starts x) s else Stops lost) ≡ Sees Enters s' → x ∷ s ≡ s'
+    by true e' = absurd (cc e')
+    by false e' = absurd (cc e')
+start_finds Leaves [] s' w e = absurd (cc e)
+start_finds Leaves (x ∷ s) s' w e = by (is_of R x) e
+  where
+    by : (b : Bool) → (if b then Sees (Starts x) s else Stops lost) ≡ Sees Leaves s' → x ∷ s ≡ s'
+    by true e' = absurd (cc e')
+    by false e' = absurd (cc e')
+start_finds (Reads k a) s s' w e = absurd w
+start_finds (Stores a v) s s' w e = absurd w
+start_finds (Copies n a b) s s' w e = absurd w
+start_finds (PutsText strict a n b m) s s' w e = absurd w
+start_finds (ComparesTexts r a n b m) s s' w e = absurd w
+start_finds (Calls how p vs) s s' w e = absurd w
+start_finds (Ends r) s s' w e = absurd w
+start_finds (Makes t vs) s s' w e = absurd w
+start_finds (PutsInt v n) s s' w e = absurd w
+start_finds (PutsChar v) s s' w e = absurd w
+start_finds (PutsString a n) s s' w e = absurd w
+start_finds PutsNothing s s' w e = absurd w
+start_finds PutsLn s s' w e = absurd w
+start_finds (Places a) s s' w e = absurd w
+start_finds (Lengths a) s s' w e = absurd w
+start_finds (Opens v) s s' w e = absurd w
+start_finds (Sizes v d) s s' w e = absurd w
+start_finds (Tests v t) s s' w e = absurd w
+
+-- an entry or an end finds what it leaves
+region_finds : (r q : Question) (s s' : Stack) → Found r s s → IsWork q → Sees r s ≡ Sees q s' → Found q s s'
+region_finds r q s s' h w e =
+    let a : r ≡ q = cc e in
+    let b : s ≡ s' = cc e in
+    subst (λ x. Found q s x) b (subst (λ x. Found x s s) a h)
+
+act_finds : (tables : Tables) (own : ℕ) (here : Here) (i : Instr) (code : List Instr) (at : ℕ) (s : Stack) (q : Question) (s' : Stack) → IsWork q → act tables.procedures tables.types own (in_code here) i code at s ≡ Sees q s' → Found q s s'
+act_finds tables own here i code at s q s' w e = by (act_kind tables own here i code at s)
+  where
+    by : (mark (act tables.procedures tables.types own (in_code here) i code at s) ≡ 0) ⊎ ((i ≡ instr.Start) ⊎ ((i ≡ instr.Enter) ⊎ (i ≡ instr.Leave))) → Found q s s'
+    by (inl h) = absurd (let z : 0 ≡ 1 = sym h ∙ ap mark e ∙ one_marked q s' w in cc z)
+    by (inr (inl h)) = start_finds q s s' w (ap (λ x. act tables.procedures tables.types own (in_code here) x code at s) (sym h) ∙ e)
+    by (inr (inr (inl h))) = region_finds Enters q s s' refl w (ap (λ x. act tables.procedures tables.types own (in_code here) x code at s) (sym h) ∙ e)
+    by (inr (inr (inr h))) = region_finds Leaves q s s' refl w (ap (λ x. act tables.procedures tables.types own (in_code here) x code at s) (sym h) ∙ e)
+
+module _ (tables : Tables) (made : ℕ → Option Made) (own : ℕ) (here : Here) (cells : List Cell) (code : List Instr) (q : Question) (work : IsWork q) (p : ℕ) (k' : Keeps) (s' : Stack) where
   -- the instruction that asks, and the operands that it finds
   record Asked : Type 0 where
     instruction : Instr
@@ -299,7 +381,7 @@ module _ (tables : Tables) (made : ℕ → Option Made) (own : ℕ) (here : Here
     told_asks : (t : Told) (k : Keeps) (s1 : Stack) → on_told t next at k s1 ≡ Work q p k' s' → Asked
     told_asks (Tells vs) k s1 e = ih 0 k (vs ++ s1) e
     told_asks (Refuses n) k s1 e = absurd (cc e)
-    told_asks (Invokes n us) k s1 e = absurd (cc e)
+    told_asks (Invokes n us) k s1 e = let other : q ≡ Calls ByName n us = cc e in absurd (subst IsWork other work)
     told_asks Unheard k s1 e = absurd (cc e)
 
     act_asks : (a : Act) (k : Keeps) → act tables.procedures tables.types own (in_code here) i code at s ≡ a → on_act tables.procedures tables.types made cells a next at k ≡ Work q p k' s' → Asked
@@ -316,24 +398,56 @@ module _ (tables : Tables) (made : ℕ → Option Made) (own : ℕ) (here : Here
   walk_asks (i ∷ rest) zero at k s there e =
       act_asks i rest at there (walk tables.procedures tables.types made own (in_code here) cells code rest) (λ over k1 s1 e1. walk_asks rest over (at + 1) k1 s1 (drop_next at code i rest there) e1) s (act tables.procedures tables.types own (in_code here) i code at s) k refl e
 
--- from where silent work has come to a start, with the object on top
-module _ (tables : Tables) (made : ℕ → Option Made) (own : ℕ) (here : Here) (cells : List Cell) (code : List Instr) (at : ℕ) (k : Keeps) (s : Stack) (v : Cell) (p : ℕ) (k' : Keeps) (s' : Stack) (e : silent tables.procedures tables.types made own (in_code here) cells code at k s ≡ Work (Starts v) p k' s') where
-  abbrev asking : Asked tables made own here cells code v p k' s'
-  asking = walk_asks tables made own here cells code v p k' s' (drop at code) 0 at k s refl e
+-- from where silent work has come to such work, with what it finds on the stack
+module _ (tables : Tables) (made : ℕ → Option Made) (own : ℕ) (here : Here) (cells : List Cell) (code : List Instr) (at : ℕ) (k : Keeps) (s : Stack) (q : Question) (work : IsWork q) (p : ℕ) (k' : Keeps) (s' : Stack) (e : silent tables.procedures tables.types made own (in_code here) cells code at k s ≡ Work q p k' s') (top : Stack) (found : (st : Stack) → Found q st s' → st ≡ top) where
+  abbrev asking : Asked tables made own here cells code q work p k' s'
+  asking = walk_asks tables made own here cells code q work p k' s' (drop at code) 0 at k s refl e
 
-  starts_so : act tables.procedures tables.types own (in_code here) asking.instruction code p (v ∷ s') ≡ Sees (Starts v) s'
-  starts_so =
-      ap (λ x. act tables.procedures tables.types own (in_code here) asking.instruction code p x) (sym (act_starts tables own here asking.instruction code p asking.stack v s' asking.asks)) ∙ asking.asks
+  asks_so : act tables.procedures tables.types own (in_code here) asking.instruction code p top ≡ Sees q s'
+  asks_so =
+      ap (λ x. act tables.procedures tables.types own (in_code here) asking.instruction code p x) (sym (found asking.stack (act_finds tables own here asking.instruction code p asking.stack q s' work asking.asks))) ∙ asking.asks
 
   -- it comes to the same, whatever objects are known
+  pub silent_at_work : (known : ℕ → Option Made) → silent tables.procedures tables.types known own (in_code here) cells code p k' top ≡ Work q p k' s'
+  silent_at_work known =
+      ap (λ l. walk tables.procedures tables.types known own (in_code here) cells code l 0 p k' top) asking.there
+      ∙ ap (λ a. on_act tables.procedures tables.types known cells a (walk tables.procedures tables.types known own (in_code here) cells code asking.rest) p k') asks_so
+      ∙ ap (λ n. on_noted n q (walk tables.procedures tables.types known own (in_code here) cells code asking.rest) p k' s') asking.visible
+
+module _ (tables : Tables) (made : ℕ → Option Made) (own : ℕ) (here : Here) (cells : List Cell) (code : List Instr) (at : ℕ) (k : Keeps) (s : Stack) (v : Cell) (p : ℕ) (k' : Keeps) (s' : Stack) (e : silent tables.procedures tables.types made own (in_code here) cells code at k s ≡ Work (Starts v) p k' s') where
   pub silent_at_start : (known : ℕ → Option Made) → silent tables.procedures tables.types known own (in_code here) cells code p k' (v ∷ s') ≡ Work (Starts v) p k' s'
-  silent_at_start known =
-      ap (λ l. walk tables.procedures tables.types known own (in_code here) cells code l 0 p k' (v ∷ s')) asking.there
-      ∙ ap (λ a. on_act tables.procedures tables.types known cells a (walk tables.procedures tables.types known own (in_code here) cells code asking.rest) p k') starts_so
+  silent_at_start = silent_at_work tables made own here cells code at k s (Starts v) tt p k' s' e (v ∷ s') (λ st h. h)
+
+  abbrev started : Asked tables made own here cells code (Starts v) tt p k' s'
+  started = asking tables made own here cells code at k s (Starts v) tt p k' s' e (v ∷ s') (λ st h. h)
 
   -- and the code goes on behind it
   pub run_at_start : run tables own here code p k' (v ∷ s') ≡ Asks (Starts v) (λ x. run tables own here code (p + 1) k' s')
   run_at_start =
-      ap (λ l. runs tables own here code l 0 p k' (v ∷ s')) asking.there
-      ∙ ap (λ a. on_run tables a (runs tables own here code asking.rest) p k') starts_so
-      ∙ ap (λ l. Asks (Starts v) (λ x. runs tables own here code l 0 (p + 1) k' s')) (sym (drop_next p code asking.instruction asking.rest asking.there))
+      ap (λ l. runs tables own here code l 0 p k' (v ∷ s')) started.there
+      ∙ ap (λ a. on_run tables a (runs tables own here code started.rest) p k') (asks_so tables made own here cells code at k s (Starts v) tt p k' s' e (v ∷ s') (λ st h. h))
+      ∙ ap (λ l. Asks (Starts v) (λ x. runs tables own here code l 0 (p + 1) k' s')) (sym (drop_next p code started.instruction started.rest started.there))
+
+-- so it does at the entry of a region, and at its end
+module _ (tables : Tables) (made : ℕ → Option Made) (own : ℕ) (here : Here) (cells : List Cell) (code : List Instr) (at : ℕ) (k : Keeps) (s : Stack) (p : ℕ) (k' : Keeps) (s' : Stack) where
+  pub silent_at_entry : silent tables.procedures tables.types made own (in_code here) cells code at k s ≡ Work Enters p k' s' → (known : ℕ → Option Made) → silent tables.procedures tables.types known own (in_code here) cells code p k' s' ≡ Work Enters p k' s'
+  silent_at_entry e = silent_at_work tables made own here cells code at k s Enters tt p k' s' e s' (λ st h. h)
+
+  pub silent_at_end : silent tables.procedures tables.types made own (in_code here) cells code at k s ≡ Work Leaves p k' s' → (known : ℕ → Option Made) → silent tables.procedures tables.types known own (in_code here) cells code p k' s' ≡ Work Leaves p k' s'
+  silent_at_end e = silent_at_work tables made own here cells code at k s Leaves tt p k' s' e s' (λ st h. h)
+
+-- and from there the code asks so
+module _ (tables : Tables) (made : ℕ → Option Made) (own : ℕ) (here : Here) (cells : List Cell) (code : List Instr) (at : ℕ) (k : Keeps) (s : Stack) (p : ℕ) (k' : Keeps) (s' : Stack) where
+  pub run_at_entry : silent tables.procedures tables.types made own (in_code here) cells code at k s ≡ Work Enters p k' s' → run tables own here code p k' s' ≡ Asks Enters (λ x. run tables own here code (p + 1) k' s')
+  run_at_entry e =
+      let there = asking tables made own here cells code at k s Enters tt p k' s' e s' (λ st h. h) in
+      ap (λ l. runs tables own here code l 0 p k' s') there.there
+      ∙ ap (λ a. on_run tables a (runs tables own here code there.rest) p k') (asks_so tables made own here cells code at k s Enters tt p k' s' e s' (λ st h. h))
+      ∙ ap (λ l. Asks Enters (λ x. runs tables own here code l 0 (p + 1) k' s')) (sym (drop_next p code there.instruction there.rest there.there))
+
+  pub run_at_end : silent tables.procedures tables.types made own (in_code here) cells code at k s ≡ Work Leaves p k' s' → run tables own here code p k' s' ≡ Asks Leaves (λ x. run tables own here code (p + 1) k' s')
+  run_at_end e =
+      let there = asking tables made own here cells code at k s Leaves tt p k' s' e s' (λ st h. h) in
+      ap (λ l. runs tables own here code l 0 p k' s') there.there
+      ∙ ap (λ a. on_run tables a (runs tables own here code there.rest) p k') (asks_so tables made own here cells code at k s Leaves tt p k' s' e s' (λ st h. h))
+      ∙ ap (λ l. Asks Leaves (λ x. runs tables own here code l 0 (p + 1) k' s')) (sym (drop_next p code there.instruction there.rest there.there))

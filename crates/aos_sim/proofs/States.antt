@@ -1,9 +1,10 @@
 -- The store and the memory that shows it, and an activity's frames on both sides.
-use Rattle.std.proofs.Common.{◌≡◌, Bool, true, false, ℕ, zero, suc, pos, ◌<◌, ◌^◌, List, [], ◌∷◌, ◌++◌, length, map, Option, Some, None, if◌then◌else◌, refl, sym, ap, ◌∙◌, subst, arith}
+use Rattle.std.proofs.Common.{◌≡◌, inl, inr, Bool, true, false, ℕ, zero, suc, pos, ◌<◌, ◌^◌, List, [], ◌∷◌, ◌++◌, length, map, Option, Some, None, if◌then◌else◌, refl, sym, ap, ◌∙◌, subst, arith}
 use Rattle.std.specs.Prelude.{All, slice_get, option_map, nat_eq}
 use Rattle.std.proofs.lemmas.Bool.{eq-eqb}
 use Rattle.std.proofs.lemmas.List.{length-map}
 use Rattle.aos_base.specs.declared.text.Pos.{Pos}
+use Rattle.aos_base.specs.declared.kernel.LockName.{LockName}
 use Rattle.aos_base.specs.declared.place.Root.TheVariants.{Frame as FrameRoot, Module as ModuleRoot, Object as ObjectRoot}
 use Rattle.aos_base.specs.Rooted.{Made, from_last, by_number}
 use Rattle.aos_base.specs.Question.{Asks, Ends, feed}
@@ -11,7 +12,7 @@ use Rattle.aos_types.specs.Shape.{Shape, Nothing, size}
 use Rattle.aos_types.specs.Content.{Content}
 use Rattle.aos_types.specs.World.{World, Grows, world}
 use Rattle.aos_typed.specs.declared.tree.TType.{TType}
-use Rattle.aos_typed.specs.Program.{Stats, Procedure, Module, Program}
+use Rattle.aos_typed.specs.Program.{Body, Procedure, Module, Program}
 use Rattle.aos_typed.specs.Numbers.{id_of, id_of_made}
 use Rattle.aos_typed.specs.Routines.{Routine, self_type, result_of, gives, routines}
 use Rattle.aos_typed.specs.Sort.{Sort, Plain}
@@ -19,14 +20,13 @@ use Rattle.aos_typed.specs.Value.{Value}
 use Rattle.aos_types.specs.Table.{row_of}
 use Rattle.aos_typed.specs.Typing.{Is, IsPlain, HasLengths}
 use Rattle.aos_typed.specs.Store.{Store}
-use Rattle.aos_typed.specs.Meaning.{Here, Item, After, Into, Returns, Exits, items_of, item_of}
+use Rattle.aos_typed.specs.Meaning.{Here, Item, After, Into, Returns, Exits, leave_all, body_items, item_of}
 use Rattle.aos_typed.specs.Source as S
-use Rattle.aos_typed.specs.Source.{made_shape, first_value}
+use Rattle.aos_typed.specs.Source.{made_shape, first_value, locks_in}
 use Rattle.aos_code.specs.declared.instr.Cell.{Cell}
 use Rattle.aos_code.specs.declared.instr.Cell.TheVariants.{Num}
 use Rattle.aos_code.specs.declared.image.Image.{Image}
 use Rattle.aos_code.specs.Memory.{Memory}
-use Rattle.aos_code.specs.Numbered.{numbered}
 use Rattle.aos_code.specs.Silent.{Keeps, Stack}
 use Rattle.aos_code.specs.Machine as I
 use Rattle.aos_code.specs.Machine.{code_of}
@@ -37,7 +37,8 @@ use Rattle.aos_sim.specs.Cells.{cell_of}
 use Rattle.aos_sim.proofs.Kept.{values_kept}
 use Rattle.aos_sim.proofs.Runs.{Run, tables_of, run}
 use Rattle.aos_sim.proofs.Does.{scheme, HasTypes, HasShapes, IsSelf, self_grows, IsFrameOf, IsAnswer, IsResult, AreReached, IsWhole, Does, does_last, lasts_grow}
-use Rattle.aos_sim.proofs.Carries.{GoesOn, Remains, Behind}
+use Rattle.aos_sim.proofs.Regions.{body_none}
+use Rattle.aos_sim.proofs.Carries.{GoesOn, GivesBack, Returning, Remains, Behind}
 use Rattle.aos_sim.proofs.First.{all_get, zero_cell, first_is, first_same}
 
 -- the world of the topmost of these frames
@@ -85,10 +86,34 @@ abbrev pub with_answer : World Sort → Option TType → Value → Stack → Sta
 with_answer w None v s = s
 with_answer w (Some t) v s = cell_of w v ∷ s
 
+-- a frame's region is open exactly where its items have a mark, and they have one at most
+abbrev pub locks_open : Bool → LockName → List LockName
+locks_open true l = l ∷ []
+locks_open false l = []
+
+abbrev pub IsOpen : S.Frame → I.Frame → Type 0
+IsOpen f g = locks_in (S.lock_of f) f.items ≡ locks_open g.is_open (S.lock_of f)
+
+abbrev pub SameRegions : List S.Frame → List I.Frame → Type 0
+SameRegions [] [] = Unit {0}
+SameRegions [] (g ∷ gs) = ⊥
+SameRegions (f ∷ fs) [] = ⊥
+SameRegions (f ∷ fs) (g ∷ gs) = IsOpen f g × SameRegions fs gs
+
+-- with a result
+pub ends_open : (ms ps : List ℕ) (v : Value) (c : Option Cell) (fs : List S.Frame) (gs : List I.Frame) → SameRegions fs gs → SameRegions (S.with_result ms v fs) (I.with_result ps c gs)
+ends_open ms ps v None [] gs h = h
+ends_open ms ps v None (f ∷ fs) [] h = absurd h
+ends_open ms ps v None (f ∷ fs) (g ∷ gs) h = h
+ends_open ms ps v (Some c) [] [] h = h
+ends_open ms ps v (Some c) [] (g ∷ gs) h = absurd h
+ends_open ms ps v (Some c) (f ∷ fs) [] h = absurd h
+ends_open ms ps v (Some c) (f ∷ fs) (g ∷ gs) h = h
+
 module _ (program : Program) (image : Image) where
   -- a frame is one of the routine with its procedure's number, of the object of the other side's, has begun the same statement, and
-  -- counts alike; its region isn't open
-  pub record SamePlace (made : ℕ → Option Made) (procedure home object : ℕ) (at : Option Pos) (function : Bool) (shape : Shape Sort) (counted of : ℕ) (begun : Option Pos) (many : ℕ) (is_open : Bool) : Type 0 where
+  -- counts alike; what is called on no object has none
+  pub record SamePlace (made : ℕ → Option Made) (procedure home object : ℕ) (at : Option Pos) (function : Bool) (shape : Shape Sort) (counted of : ℕ) (begun : Option Pos) (many : ℕ) : Type 0 where
     pub routine : Routine
     pub there : by_number procedure (routines program) ≡ Some routine
     pub home_is : routine.home ≡ home
@@ -96,12 +121,12 @@ module _ (program : Program) (image : Image) where
     pub at_is : begun ≡ at
     pub gives_is : function ≡ gives routine.own
     pub counted_is : many ≡ counted
-    pub closed_is : is_open ≡ false
+    pub none_is : self_type routine.own ≡ None → object ≡ 0
     pub frame : IsFrameOf program routine.own shape
     pub self : IsSelf program made (self_type routine.own) object
 
   abbrev pub Placed : (ℕ → Option Made) → S.Frame → I.Frame → Type 0
-  Placed made f g = SamePlace made g.procedure f.home f.object f.at f.gives f.shape f.counted g.object g.at g.counted g.is_open
+  Placed made f g = SamePlace made g.procedure f.home f.object f.at f.gives f.shape f.counted g.object g.at g.counted
 
   -- as objects are made
   abbrev pub place_grows : (made made' : ℕ → Option Made) → ((o : ℕ) (m : Made) → made o ≡ Some m → made' o ≡ Some m) → (f : S.Frame) (g : I.Frame) → Placed made f g → Placed made' f g
@@ -114,7 +139,7 @@ module _ (program : Program) (image : Image) where
         at_is = h.at_is;
         gives_is = h.gives_is;
         counted_is = h.counted_is;
-        closed_is = h.closed_is;
+        none_is = h.none_is;
         frame = h.frame;
         self = self_grows program made made' up (self_type h.routine.own) f.object h.self;
       }
@@ -173,7 +198,7 @@ module _ (program : Program) (image : Image) where
   -- the code of each routine carries out its statements
   abbrev pub RoutinesRun : Type 0
   RoutinesRun =
-      (p : ℕ) (r : Routine) → by_number p (routines program) ≡ Some r → (here : Here) → GoesOn program r.own (tables_of image) p here (code_of image p) (items_of r.body) (run (tables_of image) p here (code_of image p) 0 (λ c. Num (pos 0)) [])
+      (p : ℕ) (r : Routine) → by_number p (routines program) ≡ Some r → (here : Here) → GoesOn program r.own (tables_of image) p here (code_of image p) (body_items r.body) (run (tables_of image) p here (code_of image p) 0 (λ c. Num (pos 0)) [])
 
   -- the bodies of modules that are to follow, and the procedures that they are
   abbrev pub Follows : List ℕ → List ℕ → Type 0
@@ -184,28 +209,12 @@ module _ (program : Program) (image : Image) where
       ((x : Module) × (slice_get program.modules m ≡ Some x) × (by_number p (routines program) ≡ Some (record { home = m; own = None; body = x.body })))
       × Follows ms ps
 
-  -- no region of theirs is open
-  pub waiting_closed : (made : List Made) (result : Option TType) (fs : List S.Frame) (gs : List I.Frame) → Waiting made result fs gs → I.regions_of image gs ≡ []
-  waiting_closed made result [] [] h = refl
-  waiting_closed made result [] (g ∷ gs) h = absurd h
-  waiting_closed made result (f ∷ fs) [] h = absurd h
-  waiting_closed made result (f ∷ fs) (g ∷ gs) h =
-      ap (λ b. if b then I.lock_in (numbered image.shapes.items g.procedure) g ∷ I.regions_of image gs else I.regions_of image gs) h.0.place.closed_is
-      ∙ waiting_closed made (result_of h.0.place.routine.own) fs gs h.1
-
-  pub frames_closed : (made : List Made) (fs : List S.Frame) (gs : List I.Frame) → SameFrames made fs gs → I.regions_of image gs ≡ []
-  frames_closed made [] [] h = refl
-  frames_closed made [] (g ∷ gs) h = absurd h
-  frames_closed made (f ∷ fs) [] h = absurd h
-  frames_closed made (f ∷ fs) (g ∷ gs) h =
-      ap (λ b. if b then I.lock_in (numbered image.shapes.items g.procedure) g ∷ I.regions_of image gs else I.regions_of image gs) h.0.place.closed_is
-      ∙ waiting_closed made (result_of h.0.place.routine.own) fs gs h.1
-
   -- all of an activity, where these objects were made
   pub record Same (made : List Made) (x : S.Frames) (y : I.Frames) : Type 0 where
     pub follows : Follows x.following y.following
     pub frames : SameFrames made x.frames y.frames
     pub shown : SameVariables program made x.frames y.frames
+    pub regions : SameRegions x.frames y.frames
 
   -- and of the stores
   pub record SameState (s : Store) (mem : Memory) (x : S.Frames) (y : I.Frames) : Type 0 where
@@ -267,15 +276,25 @@ module _ (program : Program) (image : Image) where
   result_grows w w' g (Some t) (Some v) h =
       ((values_kept program).is w w' g (Plain (id_of t)) v h, ap (λ c. Some c) ((values_kept program).cells w w' g (Plain (id_of t)) v h))
 
-  pub behind_grows : (w w' : World Sort) → Grows w w' → (own : Option Procedure) (number : ℕ) (here : Here) (is : List Item) (a : After) (m : Run) → Behind program own (tables_of image) number here (code_of image number) is w a m → Behind program own (tables_of image) number here (code_of image number) is w' a m
-  behind_grows w w' g own number here is (Into new) m h = h
-  behind_grows w w' g own number here is Exits m h = h
-  behind_grows w w' g own number here is (Returns r) m h =
+  gives_grows : (w w' : World Sort) → Grows w w' → (own : Option Procedure) (number : ℕ) (here : Here) (r : Option Value) (m : Run) → GivesBack program own (tables_of image) number here (code_of image number) w r m → GivesBack program own (tables_of image) number here (code_of image number) w' r m
+  gives_grows w w' g own number here r m h =
       let k = result_grows w w' g (result_of own) r h.2 in
       (h.0, h.1 ∙ ap (λ o. Asks (Ends o) h.0) k.1, k.0)
 
+  returning_grows : (w w' : World Sort) → Grows w w' → (own : Option Procedure) (number : ℕ) (here : Here) (r : Option Value) (is : List Item) (m : Run) → Returning program own (tables_of image) number here (code_of image number) w r is m → Returning program own (tables_of image) number here (code_of image number) w' r is m
+  returning_grows w w' g own number here r is m (inl h) = inl (h.0, gives_grows w w' g own number here r m h.1)
+  returning_grows w w' g own number here r is m (inr h) =
+      inr (h.0, (h.1.0, h.1.1, λ x. gives_grows w w' g own number here r (h.1.0 x) (h.1.2 x)))
+
+  pub behind_grows : (w w' : World Sort) → Grows w w' → (own : Option Procedure) (number : ℕ) (here : Here) (is : List Item) (a : After) (m : Run) → Behind program own (tables_of image) number here (code_of image number) is w a m → Behind program own (tables_of image) number here (code_of image number) is w' a m
+  behind_grows w w' g own number here is (Into new) m h = h
+  behind_grows w w' g own number here is Exits m h = h
+  behind_grows w w' g own number here is (Returns r) m h = returning_grows w w' g own number here r (leave_all r is) m h
+
   remains_grows : (w w' : World Sort) → Grows w w' → (own : Option Procedure) (number : ℕ) (here : Here) (c : Content Value) (cells : List Cell) (answers : Option (List Value)) (is : List Item) (next : ℕ) (k : Keeps) (st : Stack) → Remains program own (tables_of image) number here (code_of image number) c cells w answers is next k st → Remains program own (tables_of image) number here (code_of image number) c cells w' answers is next k st
-  remains_grows w w' g own number here c cells None is next k st h = h
+  remains_grows w w' g own number here c cells None is next k st (inl h) = inl h
+  remains_grows w w' g own number here c cells None is next k st (inr h) =
+      inr (h.0, returning_grows w w' g own number here h.0 is (run (tables_of image) number here (code_of image number) next k st) h.1)
   remains_grows w w' g own number here c cells (Some t) [] next k st h = absurd h
   remains_grows w w' g own number here c cells (Some t) (i ∷ is) next k st h =
       let code = code_of image number in
@@ -335,36 +354,37 @@ module _ (program : Program) (image : Image) where
   -- The next body.
 
   -- a routine without variables that gives nothing: the body of a module or of an object
-  pub body_same : RoutinesRun → (made : List Made) (o p : ℕ) (r : Routine) → by_number p (routines program) ≡ Some r → false ≡ gives r.own → IsFrameOf program r.own Nothing → IsSelf program (λ o. by_number o made) (self_type r.own) o → SameFrames made (S.body_frame r.home o r.body ∷ []) (I.body_frame o p ∷ [])
-  body_same runs made o p r there proper frame self = (
+  pub body_same : RoutinesRun → (made : List Made) (o p : ℕ) (r : Routine) → by_number p (routines program) ≡ Some r → false ≡ gives r.own → IsFrameOf program r.own Nothing → IsSelf program (λ o. by_number o made) (self_type r.own) o → (self_type r.own ≡ None → o ≡ 0) → SameFrames made (S.body_frame r.home o r.body ∷ []) (I.body_frame o p ∷ [])
+  body_same runs made o p r there proper frame self none = (
     record {
-      place = record { routine = r; there = there; home_is = refl; object_is = refl; at_is = refl; gives_is = proper; counted_is = refl; closed_is = refl; frame = frame; self = self };
-      remains = (refl, runs p r there (record { below = 0; self = o }));
+      place = record { routine = r; there = there; home_is = refl; object_is = refl; at_is = refl; gives_is = proper; counted_is = refl; none_is = none; frame = frame; self = self };
+      remains = inl (runs p r there (record { below = 0; self = o }));
     },
     tt,
   )
 
-  pub body_shown : (made : List Made) (o p home : ℕ) (ss : Stats) → SameVariables program made (S.body_frame home o ss ∷ []) (I.body_frame o p ∷ [])
-  body_shown made o p home ss = (record { fits = tt; same = refl }, tt)
+  pub body_shown : (made : List Made) (o p home : ℕ) (b : Body) → SameVariables program made (S.body_frame home o b ∷ []) (I.body_frame o p ∷ [])
+  body_shown made o p home b = (record { fits = tt; same = refl }, tt)
 
-  opened_by_same : RoutinesRun → (made : List Made) (fs : List S.Frame) (gs : List I.Frame) (ms ps : List ℕ) → Follows ms ps → SameFrames made fs gs → SameVariables program made fs gs → Same made (S.opened_by program fs ms) (I.opened_by gs ps)
-  opened_by_same runs made [] [] [] [] follows h shown = record { follows = tt; frames = tt; shown = tt }
-  opened_by_same runs made [] [] [] (p ∷ ps) follows h shown = absurd follows
-  opened_by_same runs made [] [] (m ∷ ms) [] follows h shown = absurd follows
-  opened_by_same runs made [] [] (m ∷ ms) (p ∷ ps) follows h shown =
+  opened_by_same : RoutinesRun → (made : List Made) (fs : List S.Frame) (gs : List I.Frame) (ms ps : List ℕ) → Follows ms ps → SameFrames made fs gs → SameVariables program made fs gs → SameRegions fs gs → Same made (S.opened_by program fs ms) (I.opened_by gs ps)
+  opened_by_same runs made [] [] [] [] follows h shown marks = record { follows = tt; frames = tt; shown = tt; regions = tt }
+  opened_by_same runs made [] [] [] (p ∷ ps) follows h shown marks = absurd follows
+  opened_by_same runs made [] [] (m ∷ ms) [] follows h shown marks = absurd follows
+  opened_by_same runs made [] [] (m ∷ ms) (p ∷ ps) follows h shown marks =
       let x = follows.0.0 in
       subst (λ o. Same made (S.next_body program m ms o) (I.opened_by [] (p ∷ ps))) (sym follows.0.1)
       (record {
         follows = follows.1;
-        frames = body_same runs made 0 p (record { home = m; own = None; body = x.body }) follows.0.2 refl (body_frame program Nothing (omega arith)) tt;
+        frames = body_same runs made 0 p (record { home = m; own = None; body = x.body }) follows.0.2 refl (body_frame program Nothing (omega arith)) tt (λ e. refl);
         shown = body_shown made 0 p m x.body;
+        regions = (body_none (S.lock_of (S.body_frame m 0 x.body)) x.body, tt);
       })
-  opened_by_same runs made [] (g ∷ gs) ms ps follows h shown = absurd h
-  opened_by_same runs made (f ∷ fs) [] ms ps follows h shown = absurd h
-  opened_by_same runs made (f ∷ fs) (g ∷ gs) ms ps follows h shown = record { follows = follows; frames = h; shown = shown }
+  opened_by_same runs made [] (g ∷ gs) ms ps follows h shown marks = absurd h
+  opened_by_same runs made (f ∷ fs) [] ms ps follows h shown marks = absurd h
+  opened_by_same runs made (f ∷ fs) (g ∷ gs) ms ps follows h shown marks = record { follows = follows; frames = h; shown = shown; regions = marks }
 
   pub opened_same : RoutinesRun → (made : List Made) (x : S.Frames) (y : I.Frames) → Same made x y → Same made (S.opened program x) (I.opened y)
-  opened_same runs made x y h = opened_by_same runs made x.frames y.frames x.following y.following h.follows h.frames h.shown
+  opened_same runs made x y h = opened_by_same runs made x.frames y.frames x.following y.following h.follows h.frames h.shown h.regions
 
   -- As objects are made.
 
@@ -405,4 +425,5 @@ module _ (program : Program) (image : Image) where
           follows = h.follows;
           frames = frames_grow x.frames y.frames h.frames;
           shown = shown_grow (shapes_of x.frames) (map (λ f. f.variables) x.frames) (map (λ g. g.cells) y.frames) h.shown;
+          regions = h.regions;
         }

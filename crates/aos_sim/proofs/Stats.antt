@@ -1,6 +1,6 @@
 -- The code of statements without statements in them does what the statement does, and what is left of a body is carried out from the
 -- place that it leaves.
-use Rattle.std.proofs.Common.{◌≡◌, ℕ, ℤ, suc, pos, ◌+◌, ◌<◌, ◌≤◌, ◌-◌, zero, Bool, true, false, Option, List, [], ◌∷◌, ◌++◌, length, drop, Some, None, if◌then◌else◌, refl, sym, ap, ◌∙◌, subst, arith, append-nil, append_assoc, length-append}
+use Rattle.std.proofs.Common.{◌≡◌, ◌≢◌, inl, inr, ℕ, ℤ, suc, pos, ◌+◌, ◌<◌, ◌≤◌, ◌-◌, zero, Bool, true, false, Option, List, [], ◌∷◌, ◌++◌, length, drop, Some, None, if◌then◌else◌, refl, sym, ap, ◌∙◌, subst, arith, append-nil, append_assoc, length-append}
 use Rattle.std.specs.Prelude.{option_map}
 use Rattle.std.proofs.lemmas.Bool.{le-ltb, lt-ltb}
 use Rattle.std.proofs.lemmas.List.{drop-drop}
@@ -12,14 +12,14 @@ use Rattle.aos_types.specs.Table.{row_of}
 use Rattle.aos_types.specs.World.{World}
 use Rattle.aos_typed.specs.declared.tree.TType.{TType}
 use Rattle.aos_typed.specs.declared.tree.TType.TheVariants as type
-use Rattle.aos_typed.specs.Program.{Place, Rows, Arguments, Callee, Expr, Call, Open as OutOpen, Char as OutChar, Int as OutInt, String as OutString, Ln as OutLn, Stat, Assign, Copy, PutText, If, Case, While, Repeat, Loop, Exit, For, Block, Assert, Halt, Change, Perform, Return, New, Make, With, WithRecord, Out, Stats, Procedure, Program}
+use Rattle.aos_typed.specs.Program.{Place, Rows, Arguments, Callee, Expr, Call, Open as OutOpen, Char as OutChar, Int as OutInt, String as OutString, Ln as OutLn, Stat, Assign, Copy, PutText, If, Case, While, Repeat, Loop, Exit, For, Block, Assert, Halt, Change, Perform, Return, New, Make, With, WithRecord, Out, Stats, Body, Procedure, Program}
 use Rattle.aos_typed.specs.Numbers.{id_of}
 use Rattle.aos_typed.specs.Routines.{result_of}
 use Rattle.aos_typed.specs.Sort.{Sort, Plain, variable_shape}
 use Rattle.aos_typed.specs.Spot.{Spot}
 use Rattle.aos_typed.specs.Value.{Value, Int, Flag, is_true}
 use Rattle.aos_typed.specs.Meaning as source
-use Rattle.aos_typed.specs.Meaning.{Here, Doing, Found, text_length, Item, After, Into, Returns, leave, items_of, place_of, rows_of, value_of, called as called_of, stat_of, out_of, pos_of}
+use Rattle.aos_typed.specs.Meaning.{Here, Doing, Found, text_length, Item, After, Into, Returns, leave, leave_all, items_of, block_items, body_items, place_of, rows_of, value_of, called as called_of, stat_of, out_of, pos_of}
 use Rattle.aos_types.specs.Shape.{Shape, join}
 use Rattle.aos_types.specs.Content.{EachSort}
 use Rattle.aos_typed.specs.Typing.{Is, IsPlain}
@@ -35,7 +35,7 @@ use Rattle.aos_code.specs.declared.instr.Kind.TheVariants.{N}
 use Rattle.aos_code.specs.Numbered.{numbered}
 use Rattle.aos_code.specs.Silent.{Stack, Keeps, keeps_in, kept, is_of, jumps, lands}
 use Rattle.aos_sim.specs.Cells.{place_in, cell_of}
-use Rattle.aos_sim.specs.Code.{begin, kind_of, cells_of, place_code, rows_code, operands_code, value_code, called_code, stat_code, stats_code, end_code, body_code}
+use Rattle.aos_sim.specs.Code.{begin, kind_of, cells_of, place_code, rows_code, operands_code, value_code, called_code, Within, NoRegion, AroundLoop, InLoop, Ways, block_within, block_ways, body_ways, block_at, block_code, exit_code, return_code, stat_code, stats_code, statements_code, end_code, body_code}
 use Rattle.aos_sim.specs.Need.{keeps_of}
 use Rattle.aos_sim.proofs.Runs.{Run, Onward, Tables, AtBegin, on_run, runs, run, drop_next, drop_past, get_at}
 use Rattle.aos_sim.proofs.Types.{number_cell, is_integer, is_character}
@@ -47,8 +47,8 @@ use Rattle.aos_sim.proofs.Exprs.{scalar_found, place_does, arguments_do, called_
 use Rattle.aos_sim.proofs.Called.{kind_of_value}
 use Rattle.aos_sim.proofs.Sends.{answer_cells, Answered}
 use Rattle.aos_sim.proofs.Shortcuts.{by_flag}
-use Rattle.aos_sim.proofs.Sizes.{stats_length}
-use Rattle.aos_sim.proofs.Carries.{Stands, IsOwn, AtEnd, HasStatements, Carries, bound, GoesOn, Behind, outside, carries_all, StatementDoes}
+use Rattle.aos_sim.proofs.Sizes.{block_alike, stats_length}
+use Rattle.aos_sim.proofs.Carries.{Stands, Same, IsOwn, AtEnd, HasStatement, HasStatements, HasRegion, Carries, bound, returned, GoesOn, GivesBack, Returning, Behind, outside, leaving, leave_all_is, carries_all, StatementDoes}
 use Rattle.aos_sim.proofs.Stash.{keeps_one, takes_one}
 
 module _ (program : Program) (own : Option Procedure) (tables : Tables) (number : ℕ) (here : Here) (code : List Instr) where
@@ -102,21 +102,40 @@ module _ (program : Program) (own : Option Procedure) (tables : Tables) (number 
           ((λ x. Traps 0 0), h ∙ rw (e, is.1, none) refl)
       by (Some t) e h = h ∙ rw e refl
 
-  -- a body, to whose end an EXIT leads that stands in no LOOP
-  pub body_goes : (ss : Stats) (k : Keeps) → AreStatements program own ss → keeps_of ss ≤ keeps_in (numbered tables.procedures number) → code ≡ body_code program own ss → GoesOn program own tables number here code (items_of ss) (run tables number here code 0 k [])
-  body_goes ss k ok holds is =
-      let x = length (stats_code program own ss 0 0 0) in
-      let cs = stats_code program own ss 0 x 0 in
+  -- statements of a body, which are a region where it is exclusive, behind which its end stands; an EXIT that stands in no LOOP leads
+  -- there
+  body_carried : (exclusive : Bool) (ss : Stats) (x : ℕ) (k : Keeps) → AreStatements program own ss → keeps_of ss ≤ keeps_in (numbered tables.procedures number) →
+      (let cs = block_code exclusive (stats_code program own ss (block_at exclusive 0) (body_ways exclusive x) 0) in code ≡ cs ++ end_code program own → x ≡ length cs → GoesOn program own tables number here code (block_items exclusive ss) (run tables number here code 0 k []))
+  body_carried false ss x k ok holds is len =
+      let cs = stats_code program own ss 0 (body_ways false x) 0 in
       let last = end_code program own in
-      let has : HasStatements program own tables number here code ss 0 x 0 = record { stands = record { rest = last; here = is }; typed = ok; holds = holds } in
+      let none : 0 + length cs ≡ length cs = omega arith in
+      let has : HasStatements program own tables number here code ss 0 (body_ways false x) 0 = record { stands = record { rest = last; here = is }; typed = ok; holds = holds } in
       let end : Stands code (0 + length cs) last = record { rest = []; here = drop_past cs 0 code last is ∙ sym (append-nil last) } in
-      let len : length (stats_code program own ss 0 0 0) ≡ 0 + length cs = omega (arith, stats_length program own ss 0 0 x 0) in
-      let exit : Stands code x last = subst (λ n. Stands code n last) (sym len) end in
-      let all = carries_all program own tables number here code ss 0 x 0 k [] has (0 + length cs, omega (arith, len), (λ k s. refl), end, exit) in
-      record { at = 0; exit = x; level = 0; keeps = k; runs = refl; carries = subst (λ is. Carries program own tables number here code is 0 x 0 k) (append-nil (items_of ss)) all }
+      let exit : Stands code x last = subst (λ n. Stands code n last) (none ∙ sym len) end in
+      let all = carries_all program own tables number here code ss 0 (body_ways false x) 0 k [] has (0 + length cs, omega (arith, len), (λ k s. refl), end, exit, refl) in
+      record { at = 0; ways = body_ways false x; level = 0; keeps = k; runs = refl; carries = subst (λ is. Carries program own tables number here code is 0 (body_ways false x) 0 k) (append-nil (items_of ss)) all }
+  body_carried true ss x k ok holds is len =
+      let b = stats_code program own ss 1 (body_ways true x) 0 in
+      let cs = i.Enter ∷ (b ++ i.Leave ∷ []) in
+      let last = end_code program own in
+      let plain = body_ways false x in
+      let has : HasRegion program own tables number here code ss 0 plain 0 = record { stands = record { rest = last; here = is }; typed = ok; holds = holds } in
+      let none : 0 + length cs ≡ length cs = omega arith in
+      let end : Stands code (0 + length cs) last = record { rest = []; here = drop_past cs 0 code last is ∙ sym (append-nil last) } in
+      let exit : Stands code x last = subst (λ n. Stands code n last) (none ∙ sym len) end in
+      record { at = 0; ways = plain; level = 0; keeps = k; runs = refl; carries = (0, omega arith, (λ k s. refl), has, (0 + length cs, omega (arith, len), (λ k s. refl), end, exit, refl)) }
+
+  pub body_goes : (b : Body) (k : Keeps) → AreStatements program own b.statements → keeps_of b.statements ≤ keeps_in (numbered tables.procedures number) → code ≡ body_code program own b → GoesOn program own tables number here code (body_items b) (run tables number here code 0 k [])
+  body_goes b k ok holds is =
+      let e = b.is_exclusive in
+      let ss = b.statements in
+      let x = length (statements_code program own b 0) in
+      let u = block_within e NoRegion in
+      body_carried e ss x k ok holds is (block_alike e _ _ (stats_length program own ss (block_at e 0) u 0 x 0))
 
   -- a statement's code begins with its Begin
-  pub begins_with : (s : Stat) (at x d : ℕ) (k : Keeps) → Stands code at (stat_code program own s at x d) → run tables number here code at k [] ≡ Val (AtBegin at (pos_of s) k [])
+  pub begins_with : (s : Stat) (at : ℕ) (x : Ways) (d : ℕ) (k : Keeps) → Stands code at (stat_code program own s at x d) → run tables number here code at k [] ≡ Val (AtBegin at (pos_of s) k [])
   begins_with (Assign there t p e) at x d k st = ap (λ l. onward l 0 at k []) st.here
   begins_with (Copy there t p q) at x d k st = ap (λ l. onward l 0 at k []) st.here
   begins_with (PutText there strict a b) at x d k st = ap (λ l. onward l 0 at k []) st.here
@@ -127,7 +146,7 @@ module _ (program : Program) (own : Option Procedure) (tables : Tables) (number 
   begins_with (Loop there b) at x d k st = ap (λ l. onward l 0 at k []) st.here
   begins_with (Exit there) at x d k st = ap (λ l. onward l 0 at k []) st.here
   begins_with (For there w p first last step b) at x d k st = ap (λ l. onward l 0 at k []) st.here
-  begins_with (Block there b) at x d k st = ap (λ l. onward l 0 at k []) st.here
+  begins_with (Block there exclusive b) at x d k st = ap (λ l. onward l 0 at k []) st.here
   begins_with (Assert there e c) at x d k st = ap (λ l. onward l 0 at k []) st.here
   begins_with (Halt there c) at x d k st = ap (λ l. onward l 0 at k []) st.here
   begins_with (Change there c p e) at x d k st = ap (λ l. onward l 0 at k []) st.here
@@ -140,13 +159,13 @@ module _ (program : Program) (own : Option Procedure) (tables : Tables) (number 
   begins_with (New there p t more) at x d k st = ap (λ l. onward l 0 at k []) st.here
   begins_with (Out there call) at x d k st = ap (λ l. onward l 0 at k []) st.here
 
-  module _ (x d : ℕ) (k : Keeps) (after : List Item) where
+  module _ (x : Ways) (d : ℕ) (k : Keeps) (after : List Item) where
     abbrev Carried : ℕ → Type 0
     Carried p = Carries program own tables number here code after p x d k
 
     -- a statement that is done, at a place
     pub goes_on : (p : ℕ) (rest : List Instr) → drop p code ≡ rest → Carries program own tables number here code after p x d k → GoesOn program own tables number here code after (runs tables number here code rest 0 p k [])
-    goes_on p rest e c = record { at = p; exit = x; level = d; keeps = k; runs = sym (from_here p rest k [] e); carries = c }
+    goes_on p rest e c = record { at = p; ways = x; level = d; keeps = k; runs = sym (from_here p rest k [] e); carries = c }
 
     -- the statement's last instruction asks, and with the answer the statement is done
     pub last_asks : (q : source.Question) (w : World Sort) (m : Run) (p : ℕ) (rest : List Instr) → m ≡ Asks (placed program w q) (λ x. runs tables number here code rest 0 (p + 1) k []) → Valid program here w q → drop (p + 1) code ≡ rest → Carries program own tables number here code after (p + 1) x d k → Does program here (Behind program own tables number here code after) w m (bind (ask q) (λ _. Val (Into [])))
@@ -177,23 +196,54 @@ module _ (program : Program) (own : Option Procedure) (tables : Tables) (number 
         two_ask P (λ w a. c w a ∷ []) G (λ w b. d w b ∷ []) x q ca cb ra rb there w at
         (λ w w' g a p. let h = stays w w' g a p in (h.0, ap (λ y. y ∷ []) h.1)) known st cont ha hb asks
 
-    -- EXIT leads behind the innermost LOOP
-    pub exit_does : (there : Pos) → StatementDoes program own tables number here code x d k after (Exit there)
-    exit_does there w at known has c =
+    -- EXIT leads behind the innermost LOOP, and leaves the region within it before
+    exit_plain : (there : Pos) (at : ℕ) → HasStatement program own tables number here code (Exit there) at x d → Carried (at + length (stat_code program own (Exit there) at x d)) → exit_code x.within x.exit ≡ i.Jump x.exit ∷ [] → x.within ≢ InLoop → GoesOn program own tables number here code (leave after) (from (at + 1) k [])
+    exit_plain there at has c is never =
         let rest = has.stands.rest in
-        let h1 : drop (at + 1) code ≡ i.Jump x ∷ rest = drop_next at code (begin there) (i.Jump x ∷ rest) has.stands.here in
-        let h2 : drop (at + 1 + 1) code ≡ rest = drop_next (at + 1) code (i.Jump x) rest h1 in
-        let le : at + 2 ≤ x = bound program own tables number here code after (at + 2) x d k c in
-        let jump : from (at + 1) k [] ≡ from x k [] = from_here (at + 1) (i.Jump x ∷ rest) k [] h1 ∙ jumps_on rest x (at + 1) k [] (omega (arith, le)) h2 in
-        subst (λ m. GoesOn program own tables number here code (leave after) m) (sym jump) (outside program own tables number here code after (at + 2) x d k c)
+        let h1 : drop (at + 1) code ≡ i.Jump x.exit ∷ rest = drop_next at code (begin there) (exit_code x.within x.exit ++ rest) has.stands.here ∙ ap (λ l. l ++ rest) is in
+        let h2 : drop (at + 1 + 1) code ≡ rest = drop_next (at + 1) code (i.Jump x.exit) rest h1 in
+        let size : length (exit_code x.within x.exit) ≡ 1 = ap length is in
+        let le : at + 2 ≤ x.exit = omega (arith, size, bound program own tables number here code after (at + suc (length (exit_code x.within x.exit))) x d k c) in
+        let jump : from (at + 1) k [] ≡ from x.exit k [] = from_here (at + 1) (i.Jump x.exit ∷ rest) k [] h1 ∙ jumps_on rest x.exit (at + 1) k [] (omega (arith, le)) h2 in
+        let b = outside program own tables number here code after (at + length (stat_code program own (Exit there) at x d)) x d k c never in
+        record { at = x.exit; ways = b.0; level = b.1; keeps = k; runs = jump; carries = b.2 }
 
-    pub block_does : (there : Pos) (b : Stats) → StatementDoes program own tables number here code x d k after (Block there b)
-    block_does there b w at known has c =
+    exit_leaves : (there : Pos) (at : ℕ) → HasStatement program own tables number here code (Exit there) at x d → Carried (at + length (stat_code program own (Exit there) at x d)) → x.within ≡ InLoop → GoesOn program own tables number here code (leave after) (from (at + 1) k [])
+    exit_leaves there at has c is =
+        let rest = has.stands.rest in
+        let code_is : exit_code x.within x.exit ≡ i.Leave ∷ (i.Jump x.exit ∷ []) = ap (λ u. exit_code u x.exit) is in
+        let h1 : drop (at + 1) code ≡ i.Leave ∷ (i.Jump x.exit ∷ rest) = drop_next at code (begin there) (exit_code x.within x.exit ++ rest) has.stands.here ∙ ap (λ l. l ++ rest) code_is in
+        let h2 : drop (at + 1 + 1) code ≡ i.Jump x.exit ∷ rest = drop_next (at + 1) code i.Leave (i.Jump x.exit ∷ rest) h1 in
+        let h3 : drop (at + 1 + 1 + 1) code ≡ rest = drop_next (at + 1 + 1) code (i.Jump x.exit) rest h2 in
+        let size : length (exit_code x.within x.exit) ≡ 2 = ap length code_is in
+        let le : at + 3 ≤ x.exit = omega (arith, size, bound program own tables number here code after (at + suc (length (exit_code x.within x.exit))) x d k c) in
+        let same : Same program own tables number here code (at + 1 + 1) x.exit = λ k' s. from_here (at + 1 + 1) (i.Jump x.exit ∷ rest) k' s h2 ∙ jumps_on rest x.exit (at + 1 + 1) k' s (omega (arith, le)) h3 in
+        let b = leaving program own tables number here code after (at + length (stat_code program own (Exit there) at x d)) x d k (at + 1) c is (omega (arith, le)) (record { rest = i.Jump x.exit ∷ rest; here = h1 }) same in
+        record { at = at + 1; ways = b.0; level = b.1; keeps = k; runs = refl; carries = b.2 }
+
+    pub exit_does : (there : Pos) → StatementDoes program own tables number here code x d k after (Exit there)
+    exit_does there w at known has c = by x.within refl
+      where
+        by : (u : Within) → x.within ≡ u → GoesOn program own tables number here code (leave after) (from (at + 1) k [])
+        by NoRegion e = exit_plain there at has c (ap (λ u. exit_code u x.exit) e) (λ h. let no : NoRegion ≡ InLoop = sym e ∙ h in cc no)
+        by AroundLoop e = exit_plain there at has c (ap (λ u. exit_code u x.exit) e) (λ h. let no : AroundLoop ≡ InLoop = sym e ∙ h in cc no)
+        by InLoop e = exit_leaves there at has c e
+
+    pub block_does : (there : Pos) (exclusive : Bool) (b : Stats) → StatementDoes program own tables number here code x d k after (Block there exclusive b)
+    block_does there false b w at known has c =
         let cs = stats_code program own b (at + 1) x d in
         let rest = has.stands.rest in
         let inner : HasStatements program own tables number here code b (at + 1) x d = record { stands = record { rest = rest; here = drop_next at code (begin there) (cs ++ rest) has.stands.here }; typed = has.typed; holds = has.holds } in
         let len : at + suc (length cs) ≡ at + 1 + length cs = omega arith in
-        record { at = at + 1; exit = x; level = d; keeps = k; runs = refl; carries = carries_all program own tables number here code b (at + 1) x d k after inner (subst Carried len c) }
+        record { at = at + 1; ways = x; level = d; keeps = k; runs = refl; carries = carries_all program own tables number here code b (at + 1) x d k after inner (subst Carried len c) }
+    block_does there true b w at known has c =
+        let cs = block_code true (stats_code program own b (at + 1 + 1) (block_ways true x) d) in
+        let rest = has.stands.rest in
+        let inner : HasRegion program own tables number here code b (at + 1) x d = record { stands = record { rest = rest; here = drop_next at code (begin there) (cs ++ rest) has.stands.here }; typed = has.typed; holds = has.holds } in
+        let len : at + suc (length cs) ≡ at + 1 + length cs = omega arith in
+        let c' : Carried (at + 1 + length cs) = subst Carried len c in
+        let le : at + 1 ≤ x.exit = omega (arith, bound program own tables number here code after (at + 1 + length cs) x d k c') in
+        record { at = at + 1; ways = x; level = d; keeps = k; runs = refl; carries = (at + 1, le, (λ k' s. refl), inner, c') }
 
     pub halt_does : (there : Pos) (n : ℕ) → StatementDoes program own tables number here code x d k after (Halt there n)
     halt_does there n w at known has c =
@@ -340,36 +390,45 @@ module _ (program : Program) (own : Option Procedure) (tables : Tables) (number 
           (called_do program own tables number here code typed shaped callee q has.typed.1 more (λ at'. arguments_do program own tables number here code typed shaped more q.parameters has.typed.3 at') (at + 1) w known rest k [])
           (λ w' up v m a. subst (GoesOn program own tables number here code after) (sym (a.run ∙ ap (λ t. onward rest 0 p k (pushed (answer_cells program own tables number here code w' t v) [])) has.typed.2)) next))
 
+      -- a RETURN's code gives what it gives, once it has left the region
+      returns : (w : World Sort) (r : Option Value) (st : Stack) → ((p : ℕ) (rest : List Instr) → GivesBack program own tables number here code w r (onward (i.Return ∷ rest) 0 p k st)) → (u : Within) (is : List Item) → is ≡ returned u r → (p : ℕ) (rest : List Instr) → Returning program own tables number here code w r is (onward (return_code u ++ rest) 0 p k st)
+      returns w r st gives NoRegion is e p rest = inl (e, gives p rest)
+      returns w r st gives AroundLoop is e p rest = inr (e, ((λ y. onward (i.Return ∷ rest) 0 (p + 1) k st), refl, λ y. gives (p + 1) rest))
+      returns w r st gives InLoop is e p rest = inr (e, ((λ y. onward (i.Return ∷ rest) 0 (p + 1) k st), refl, λ y. gives (p + 1) rest))
+
       -- the end of the procedure, with the result of a function
       pub return_does : IsOwn program own tables number → (there : Pos) (e : Option Expr) → StatementDoes program own tables number here code x d k after (Return there e)
-      return_does is there None w at known has c = by (result_of own) is.2 has.typed
+      return_does is there None w at known has c =
+          let rest = has.stands.rest in
+          let q = at + length (stat_code program own (Return there None) at x d) in
+          subst (λ m. Returning program own tables number here code w None (leave_all None after) m)
+          (sym (from_here (at + 1) (return_code x.within ++ rest) k [] (drop_next at code (begin there) (return_code x.within ++ rest) has.stands.here)))
+          (returns w None [] (λ p more. by p more (result_of own) is.2 has.typed) x.within (leave_all None after) (leave_all_is program own tables number here code after q x d k None c) (at + 1) rest)
         where
-          by : (r : Option TType) → is.0.result ≡ option_map (λ t. cell_kind program.types (id_of t)) r → IsReturn program own None r → (g : Cell → Run) × (from (at + 1) k [] ≡ Asks (Ends None) g) × IsResult program w r None
-          by None none ok = (
-            (λ y. Traps 0 0),
-            from_here (at + 1) (i.Return ∷ has.stands.rest) k [] (drop_next at code (begin there) (i.Return ∷ has.stands.rest) has.stands.here) ∙ rw (is.1, none) refl,
-            tt,
-          )
-          by (Some t) some ok = absurd ok
+          by : (p : ℕ) (more : List Instr) (r : Option TType) → is.0.result ≡ option_map (λ t. cell_kind program.types (id_of t)) r → IsReturn program own None r → (g : Cell → Run) × (onward (i.Return ∷ more) 0 p k [] ≡ Asks (Ends None) g) × IsResult program w r None
+          by p more None none ok = ((λ y. Traps 0 0), rw (is.1, none) refl, tt)
+          by p more (Some t) some ok = absurd ok
       return_does is there (Some e) w at known has c = by (result_of own) refl has.typed
         where
-          returns : (kind : Kind) (v : Cell) (rest : List Instr) (p : ℕ) → is.0.result ≡ Some kind → is_of kind v ≡ true → onward (i.Return ∷ rest) 0 p k (v ∷ []) ≡ Asks (Ends (Some v)) (λ y. Traps 0 0)
-          returns kind v rest p result of = rw (is.1, result, of) refl
+          ends_with : (kind : Kind) (v : Cell) (rest : List Instr) (p : ℕ) → is.0.result ≡ Some kind → is_of kind v ≡ true → onward (i.Return ∷ rest) 0 p k (v ∷ []) ≡ Asks (Ends (Some v)) (λ y. Traps 0 0)
+          ends_with kind v rest p result of = rw (is.1, result, of) refl
 
           by : (r : Option TType) → result_of own ≡ r → IsReturn program own (Some e) r → Does program here (Leaves after) w (from (at + 1) k []) (stat_of program here (Return there (Some e)))
           by None own_is ok = absurd ok
           by (Some t) own_is ok =
               let ce = value_code program own e (at + 1) in
-              let last = i.Return ∷ [] in
+              let last = return_code x.within in
               let p = at + 1 + length ce in
               let rest = has.stands.rest in
+              let q = at + length (stat_code program own (Return there (Some e)) at x d) in
               let some : is.0.result ≡ Some (cell_kind program.types (id_of t)) = is.2 ∙ ap (option_map (λ t. cell_kind program.types (id_of t))) own_is in
               let does : Value → Doing After = λ v. Val (Returns (Some v)) in
               along program here (Leaves after) w _ _ (bind (value_of program here e) does) (from_here (at + 1) ((ce ++ last) ++ rest) k [] (drop_next at code (begin there) ((ce ++ last) ++ rest) has.stands.here))
               (piece_does program own tables number here code (OfSort program own tables number here code t) cell_of (Leaves after) does ce last (value_of program here e) (at + 1) rest k []
               (yields_do program own tables number here code typed shaped e t ok (at + 1)) w known
-              (λ w' up v m of e'. (
+              (λ w' up v m of e'. subst (λ z. Returning program own tables number here code w' (Some v) (leave_all (Some v) after) z) (sym e')
+              (returns w' (Some v) (cell_of w' v ∷ []) (λ p' more. (
                 (λ y. Traps 0 0),
-                e' ∙ returns (cell_kind program.types (id_of t)) (cell_of w' v) rest p some (kind_of_value program w' (id_of t) (row_of program.types (id_of t)) v of),
+                ends_with (cell_kind program.types (id_of t)) (cell_of w' v) more p' some (kind_of_value program w' (id_of t) (row_of program.types (id_of t)) v of),
                 subst (λ r. IsResult program w' r (Some v)) (sym own_is) of,
-              )))
+              )) x.within (leave_all (Some v) after) (leave_all_is program own tables number here code after q x d k (Some v) c) p rest)))

@@ -1,5 +1,5 @@
 -- One turn of each side from related frames gives related frames, with the same work left to the kernel.
-use Rattle.std.proofs.Common.{◌≡◌, ℕ, suc, pos, ◌+◌, ◌<◌, ◌≤◌, List, [], ◌∷◌, ◌++◌, length, drop, Option, Some, None, refl, sym, ap, ◌∙◌, subst, arith}
+use Rattle.std.proofs.Common.{◌≡◌, inl, inr, ℕ, suc, pos, ◌+◌, ◌<◌, ◌≤◌, List, [], ◌∷◌, ◌++◌, length, drop, Option, Some, None, refl, sym, ap, ◌∙◌, subst, arith}
 use Rattle.std.specs.Prelude.{All, ℤ, Bool, true, false, is_some, unsigned_abs, nat_lt, option_map, sum_by, map, if◌then◌else◌}
 use Rattle.std.proofs.lemmas.List.{length-map}
 use Rattle.std.proofs.lemmas.List.Sums.{sum_by-cons}
@@ -11,7 +11,8 @@ use Rattle.aos_base.specs.declared.place.Root.TheVariants.{Frame as FrameRoot}
 use Rattle.aos_base.specs.Text.{order}
 use Rattle.aos_base.specs.declared.text.Pos.{Pos}
 use Rattle.aos_base.specs.declared.kernel.Did.{Did}
-use Rattle.aos_base.specs.declared.kernel.Did.TheVariants.{Went, Ended as NoFrame, Trapped}
+use Rattle.aos_base.specs.declared.kernel.Did.TheVariants.{Went, Ended as NoFrame, Enter, Leave, Trapped}
+use Rattle.aos_base.specs.declared.kernel.LockName.{LockName}
 use Rattle.aos_base.specs.Question.{Val, Asks, Traps, bind, feed, Reads, Stores, Copies, PutsText, ComparesTexts, Calls, Ends, Makes, Starts, Enters, Leaves, PutsInt, PutsChar, PutsString, PutsNothing, PutsLn, Places, Lengths, Opens, Sizes, Tests, Manner}
 use Rattle.aos_base.specs.Rooted.{Made, Rooted, by_number, spliced}
 use Rattle.aos_types.specs.Table.{row_of as type_row, is_open}
@@ -30,9 +31,9 @@ use Rattle.aos_typed.specs.Value.{Value, Int, Flag, Char, Object, number_of, is_
 use Rattle.aos_typed.specs.Typing.{Is, IsPlain, IsInteger, HasLengths}
 use Rattle.aos_typed.specs.Store.{Store, scalar_in, has_room, new_number, with_object as with_content}
 use Rattle.aos_typed.specs.Meaning as source
-use Rattle.aos_typed.specs.Meaning.{Here, Doing, Item, Do, Rounds, Round, Until, After, Into, Returns, Exits, leave, value_of, item_of, pos_of}
+use Rattle.aos_typed.specs.Meaning.{Here, Doing, Item, Do, Rounds, Round, Until, Region, End, Gives, After, Into, Returns, Exits, leave, leave_all, items_of, value_of, item_of, pos_of}
 use Rattle.aos_typed.specs.Source as S
-use Rattle.aos_typed.specs.Source.{first_value, made_shape}
+use Rattle.aos_typed.specs.Source.{first_value, made_shape, locks_in}
 use Rattle.aos_code.specs.declared.instr.Cell.{Cell}
 use Rattle.aos_code.specs.declared.instr.Cell.TheVariants.{Ref}
 use Rattle.aos_code.specs.declared.instr.Instr.{Instr}
@@ -44,7 +45,8 @@ use Rattle.aos_code.specs.Memory.{Memory, has_room as memory_room, with_object a
 use Rattle.aos_code.specs.Silent.{Here as CodeHere, Stack, Keeps, Question, Begins, Fails, Stop, Work, Ended, silent}
 use Rattle.aos_code.specs.Machine as I
 use Rattle.aos_code.specs.Machine.{first_cell, code_of}
-use Rattle.aos_concurrency.specs.Spot.{Anyone, GoesPast}
+use Rattle.aos_concurrency.specs.Spot.{GoesPast}
+use Rattle.aos_concurrency.specs.Regions.{times, Outside}
 use Rattle.aos_concurrency.specs.Simulates.{SameTurn}
 use Rattle.aos_places.specs.Shows.{Shows}
 use Rattle.aos_places.proofs.Grow.{grows_same, objects_grow}
@@ -61,10 +63,13 @@ use Rattle.aos_sim.proofs.Types.{integer_is, character_is}
 use Rattle.aos_sim.proofs.Results.{natural_is}
 use Rattle.aos_sim.proofs.References.{stored_kind}
 use Rattle.aos_sim.proofs.Does.{IsSelf, IsCalledOn, scheme, addr_of, placed, HasCharacters, HasText, HasTypes, HasShapes, Knows, IsWhole, IsAnswer, IsResult, IsVisible, IsCalm, Valid, Conforms, Does, Calmly, Lasts, along, knows_grows, calm_does, heard_on, calm_heard, does_last, feed_noted, calm_seen, calm_visible_same, calm_bind, feed_noted_bind, lasts_calm, lasts_calm_on}
-use Rattle.aos_sim.proofs.Carries.{IsOwn, AtEnd, GoesOn, Behind, Remains, BeginsAt, ItemsDo}
+use Rattle.aos_sim.proofs.Carries.{IsOwn, AtEnd, GoesOn, GivesBack, Returning, Behind, Remains, BeginsAt, AtNext, ItemsDo}
+use Rattle.aos_sim.proofs.Regions.{Each, Marked as ItsMarks, each_calm, each_fed, item_marked, leave_marks, leave_all_marks, items_plain, body_none}
+use Rattle.aos_concurrency.proofs.Tables.{lock, is_itself}
 use Rattle.aos_sim.proofs.Bodies.{own_known}
+use Rattle.aos_sim.proofs.Locks.{frame_lock}
 use Rattle.aos_sim.proofs.First.{zero_cell, first_is, first_same, get_right}
-use Rattle.aos_sim.proofs.States.{world_of, shapes_of, with_answer, SameStore, SameVariables, Placed, place_grows, IsFew, Waiting, SameFrames, WentFrames, RoutinesRun, Follows, Same, SameState, waiting_length, answer_of, ends_went, ends_shown, AreFew, all_whole, behind_grows, top_shape, went_same, opened_same, waiting_grow}
+use Rattle.aos_sim.proofs.States.{locks_open, SameRegions, ends_open, world_of, shapes_of, with_answer, SameStore, SameVariables, Placed, place_grows, IsFew, Waiting, SameFrames, WentFrames, RoutinesRun, Follows, Same, SameState, waiting_length, answer_of, ends_went, ends_shown, AreFew, all_whole, behind_grows, top_shape, went_same, opened_same, waiting_grow}
 use Rattle.aos_sim.proofs.Entered.{both, handed_there, called_shown, called_counted, called_frame_of, answer_stacked, few_scalars, waiting_counted}
 use Rattle.aos_sim.proofs.Written.{written}
 use Rattle.aos_sim.proofs.Making.{some_lengths, none_open, made_lengths}
@@ -72,7 +77,7 @@ use Rattle.aos_sim.proofs.Created.{numbers_found, made_plain, made_cells, begun,
 use Rattle.aos_sim.proofs.Copied.{copied_alike}
 use Rattle.aos_sim.proofs.Objects.{some_same}
 use Rattle.aos_sim.proofs.Texts.{AreCodes, fitted_same, fitted_within, TextAlike, text_alike, stored_alike as text_stored_alike}
-use Rattle.aos_sim.proofs.Starting.{silent_at_start, run_at_start}
+use Rattle.aos_sim.proofs.Starting.{silent_at_start, run_at_start, silent_at_entry, silent_at_end, run_at_entry, run_at_end}
 
 -- Where silent work stops, by the run from there.
 
@@ -136,17 +141,29 @@ written_alike w v n hv hn =
     subst (λ x. S.written x n ≡ I.written (cell_of w x) (cell_of w n)) (sym a.1)
     (subst (λ x. S.written (Int a.0) x ≡ I.written (cell_of w (Int a.0)) (cell_of w x)) (sym b.1) refl)
 
+-- from outside of the lock's regions there is no mark
+no_marks : (l : LockName) (others : List LockName) (is_open : Bool) (is : List Item) → locks_in l is ≡ locks_open is_open l → times l (locks_in l is ++ others) ≡ 0 → locks_in l is ≡ []
+no_marks l others false is marked outside = marked
+no_marks l others true is marked outside =
+    let one : times l (l ∷ others) ≡ 0 = ap (λ ls. times l (ls ++ others)) (sym marked) ∙ outside in
+    absurd (let z : suc (times l others) ≡ 0 = sym (ap (λ (b : Bool). if b then suc (times l others) else times l others) (is_itself lock l)) ∙ one in cc z)
+
+-- a frame whose region has its mark has no other
+one_mark : (l : LockName) (is_open : Bool) (is : List Item) → l ∷ locks_in l is ≡ locks_open is_open l → locks_in l is ≡ []
+one_mark l true is marked = cc marked
+one_mark l false is marked = absurd (cc marked)
+
 module _ (program : Program) (image : Image) where
   -- the frames of an activity before work: the same, now and behind work that the kernel does
   pub record Together (s : Store) (mem : Memory) (w : Did) (x : S.Frames) (y : I.Frames) : Type 0 where
     pub now : Same program image s.made x y
-    pub behind : GoesPast Anyone w x → Same program image s.made (S.past program x) (I.past image y)
+    pub behind : GoesPast (Outside (S.source program)) w x → Same program image s.made (S.past program x) (I.past image y)
 
   abbrev pub Alike : S.Turned → I.Turned → Type 0
   Alike = SameTurn (SameStore program) Together
 
   -- what isn't gone past
-  went : (s : Store) (mem : Memory) (bytes : List ℕ) (begun : Bool) (w : Did) (x : S.Frames) (y : I.Frames) → (GoesPast Anyone w x → ⊥) → SameState program image s mem x y →
+  went : (s : Store) (mem : Memory) (bytes : List ℕ) (begun : Bool) (w : Did) (x : S.Frames) (y : I.Frames) → (GoesPast (Outside (S.source program)) w x → ⊥) → SameState program image s mem x y →
       Alike (record { store = s; frames = x; output = bytes; begun = begun; left = w }) (record { store = mem; frames = y; output = bytes; begun = begun; left = w })
   went s mem bytes begun w x y never h =
       record { stores = h.stores; frames = record { now = h.same; behind = λ k. absurd (never k) }; left = refl; output = refl; begun = refl }
@@ -157,7 +174,7 @@ module _ (program : Program) (image : Image) where
   ends_is ms (Some v) fs s = refl
 
   -- the topmost frame
-  module _ (typed : HasTypes program) (shaped : HasShapes program (tables_of image)) (routines_run : RoutinesRun program image) (items_do : ItemsDo program) (ms ps : List ℕ) (f : S.Frame) (g : I.Frame) (fs : List S.Frame) (gs : List I.Frame) (s : Store) (mem : Memory) (place : Placed program image (λ o. by_number o s.made) f g) (follows : Follows program image ms ps) (below : Waiting program image s.made (result_of place.routine.own) fs gs) (stores : SameStore program s mem) (shown : SameVariables program s.made (f ∷ fs) (g ∷ gs)) where
+  module _ (typed : HasTypes program) (shaped : HasShapes program (tables_of image)) (routines_run : RoutinesRun program image) (items_do : ItemsDo program) (ms ps : List ℕ) (f : S.Frame) (g : I.Frame) (fs : List S.Frame) (gs : List I.Frame) (s : Store) (mem : Memory) (place : Placed program image (λ o. by_number o s.made) f g) (follows : Follows program image ms ps) (below : Waiting program image s.made (result_of place.routine.own) fs gs) (stores : SameStore program s mem) (shown : SameVariables program s.made (f ∷ fs) (g ∷ gs)) (marks : SameRegions fs gs) where
     abbrev own : Option Procedure
     own = place.routine.own
 
@@ -222,6 +239,10 @@ module _ (program : Program) (image : Image) where
     knows : Knows program own here now
     knows = record { modules = λ m x e. e; frame = (f.shape, top_shape program s.made f fs, place.frame); self = place.self }
 
+    -- both sides name the frame's lock alike
+    lock_is : (items : List Item) (answers : Option (List Value)) (next : ℕ) (k : Keeps) (st : Stack) → I.lock_in (numbered shapes g.procedure) (lower next k st) ≡ S.lock_of f
+    lock_is items answers next k st = frame_lock program image shaped (λ o. by_number o s.made) (upper items answers) (lower next k st) place
+
     is_own : IsOwn program own tables g.procedure
     is_own = own_known program tables shaped g.procedure place.routine place.there
 
@@ -236,16 +257,20 @@ module _ (program : Program) (image : Image) where
     Comes is next k st =
         (w : World Sort) → Grows now w → IsWhole program w → (m : Run) × (calm types w.made g.cells (run_from next k st) ≡ calm types w.made g.cells m) × GoesOn program own tables g.procedure here code is m
 
-    state : (items : List Item) (answers : Option (List Value)) (next : ℕ) (k : Keeps) (st : Stack) → Left now answers items next k st → SameState program image s mem (uppers items answers) (lowers next k st)
-    state items answers next k st h =
-        record { stores = stores; same = record { follows = follows; frames = (record { place = place; remains = h }, below); shown = shown } }
+    -- the marks of these items are those of the regions that the frame has open
+    abbrev Marked : List Item → Type 0
+    Marked items = locks_in (S.lock_of f) items ≡ locks_open g.is_open (S.lock_of f)
+
+    state : (items : List Item) (answers : Option (List Value)) (next : ℕ) (k : Keeps) (st : Stack) → Marked items → Left now answers items next k st → SameState program image s mem (uppers items answers) (lowers next k st)
+    state items answers next k st marked h =
+        record { stores = stores; same = record { follows = follows; frames = (record { place = place; remains = h }, below); shown = shown; regions = (marked, marks) } }
 
     -- behind an answer
     went_frames : (i : Item) (is : List Item) (t : List Value) (next : ℕ) (k : Keeps) (st : Stack) → Does program here (Leads is) now (run_from next k st) (feed t (item i)) → WentFrames program image s.made (upper (i ∷ is) (Some t) ∷ fs) (lower next k st ∷ gs)
     went_frames i is t next k st d = (record { place = place; went = d }, below)
 
-    went_state : (i : Item) (is : List Item) (t : List Value) (next : ℕ) (k : Keeps) (st : Stack) → Does program here (Leads is) now (run_from next k st) (feed t (item i)) → SameState program image s mem (uppers (i ∷ is) (Some t)) (lowers next k st)
-    went_state i is t next k st d = state (i ∷ is) (Some t) next k st (lasting is (run_from next k st) (feed t (item i)) d)
+    went_state : (i : Item) (is : List Item) (t : List Value) (next : ℕ) (k : Keeps) (st : Stack) → Marked (i ∷ is) → Does program here (Leads is) now (run_from next k st) (feed t (item i)) → SameState program image s mem (uppers (i ∷ is) (Some t)) (lowers next k st)
+    went_state i is t next k st marked d = state (i ∷ is) (Some t) next k st marked (lasting is (run_from next k st) (feed t (item i)) d)
 
     -- the frame's end
     ends_alike : (r : Option Value) (g' : I.Frame) (stop : Stop) (d : Cell → Run) → IsResult program now (result_of own) r → resumed stop ≡ Asks (Ends (option_map (cell_of now) r)) d → Alike (S.ends ms r fs s) (I.goes ps shapes types stop g' gs mem)
@@ -260,12 +285,12 @@ module _ (program : Program) (image : Image) where
         (went s mem [] false Went (S.all_frames ms uppers') (I.all_frames ps lowers') (λ k. k)
         (record {
           stores = stores;
-          same = record { follows = follows; frames = went_same program image typed shaped s.made uppers' lowers' stores.few (ends_went program image s.made ms ps (result_of own) r f.shape fs gs below is) shown'; shown = shown' };
+          same = record { follows = follows; frames = went_same program image typed shaped s.made uppers' lowers' stores.few (ends_went program image s.made ms ps (result_of own) r f.shape fs gs below is) shown'; shown = shown'; regions = ends_open ms ps (answer_of program image r) c fs gs marks };
         })))
 
     -- an item begins
-    begins_alike : (there : Pos) (i : Item) (is items : List Item) (answers : Option (List Value)) (next : ℕ) (k0 : Keeps) (st0 : Stack) (stop : Stop) (m : Run) → BeginsAt program own tables g.procedure here code there i is now m → resumed stop ≡ calm types now.made g.cells m → Alike (S.begins ms there (i ∷ is) (upper items answers) fs s) (I.goes ps shapes types stop (lower next k0 st0) gs mem)
-    begins_alike there i is items answers next k0 st0 stop m b e =
+    begins_alike : (there : Pos) (i : Item) (is items : List Item) (answers : Option (List Value)) (next : ℕ) (k0 : Keeps) (st0 : Stack) (stop : Stop) (m : Run) → Marked (i ∷ is) → BeginsAt program own tables g.procedure here code there i is now m → resumed stop ≡ calm types now.made g.cells m → Alike (S.begins ms there (i ∷ is) (upper items answers) fs s) (I.goes ps shapes types stop (lower next k0 st0) gs mem)
+    begins_alike there i is items answers next k0 st0 stop m marked b e =
         subst (λ z. Alike (S.begins ms there (i ∷ is) (upper items answers) fs s) (I.goes ps shapes types z (lower next k0 st0) gs mem)) (sym (stop_begins tables g.procedure here code stop b.at there b.keeps [] (e ∙ ap (calm types now.made g.cells) b.runs)))
         (went s mem [] true Went _ _ (λ k. k)
         (record {
@@ -274,22 +299,23 @@ module _ (program : Program) (image : Image) where
             follows = follows;
             frames = (
               record {
-                place = record { routine = place.routine; there = place.there; home_is = place.home_is; object_is = place.object_is; at_is = refl; gives_is = place.gives_is; counted_is = place.counted_is; closed_is = place.closed_is; frame = place.frame; self = place.self };
+                place = record { routine = place.routine; there = place.there; home_is = place.home_is; object_is = place.object_is; at_is = refl; gives_is = place.gives_is; counted_is = place.counted_is; none_is = place.none_is; frame = place.frame; self = place.self };
                 remains = lasting is (run_from (b.at + 1) b.keeps []) (item i) b.does;
               },
               below,
             );
             shown = shown;
+            regions = (marked, marks);
           };
         }))
 
-    traps_alike : (items : List Item) (answers : Option (List Value)) (next : ℕ) (k : Keeps) (st : Stack) (n c : ℕ) (stop : Stop) (k' : Keeps) → Left now answers items next k st → stop ≡ Ended (Fails n c) k' → Alike (S.leaves ms (Trapped n c) (upper items answers ∷ fs) s) (I.goes ps shapes types stop (lower next k st) gs mem)
-    traps_alike items answers next k st n c stop k' left e =
+    traps_alike : (items : List Item) (answers : Option (List Value)) (next : ℕ) (k : Keeps) (st : Stack) (n c : ℕ) (stop : Stop) (k' : Keeps) → Marked items → Left now answers items next k st → stop ≡ Ended (Fails n c) k' → Alike (S.leaves ms (Trapped n c) (upper items answers ∷ fs) s) (I.goes ps shapes types stop (lower next k st) gs mem)
+    traps_alike items answers next k st n c stop k' marked left e =
         subst (λ z. Alike (S.leaves ms (Trapped n c) (upper items answers ∷ fs) s) (I.goes ps shapes types z (lower next k st) gs mem)) (sym e)
-        (went s mem [] false (Trapped n c) _ _ (λ z. z) (state items answers next k st left))
+        (went s mem [] false (Trapped n c) _ _ (λ z. z) (state items answers next k st marked left))
 
     -- an item that has begun
-    module _ (i : Item) (is : List Item) (t : List Value) (next : ℕ) (k : Keeps) (st : Stack) (left : Left now (Some t) (i ∷ is) next k st) where
+    module _ (i : Item) (is : List Item) (t : List Value) (next : ℕ) (k : Keeps) (st : Stack) (marked : Marked (i ∷ is)) (left : Left now (Some t) (i ∷ is) next k st) where
       abbrev top : S.Frame
       top = upper (i ∷ is) (Some t)
 
@@ -321,7 +347,7 @@ module _ (program : Program) (image : Image) where
         answered_frames v c st2 e = went_frames i is (t ++ v ∷ []) (x.at + 1) x.keeps st2 (answered_so now (grows_same now) v c st2 e)
 
         answered_now : (v : Value) → Conforms program now q v → (st2 : Stack) → past tables (placed program now q) (cell_of now v) x.at x.keeps x.stack onward ≡ run_from (x.at + 1) x.keeps st2 → SameState program image s mem (uppers (i ∷ is) (Some (t ++ v ∷ []))) (lowers (x.at + 1) x.keeps st2)
-        answered_now v c st2 e = went_state i is (t ++ v ∷ []) (x.at + 1) x.keeps st2 (answered_so now (grows_same now) v c st2 e)
+        answered_now v c st2 e = went_state i is (t ++ v ∷ []) (x.at + 1) x.keeps st2 marked (answered_so now (grows_same now) v c st2 e)
 
         -- where the answer doesn't matter
         done_so : Conforms program now q S.done → past tables (placed program now q) (cell_of now S.done) x.at x.keeps x.stack onward ≡ run_from (x.at + 1) x.keeps x.stack → SameState program image s mem (uppers (i ∷ is) (Some (t ++ S.done ∷ []))) (lowers (x.at + 1) x.keeps x.stack)
@@ -331,7 +357,7 @@ module _ (program : Program) (image : Image) where
       puts_alike bytes p k' st' h = went s mem bytes false Went _ _ (λ x. x) h
 
       prints_alike : (o : Option (List ℕ)) (p : ℕ) (k' : Keeps) (st' : Stack) → SameState program image s mem (uppers (i ∷ is) (Some (t ++ S.done ∷ []))) (lowers (p + 1) k' st') → Alike (S.prints ms o top fs s) (I.prints ps o p k' st' low gs mem)
-      prints_alike None p k' st' h = went s mem [] false (Trapped 14 0) _ _ (λ x. x) (state (i ∷ is) (Some t) next k st left)
+      prints_alike None p k' st' h = went s mem [] false (Trapped 14 0) _ _ (λ x. x) (state (i ∷ is) (Some t) next k st marked left)
       prints_alike (Some bytes) p k' st' h = puts_alike bytes p k' st' h
 
       abbrev variables : Rooted (Content Value)
@@ -372,7 +398,7 @@ module _ (program : Program) (image : Image) where
           let h = answered_frames (Stores a v) x S.done tt x.stack refl in
           subst (λ o. Alike source (I.writes ps (is_some o) (addr_of now a) (cell ∷ []) x.at x.keeps x.stack low gs mem)) (sym r.image)
           (went _ _ [] false Went _ _ (λ z. z)
-          (written program image typed shaped a.root (placed_at a.path (Scalar v)) (spliced (addr_of now a).cell (cell ∷ [])) s mem ms ps (S.answered S.done top ∷ fs) (I.behind ps x.at x.keeps x.stack low ∷ gs) stores.made stores.few follows h new))
+          (written program image typed shaped a.root (placed_at a.path (Scalar v)) (spliced (addr_of now a).cell (cell ∷ [])) s mem ms ps (S.answered S.done top ∷ fs) (I.behind ps x.at x.keeps x.stack low ∷ gs) stores.made stores.few follows h (marked, marks) new))
 
       -- a whole record or array is copied
       copies_alike : (u : TType) (from to : Spot) (x : Asking (Copies u from to)) → Alike (S.answer program ms (Copies u from to) top fs s) (I.answer ps shapes types (placed program now (Copies u from to)) x.at x.keeps x.stack low gs mem)
@@ -385,7 +411,7 @@ module _ (program : Program) (image : Image) where
           subst (λ z. Alike z (I.answer ps shapes types (placed program now (Copies u from to)) x.at x.keeps x.stack low gs mem)) (sym (λ j. source (c.read_from j) (c.read_to j)))
           (subst (Alike (source (Some c.new) (Some c.old))) (sym (λ j. image_so (c.image j) (c.there j)))
           (went _ _ [] false Went _ _ (λ z. z)
-          (written program image typed shaped to.root (placed_at to.path (overlay shape c.new c.old)) (spliced (addr_of now to).cell c.cells) s mem ms ps (S.answered S.done top ∷ fs) (I.behind ps x.at x.keeps x.stack low ∷ gs) stores.made stores.few follows h c.alike)))
+          (written program image typed shaped to.root (placed_at to.path (overlay shape c.new c.old)) (spliced (addr_of now to).cell c.cells) s mem ms ps (S.answered S.done top ∷ fs) (I.behind ps x.at x.keeps x.stack low ∷ gs) stores.made stores.few follows h (marked, marks) c.alike)))
 
       -- the text at a place, which both find
       text_both : (p : Spot) (n : ℕ) → HasCharacters now p n → TextAlike program typed.predeclared s.made shapes_now variables cells shows ps p n
@@ -397,7 +423,7 @@ module _ (program : Program) (image : Image) where
       -- what is stored of a text, where there is room for it
       text_stored : (strict : Bool) (from : Spot) (n : Value) (to : Spot) (room : Value) (x : Asking (PutsText strict from n to room)) (m : ℕ) → HasCharacters now to m → 0 < m → (text : List ℕ) → AreCodes text → (o : Option (List ℕ)) → fitted strict m text ≡ o →
           Alike (S.stores_text ms o (read to.root to.path variables) to top fs s) (I.stores_text ps o (addr_of now to) cells x.at x.keeps x.stack low gs mem)
-      text_stored strict from n to room x m has some text codes None e = went s mem [] false (Trapped 15 0) _ _ (λ z. z) (state (i ∷ is) (Some t) next k st left)
+      text_stored strict from n to room x m has some text codes None e = went s mem [] false (Trapped 15 0) _ _ (λ z. z) (state (i ∷ is) (Some t) next k st marked left)
       text_stored strict from n to room x m has some text codes (Some cs) e =
           let c = text_stored_alike program typed.predeclared s.made shapes_now variables cells shows ps to m cs has (fitted_within strict m text cs some codes e) in
           let source : Option (Content Value) → S.Turned = λ old. S.stores_text ms (Some cs) old to top fs s in
@@ -406,7 +432,7 @@ module _ (program : Program) (image : Image) where
           subst (λ z. Alike (source z) (image_so (is_some (I.cells_at (length cs) (addr_of now to) cells)))) (sym c.source)
           (subst (λ b. Alike (source (Some c.old)) (image_so b)) (sym c.there)
           (went _ _ [] false Went _ _ (λ z. z)
-          (written program image typed shaped to.root (placed_at to.path (with_text cs c.old)) (spliced (addr_of now to).cell (I.character_cells ps cs)) s mem ms ps (S.answered S.done top ∷ fs) (I.behind ps x.at x.keeps x.stack low ∷ gs) stores.made stores.few follows h c.alike)))
+          (written program image typed shaped to.root (placed_at to.path (with_text cs c.old)) (spliced (addr_of now to).cell (I.character_cells ps cs)) s mem ms ps (S.answered S.done top ∷ fs) (I.behind ps x.at x.keeps x.stack low ∷ gs) stores.made stores.few follows h (marked, marks) c.alike)))
 
       texts_put_alike : (strict : Bool) (from : Spot) (n : Value) (to : Spot) (room : Value) (x : Asking (PutsText strict from n to room)) → Alike (S.answer program ms (PutsText strict from n to room) top fs s) (I.answer ps shapes types (placed program now (PutsText strict from n to room)) x.at x.keeps x.stack low gs mem)
       texts_put_alike strict from n to room x =
@@ -467,7 +493,7 @@ module _ (program : Program) (image : Image) where
             (made_lengths program own tables g.procedure here code typed shaped number (length vs) vs ns refl (x.valid.3 ∙ ap (λ z. open_dimensions program.types (id_of_made z)) x.valid.1) lengths_are few)
 
         made_now : (room : Bool) → has_room one content s ≡ room → Alike (S.makes ms room one content top fs s) (I.makes ps room one zeros x.at x.keeps x.stack low gs mem)
-        made_now false e = went s mem [] false (Trapped 12 0) _ _ (λ z. z) (state (i ∷ is) (Some t) next k st left)
+        made_now false e = went s mem [] false (Trapped 12 0) _ _ (λ z. z) (state (i ∷ is) (Some t) next k st marked left)
         made_now true e =
             let w = world_of program made shapes_now in
             let v = Object (new_number s) in
@@ -486,6 +512,7 @@ module _ (program : Program) (image : Image) where
                 follows = follows;
                 frames = went_same program image typed shaped made (S.answered v top ∷ fs) (lower (x.at + 1) x.keeps (Ref (new_number s) ∷ x.stack) ∷ gs) few (record { place = place_grows program image now.made w.made more.made (S.answered v top) (lower (x.at + 1) x.keeps (Ref (new_number s) ∷ x.stack)) place; went = goes }, waiting_grow program image s.made (one ∷ []) (result_of own) fs gs below) new.of_frames;
                 shown = new.of_frames;
+                regions = (marked, marks);
               };
             }))
 
@@ -517,7 +544,7 @@ module _ (program : Program) (image : Image) where
           (by (array_lengths zs) refl d.0 kinds)
         where
           by : (o : Option (List ℕ)) → array_lengths (map number_of vs) ≡ o → (d : TypeDesc) → d.kinds.items ≡ type_kinds program.types (id_of_made u) → Alike (S.makes_with program ms o u top fs s) (I.makes_with ps o u d x.at x.keeps x.stack low gs mem)
-          by None e d kinds = went s mem [] false (Trapped 15 0) _ _ (λ z. z) (state (i ∷ is) (Some t) next k st left)
+          by None e d kinds = went s mem [] false (Trapped 15 0) _ _ (λ z. z) (state (i ∷ is) (Some t) next k st marked left)
           by (Some ns) e d kinds = made_alike_so u vs x ns e d kinds
 
       -- the frames stand before the work, and past it the code is behind the instruction
@@ -534,7 +561,7 @@ module _ (program : Program) (image : Image) where
           record {
             stores = stores;
             frames = record {
-              now = (went_state i is t x.at x.keeps (Ref (suc o) ∷ x.stack) still).same;
+              now = (went_state i is t x.at x.keeps (Ref (suc o) ∷ x.stack) marked still).same;
               behind = λ z.
                   subst (λ y. Same program image s.made (S.all_frames ms (S.answered S.done top ∷ fs)) (I.all_frames ps (I.past_stop y at_start ∷ gs))) (sym stop_is)
                   (done_so q x tt refl).same;
@@ -606,6 +633,14 @@ module _ (program : Program) (image : Image) where
             by None on = tt
             by (Some t) on = subst (λ z. IsSelf program now.made (Some t) (S.self_of true z)) (sym on.2) on.3
 
+        -- what isn't called on an object has none
+        none_is : self_type routine.own ≡ None → S.self_of (has_self routine.own) vs ≡ 0
+        none_is = by (self_type routine.own)
+          where
+            by : (t : Option ℕ) → t ≡ None → S.self_of (is_some t) vs ≡ 0
+            by None e = refl
+            by (Some t) e = absurd (cc e)
+
         -- with a result the code goes on with it on the stack
         stacked : (w : World Sort) (v : Value) → past tables (placed program now (Calls how n vs)) (cell_of w v) x.at x.keeps x.stack onward ≡ run_from (x.at + 1) x.keeps (with_answer w (result_of routine.own) v x.stack)
         stacked w v =
@@ -635,7 +670,7 @@ module _ (program : Program) (image : Image) where
             ∙ handed_there program typed.ranked ps ms s.made (top ∷ fs) s cells shows routine vs x.valid.2 n shape shape_is
 
         enters_alike : (b : Bool) → S.is_deep ms new (top ∷ fs) ≡ b → Alike (S.enters ms b new (top ∷ fs) s) (I.enters ps b entered x.at x.keeps x.stack low gs mem)
-        enters_alike true e = went s mem [] false (Trapped 11 0) _ _ (λ z. z) (state (i ∷ is) (Some t) next k st left)
+        enters_alike true e = went s mem [] false (Trapped 11 0) _ _ (λ z. z) (state (i ∷ is) (Some t) next k st marked left)
         enters_alike false e =
             let few = few_scalars (length (top ∷ fs)) (sum_by (λ (z : S.Frame). z.counted) (top ∷ fs)) new e in
             went s mem [] false Went (S.all_frames ms (new ∷ (top ∷ fs))) (I.all_frames ps (entered ∷ (behind ∷ gs))) (λ z. z)
@@ -653,11 +688,11 @@ module _ (program : Program) (image : Image) where
                       at_is = refl;
                       gives_is = refl;
                       counted_is = called_counted program typed.ranked ps ms s.made (top ∷ fs) s cells shows routine vs x.valid.2 n shape shape_is;
-                      closed_is = refl;
+                      none_is = none_is;
                       frame = called_frame_of program typed.ranked ps ms s.made (top ∷ fs) s cells shows routine vs x.valid.2 n shape shape_is few;
                       self = self_is;
                     };
-                    remains = (refl, routines_run n routine there (S.here_of new (top ∷ fs)));
+                    remains = inl (routines_run n routine there (S.here_of new (top ∷ fs)));
                   },
                   (
                     record {
@@ -668,6 +703,7 @@ module _ (program : Program) (image : Image) where
                   ),
                 );
                 shown = (called_shown program typed.ranked ps ms s.made (top ∷ fs) s cells shows routine vs x.valid.2 n shape shape_is, shown);
+                regions = (body_none (S.lock_of new) routine.body, (marked, marks));
               };
             })
 
@@ -729,7 +765,7 @@ module _ (program : Program) (image : Image) where
     stops_now : (next : ℕ) (k : Keeps) (st : Stack) → calm types now.made g.cells (run_from next k st) ≡ resumed (stop_from next k st)
     stops_now next k st = run_by_silent tables now.made g.procedure here g.cells code next k st
 
-    module _ (items : List Item) (answers : Option (List Value)) (next : ℕ) (k : Keeps) (st : Stack) (left : Left now answers items next k st) (stop : Stop) (is_stop : stop_from next k st ≡ stop) where
+    module _ (items : List Item) (answers : Option (List Value)) (next : ℕ) (k : Keeps) (st : Stack) (marked : Marked items) (left : Left now answers items next k st) (stop : Stop) (is_stop : stop_from next k st ≡ stop) where
       abbrev BothGo : S.Turned → Type 0
       BothGo t = Alike t (I.goes ps shapes types stop (lower next k st) gs mem)
 
@@ -744,7 +780,7 @@ module _ (program : Program) (image : Image) where
       seen m e = sym (stops_now next k st ∙ ap resumed is_stop) ∙ e
 
       -- the condition behind a REPEAT's statements, which has been asked what the frame itself tells
-      module _ (there : Pos) (b : Stats) (e : Expr) (is : List Item) (comes : Comes (Until there b e ∷ is) next k st) where
+      module _ (there : Pos) (b : Stats) (e : Expr) (is : List Item) (marked_is : Marked (Until there b e ∷ is)) (comes : Comes (Until there b e ∷ is) next k st) where
         abbrev again : Item
         again = Do (Repeat there b e)
 
@@ -808,11 +844,11 @@ module _ (program : Program) (image : Image) where
         tests_alike ends begins (Asks q h) is_r visible =
             let asks : feed (S.noted program.types now.made f.variables test) (item (Until there b e)) ≡ Asks q (λ v. bind (h v) on) = feed_noted_bind program.types now.made f.variables on test ∙ ap (λ r. bind r on) is_r in
             let d = subst (λ r. Calmly program here (Leads is) types g.cells now (calm types now.made g.cells (run_from next k st)) r) (ap (λ r. goes_known now (bind r on)) is_r ∙ calm_visible_same program.types now.made f.variables q (λ v. bind (h v) on) visible) (tested now (grows_same now) whole) in
-            asks_alike (Until there b e) is (S.noted program.types now.made f.variables test) next k st test_left q (λ v. bind (h v) on) stop visible asks is_stop (run_from next k st) (seen (run_from next k st) refl) d
+            asks_alike (Until there b e) is (S.noted program.types now.made f.variables test) next k st marked_is test_left q (λ v. bind (h v) on) stop visible asks is_stop (run_from next k st) (seen (run_from next k st) refl) d
         tests_alike ends begins (Traps n c) is_r visible =
             let d = subst (λ r. Calmly program here (Leads is) types g.cells now (calm types now.made g.cells (run_from next k st)) r) (ap (λ r. goes_known now (bind r on)) is_r) (tested now (grows_same now) whole) in
             let v = stop_fails tables g.procedure here code stop n c d.1 (seen (run_from next k st) refl ∙ d.0) in
-            traps_alike (Until there b e ∷ is) told next k st n c stop v.0 test_left v.1
+            traps_alike (Until there b e ∷ is) told next k st n c stop v.0 marked_is test_left v.1
 
       -- a body's end
       finishes_alike : (m : Run) → Seen m → (r : Option TType) → result_of own ≡ r → AtEnd r m → BothGo (S.finishes program ms (is_some r) (upper items answers) fs s)
@@ -820,54 +856,139 @@ module _ (program : Program) (image : Image) where
           ends_alike None (lower next k st) stop o.0 (subst (λ r. IsResult program now r None) (sym e) tt) (seen ∙ ap (calm types now.made g.cells) o.1)
       finishes_alike m seen (Some t) e o =
           let v = stop_fails tables g.procedure here code stop 10 0 (omega arith) (seen ∙ ap (calm types now.made g.cells) o) in
-          traps_alike items answers next k st 10 0 stop v.0 left v.1
+          traps_alike items answers next k st 10 0 stop v.0 marked left v.1
 
       -- an item is next that begins
-      next_begins : (there : Pos) (i : Item) (is : List Item) (m : Run) → calm types now.made g.cells (run_from next k st) ≡ calm types now.made g.cells m → BeginsAt program own tables g.procedure here code there i is now m → BothGo (S.begins ms there (i ∷ is) (upper items answers) fs s)
-      next_begins there i is m e b = begins_alike there i is items answers next k st stop m b (seen m e)
+      next_begins : (there : Pos) (i : Item) (is : List Item) (m : Run) → Marked (i ∷ is) → calm types now.made g.cells (run_from next k st) ≡ calm types now.made g.cells m → BeginsAt program own tables g.procedure here code there i is now m → BothGo (S.begins ms there (i ∷ is) (upper items answers) fs s)
+      next_begins there i is m marked' e b = begins_alike there i is items answers next k st stop m marked' b (seen m e)
+
+      -- the entry of a region: the frames stand before it, and past it the code is behind the instruction, with the region open
+      region_alike : (ss : Stats) (is : List Item) → Marked (Region ss ∷ is) → (m : Run) → Seen m → Onto (Region ss ∷ is) m → AtNext program own tables g.procedure here code (Region ss ∷ is) now m → BothGo (S.settles program ms (Region ss ∷ is) (upper items answers) fs s)
+      region_alike ss is marked_is m sees goes a =
+          let v = stop_works tables g.procedure here code stop Enters a.0 (sees ∙ ap (calm types now.made g.cells) a.1) in
+          let low' = lower v.at v.keeps v.stack in
+          let comes_there = is_stop ∙ v.is in
+          let there = run_at_entry tables now.made g.procedure here g.cells code next k st v.at v.keeps v.stack comes_there in
+          let same : run_from v.at v.keeps v.stack ≡ m = there ∙ sym (a.1 ∙ (λ j. Asks Enters (λ x. v.on x j))) in
+          let long = sym (waiting_length program image s.made (result_of own) fs gs below) in
+          let again = (λ j. silent shapes types (λ o. None) g.procedure (record { below = long j; self = place.object_is j }) g.cells code v.at v.keeps v.stack) ∙ silent_at_entry tables now.made g.procedure here g.cells code next k st v.at v.keeps v.stack comes_there (λ o. None) in
+          subst (λ z. Alike (S.settles program ms (Region ss ∷ is) (upper items answers) fs s) (I.goes ps shapes types z (lower next k st) gs mem)) (sym v.is)
+          (record {
+            stores = stores;
+            frames = record {
+              now = (state (Region ss ∷ is) None v.at v.keeps v.stack marked_is (inl (subst (Onto (Region ss ∷ is)) (sym same) goes))).same;
+              behind = λ outside.
+                  let none = no_marks (S.lock_of f) (S.regions_of fs) g.is_open is marked_is outside in
+                  subst (λ y. Same program image s.made (S.all_frames ms (upper (items_of ss ++ End ∷ is) None ∷ fs)) (I.all_frames ps (I.past_stop y low' ∷ gs))) (sym again)
+                  (record {
+                    follows = follows;
+                    frames = (record { place = place; remains = inl (subst (Onto (items_of ss ++ End ∷ is)) (v.on (Ref 0)) (a.2 (Ref 0) (S.lock_of f) none)) }, below);
+                    shown = shown;
+                    regions = (items_plain (S.lock_of f) ss (End ∷ is) ∙ ap (λ ls. S.lock_of f ∷ ls) none, marks);
+                  });
+            };
+            left = ap (λ l. Enter l) (sym (lock_is items answers next k st));
+            output = refl;
+            begun = refl;
+          })
+
+      -- the end of a region, behind which the code goes on with these items
+      end_alike : (is : List Item) → Marked (End ∷ is) → (m : Run) → Seen m → (d : Cell → Run) → m ≡ Asks Leaves d → ((next' : ℕ) (k' : Keeps) (st' : Stack) → run_from next' k' st' ≡ m → Left now None (End ∷ is) next' k' st') → ((x : Cell) (next' : ℕ) (k' : Keeps) (st' : Stack) → d x ≡ run_from next' k' st' → Left now None is next' k' st') → BothGo (S.settles program ms (End ∷ is) (upper items answers) fs s)
+      end_alike is marked_is m sees d asks before_it behind_it =
+          let v = stop_works tables g.procedure here code stop Leaves d (sees ∙ ap (calm types now.made g.cells) asks) in
+          let low' = lower v.at v.keeps v.stack in
+          let comes_there = is_stop ∙ v.is in
+          let there = run_at_end tables now.made g.procedure here g.cells code next k st v.at v.keeps v.stack comes_there in
+          let same : run_from v.at v.keeps v.stack ≡ m = there ∙ sym (asks ∙ (λ j. Asks Leaves (λ x. v.on x j))) in
+          let long = sym (waiting_length program image s.made (result_of own) fs gs below) in
+          let again = (λ j. silent shapes types (λ o. None) g.procedure (record { below = long j; self = place.object_is j }) g.cells code v.at v.keeps v.stack) ∙ silent_at_end tables now.made g.procedure here g.cells code next k st v.at v.keeps v.stack comes_there (λ o. None) in
+          subst (λ z. Alike (S.settles program ms (End ∷ is) (upper items answers) fs s) (I.goes ps shapes types z (lower next k st) gs mem)) (sym v.is)
+          (record {
+            stores = stores;
+            frames = record {
+              now = (state (End ∷ is) None v.at v.keeps v.stack marked_is (before_it v.at v.keeps v.stack same)).same;
+              behind = λ z.
+                  subst (λ y. Same program image s.made (S.all_frames ms (upper is None ∷ fs)) (I.all_frames ps (I.past_stop y low' ∷ gs))) (sym again)
+                  (record {
+                    follows = follows;
+                    frames = (record { place = place; remains = behind_it (Ref 0) (v.at + 1) v.keeps v.stack (v.on (Ref 0)) }, below);
+                    shown = shown;
+                    regions = (one_mark (S.lock_of f) g.is_open is marked_is, marks);
+                  });
+            };
+            left = ap (λ l. Leave l) (sym (lock_is items answers next k st));
+            output = refl;
+            begun = refl;
+          })
+
+      -- a result is given: at the frame's end, or behind the end of its region
+      returning_alike : (r : Option Value) (is : List Item) → Marked is → (m : Run) → Seen m → Returning program own tables g.procedure here code now r is m → BothGo (S.settles program ms is (upper items answers) fs s)
+      returning_alike r is marked_is m sees (inl h) =
+          subst (λ xs. BothGo (S.settles program ms xs (upper items answers) fs s)) (sym h.0)
+          (ends_alike r (lower next k st) stop h.1.0 h.1.2 (sees ∙ ap (calm types now.made g.cells) h.1.1))
+      returning_alike r is marked_is m sees (inr h) =
+          subst (λ xs. BothGo (S.settles program ms xs (upper items answers) fs s)) (sym h.0)
+          (end_alike (Gives r ∷ []) (subst Marked h.0 marked_is) m sees h.1.0 h.1.1
+          (λ n k' st' e. inr (r, inr (refl, (h.1.0, e ∙ h.1.1, h.1.2))))
+          (λ x n k' st' e. inr (r, inl (refl, subst (GivesBack program own tables g.procedure here code now r) e (h.1.2 x)))))
 
       -- what is next of these items
-      settles_alike : (is : List Item) → Comes is next k st → BothGo (S.settles program ms is (upper items answers) fs s)
-      settles_alike [] comes =
+      settles_alike : (is : List Item) → Marked is → Comes is next k st → BothGo (S.settles program ms is (upper items answers) fs s)
+      settles_alike [] marked_is comes =
           let c = comes now (grows_same now) whole in
           subst (λ b. BothGo (S.finishes program ms b (upper items answers) fs s)) (sym place.gives_is)
           (finishes_alike c.0 (seen c.0 c.1) (result_of own) refl (items_do own tables g.procedure here code now [] c.0 typed shaped is_own knows c.2))
-      settles_alike (Do x ∷ is) comes =
+      settles_alike (Do x ∷ is) marked_is comes =
           let c = comes now (grows_same now) whole in
-          next_begins (pos_of x) (Do x) is c.0 c.1 (items_do own tables g.procedure here code now (Do x ∷ is) c.0 typed shaped is_own knows c.2)
-      settles_alike (Rounds there a q last step b ∷ is) comes =
+          next_begins (pos_of x) (Do x) is c.0 marked_is c.1 (items_do own tables g.procedure here code now (Do x ∷ is) c.0 typed shaped is_own knows c.2)
+      settles_alike (Rounds there a q last step b ∷ is) marked_is comes =
           let c = comes now (grows_same now) whole in
-          next_begins there (Rounds there a q last step b) is c.0 c.1 (items_do own tables g.procedure here code now (Rounds there a q last step b ∷ is) c.0 typed shaped is_own knows c.2)
-      settles_alike (Round x ∷ is) comes =
+          next_begins there (Rounds there a q last step b) is c.0 marked_is c.1 (items_do own tables g.procedure here code now (Rounds there a q last step b ∷ is) c.0 typed shaped is_own knows c.2)
+      settles_alike (Round x ∷ is) marked_is comes =
           let c = comes now (grows_same now) whole in
-          next_begins (pos_of x) (Do x) is c.0 c.1 (items_do own tables g.procedure here code now (Round x ∷ is) c.0 typed shaped is_own knows c.2)
-      settles_alike (Until there b e ∷ is) comes =
-          tests_alike there b e is comes (λ ended. settles_alike is ended)
+          next_begins (pos_of x) (Do x) is c.0 marked_is c.1 (items_do own tables g.procedure here code now (Round x ∷ is) c.0 typed shaped is_own knows c.2)
+      settles_alike (Until there b e ∷ is) marked_is comes =
+          tests_alike there b e is marked_is comes (λ ended. settles_alike is marked_is ended)
           (λ repeated. let c = repeated now (grows_same now) whole in
-          next_begins there (Do (Repeat there b e)) is c.0 c.1 (items_do own tables g.procedure here code now (Do (Repeat there b e) ∷ is) c.0 typed shaped is_own knows c.2))
+          next_begins there (Do (Repeat there b e)) is c.0 marked_is c.1 (items_do own tables g.procedure here code now (Do (Repeat there b e) ∷ is) c.0 typed shaped is_own knows c.2))
           (S.calm program.types now.made f.variables (value_of program here e)) refl (calm_seen program.types now.made f.variables (value_of program here e))
+      settles_alike (Region ss ∷ is) marked_is comes =
+          let c = comes now (grows_same now) whole in
+          region_alike ss is marked_is c.0 (seen c.0 c.1) c.2 (items_do own tables g.procedure here code now (Region ss ∷ is) c.0 typed shaped is_own knows c.2)
+      settles_alike (End ∷ is) marked_is comes =
+          let c = comes now (grows_same now) whole in
+          let a = items_do own tables g.procedure here code now (End ∷ is) c.0 typed shaped is_own knows c.2 in
+          end_alike is marked_is c.0 (seen c.0 c.1) a.0 a.1
+          (λ n k' st' e. inl (subst (Onto (End ∷ is)) (sym e) c.2))
+          (λ x n k' st' e. inl (subst (Onto is) e (a.2 x)))
+      settles_alike (Gives r ∷ is) marked_is comes =
+          let c = comes now (grows_same now) whole in
+          absurd (items_do own tables g.procedure here code now (Gives r ∷ is) c.0 typed shaped is_own knows c.2)
 
     -- what an item that has begun comes to, in each world that has grown
-    goes_alike : (i : Item) (is : List Item) (t : List Value) (next : ℕ) (k : Keeps) (st : Stack) (left : Left now (Some t) (i ∷ is) next k st) (r : Doing After) → feed t (item i) ≡ r → IsCalm r → ((w : World Sort) → Grows now w → IsWhole program w → Calmly program here (Leads is) types g.cells w (calm types w.made g.cells (run_from next k st)) r) → Alike (S.goes program ms r is (upper (i ∷ is) (Some t)) fs s) (I.goes ps shapes types (stop_from next k st) (lower next k st) gs mem)
-    goes_alike i is t next k st left (Val (Into new)) asks visible d = settles_alike (i ∷ is) (Some t) next k st left (stop_from next k st) refl (new ++ is) d
-    goes_alike i is t next k st left (Val Exits) asks visible d = settles_alike (i ∷ is) (Some t) next k st left (stop_from next k st) refl (leave is) d
-    goes_alike i is t next k st left (Val (Returns r)) asks visible d =
+    goes_alike : (i : Item) (is : List Item) (t : List Value) (next : ℕ) (k : Keeps) (st : Stack) (marked : Marked (i ∷ is)) (left : Left now (Some t) (i ∷ is) next k st) (r : Doing After) → Each (ItsMarks i) r → feed t (item i) ≡ r → IsCalm r → ((w : World Sort) → Grows now w → IsWhole program w → Calmly program here (Leads is) types g.cells w (calm types w.made g.cells (run_from next k st)) r) → Alike (S.goes program ms r is (upper (i ∷ is) (Some t)) fs s) (I.goes ps shapes types (stop_from next k st) (lower next k st) gs mem)
+    goes_alike i is t next k st marked left (Val (Into new)) each asks visible d =
+        settles_alike (i ∷ is) (Some t) next k st marked left (stop_from next k st) refl (new ++ is) (each (S.lock_of f) is ∙ marked) d
+    goes_alike i is t next k st marked left (Val Exits) each asks visible d =
+        settles_alike (i ∷ is) (Some t) next k st marked left (stop_from next k st) refl (leave is) (leave_marks (S.lock_of f) is ∙ each (S.lock_of f) is ∙ marked) d
+    goes_alike i is t next k st marked left (Val (Returns r)) each asks visible d =
         let c = d now (grows_same now) whole in
-        ends_alike r (lower next k st) (stop_from next k st) c.2.0 c.2.2 (sym (stops_now next k st) ∙ c.1 ∙ ap (calm types now.made g.cells) c.2.1)
-    goes_alike i is t next k st left (Asks q f') asks visible d =
-        asks_alike i is t next k st left q f' (stop_from next k st) visible asks refl (run_from next k st) (sym (stops_now next k st)) (d now (grows_same now) whole)
-    goes_alike i is t next k st left (Traps n c) asks visible d =
+        returning_alike (i ∷ is) (Some t) next k st marked left (stop_from next k st) refl r (leave_all r is) (leave_all_marks (S.lock_of f) r is ∙ each (S.lock_of f) is ∙ marked) c.0 (sym (stops_now next k st) ∙ c.1) c.2
+    goes_alike i is t next k st marked left (Asks q f') each asks visible d =
+        asks_alike i is t next k st marked left q f' (stop_from next k st) visible asks refl (run_from next k st) (sym (stops_now next k st)) (d now (grows_same now) whole)
+    goes_alike i is t next k st marked left (Traps n c) each asks visible d =
         let e = d now (grows_same now) whole in
         let v = stop_fails tables g.procedure here code (stop_from next k st) n c e.1 (sym (stops_now next k st) ∙ e.0) in
-        traps_alike (i ∷ is) (Some t) next k st n c (stop_from next k st) v.0 left v.1
+        traps_alike (i ∷ is) (Some t) next k st n c (stop_from next k st) v.0 marked left v.1
 
     -- what is left of the frame goes on
-    top_alike : (answers : Option (List Value)) (items : List Item) (next : ℕ) (k : Keeps) (st : Stack) → Left now answers items next k st → Alike (S.item_turn program ms answers items (upper items answers) fs s) (I.goes ps shapes types (stop_from next k st) (lower next k st) gs mem)
-    top_alike None is next k st r =
-        subst (λ y. Alike (S.settles program ms is (upper is None) fs s) (I.goes ps shapes types (stop_from next k y) (lower next k y) gs mem)) (sym r.0)
-        (settles_alike is None next k [] (refl, r.1) (stop_from next k []) refl is (λ w up h. (run_from next k [], refl, r.1)))
-    top_alike (Some t) [] next k st r = absurd r
-    top_alike (Some t) (i ∷ is) next k st r =
+    top_alike : (answers : Option (List Value)) (items : List Item) (next : ℕ) (k : Keeps) (st : Stack) → Marked items → Left now answers items next k st → Alike (S.item_turn program ms answers items (upper items answers) fs s) (I.goes ps shapes types (stop_from next k st) (lower next k st) gs mem)
+    top_alike None is next k st marked (inl h) =
+        settles_alike is None next k st marked (inl h) (stop_from next k st) refl is marked (λ w up whole'. (run_from next k st, refl, h))
+    top_alike None is next k st marked (inr h) =
+        returning_alike is None next k st marked (inr h) (stop_from next k st) refl h.0 is marked (run_from next k st) (sym (stops_now next k st)) h.1
+    top_alike (Some t) [] next k st marked r = absurd r
+    top_alike (Some t) (i ∷ is) next k st marked r =
         let c = f.variables in
         let before = feed t (item i) in
         let calmed = S.calm program.types now.made c before in
@@ -875,25 +996,25 @@ module _ (program : Program) (image : Image) where
         let asks : feed all (item i) ≡ calmed = feed-append t (S.noted program.types now.made c before) (item i) ∙ feed_noted program.types now.made c before in
         let left : Left now (Some all) (i ∷ is) next k st = subst (λ z. Lasts program here (Leads is) types c g.cells now (run_from next k st) z) (sym asks)
         (lasts_calm program here (Leads is) types c g.cells now (run_from next k st) before r) in
-        goes_alike i is all next k st left calmed asks (calm_seen program.types now.made c before)
+        goes_alike i is all next k st marked left calmed (each_calm program.types now.made c (ItsMarks i) before (each_fed (ItsMarks i) t (item i) (item_marked program here i))) asks (calm_seen program.types now.made c before)
         (λ w up h. subst (λ z. Calmly program here (Leads is) types g.cells w (calm types w.made g.cells (run_from next k st)) z) (r.heard w up) (r.does w up h))
 
   module _ (typed : HasTypes program) (shaped : HasShapes program (tables_of image)) (routines_run : RoutinesRun program image) (items_do : ItemsDo program) where
-    frames_alike : (ms ps : List ℕ) (fs : List S.Frame) (gs : List I.Frame) (s : Store) (mem : Memory) → SameStore program s mem → Follows program image ms ps → SameFrames program image s.made fs gs → SameVariables program s.made fs gs → Alike (S.turn_at program ms fs s) (I.turn_at image ps gs mem)
-    frames_alike ms ps [] [] s mem stores follows h shown =
-        went s mem [] false NoFrame _ _ (λ z. z) (record { stores = stores; same = record { follows = follows; frames = tt; shown = tt } })
-    frames_alike ms ps [] (g ∷ gs) s mem stores follows h shown = absurd h
-    frames_alike ms ps (f ∷ fs) [] s mem stores follows h shown = absurd h
-    frames_alike ms ps (f ∷ fs) (g ∷ gs) s mem stores follows h shown =
+    frames_alike : (ms ps : List ℕ) (fs : List S.Frame) (gs : List I.Frame) (s : Store) (mem : Memory) → SameStore program s mem → Follows program image ms ps → SameFrames program image s.made fs gs → SameVariables program s.made fs gs → SameRegions fs gs → Alike (S.turn_at program ms fs s) (I.turn_at image ps gs mem)
+    frames_alike ms ps [] [] s mem stores follows h shown marks =
+        went s mem [] false NoFrame _ _ (λ z. z) (record { stores = stores; same = record { follows = follows; frames = tt; shown = tt; regions = tt } })
+    frames_alike ms ps [] (g ∷ gs) s mem stores follows h shown regions = absurd h
+    frames_alike ms ps (f ∷ fs) [] s mem stores follows h shown regions = absurd h
+    frames_alike ms ps (f ∷ fs) (g ∷ gs) s mem stores follows h shown marks =
         let place = h.0.place in
         let shapes = image.shapes.items in
         let types = image.types.items in
         let image_so : CodeHere → List Made → I.Turned = λ n made. I.goes ps shapes types (silent shapes types (λ o. by_number o made) g.procedure n g.cells (code_of image g.procedure) g.next g.keeps g.stack) g gs mem in
         let long = waiting_length program image s.made (result_of place.routine.own) fs gs h.1 in
         subst (Alike (S.turn_at program ms (f ∷ fs) s)) (λ j. image_so (record { below = long j; self = sym place.object_is j }) (sym stores.made j))
-        (top_alike typed shaped routines_run items_do ms ps f g fs gs s mem place follows h.1 stores shown f.answers f.items g.next g.keeps g.stack h.0.remains)
+        (top_alike typed shaped routines_run items_do ms ps f g fs gs s mem place follows h.1 stores shown marks.1 f.answers f.items g.next g.keeps g.stack marks.0 h.0.remains)
 
     pub turn_alike : (s : Store) (mem : Memory) (x : S.Frames) (y : I.Frames) → SameStore program s mem → Same program image s.made x y → Alike (S.turn program s x) (I.turn image mem y)
     turn_alike s mem x y stores h =
         let o = opened_same program image routines_run s.made x y h in
-        frames_alike (S.opened program x).following (I.opened y).following (S.opened program x).frames (I.opened y).frames s mem stores o.follows o.frames o.shown
+        frames_alike (S.opened program x).following (I.opened y).following (S.opened program x).frames (I.opened y).frames s mem stores o.follows o.frames o.shown o.regions

@@ -1,7 +1,7 @@
 -- A change below a root, in the store and in the memory, leaves frames as they were but for their variables and cells.
 use Rattle.std.proofs.Common.{◌≡◌, ℕ, List, [], ◌∷◌, length, map, refl, sym, ap, ◌∙◌, subst}
 use Rattle.std.proofs.lemmas.List.{length-map}
-use Rattle.std.specs.Prelude.{Option, true, false, nat_eq, if◌then◌else◌}
+use Rattle.std.specs.Prelude.{Bool, Option, true, false, nat_eq, if◌then◌else◌}
 use Rattle.aos_base.specs.declared.place.Root.{Root}
 use Rattle.aos_base.specs.declared.place.Root.TheVariants.{Frame as FrameRoot, Module as ModuleRoot, Object as ObjectRoot}
 use Rattle.aos_base.specs.Rooted.{Made, change_from_last, change_root}
@@ -22,7 +22,7 @@ use Rattle.aos_places.specs.Shows.{FramesShown, Shows}
 use Rattle.aos_sim.specs.Cells.{cell_of}
 use Rattle.aos_sim.proofs.Does.{scheme, HasTypes, HasShapes}
 use Rattle.aos_sim.proofs.Runs.{tables_of}
-use Rattle.aos_sim.proofs.States.{here_in, AreFew, world_of, shapes_of, with_answer, Went, WaitingFrame, WentFrame, Waiting, WentFrames, SameVariables, Follows, SameState, waiting_length, went_same}
+use Rattle.aos_sim.proofs.States.{SameRegions, here_in, AreFew, world_of, shapes_of, with_answer, Went, WaitingFrame, WentFrame, Waiting, WentFrames, SameVariables, Follows, SameState, waiting_length, went_same}
 
 module _ {X : Type 0} (F : X → X) (d : ℕ) where
   -- an element is changed before or behind a look at it
@@ -115,23 +115,43 @@ module _ (program : Program) (image : Image) where
         (subst (λ cs. FramesShown (Is program) cell_of (scheme program) made (shapes_of fs) cs (map (λ g. g.cells) (change_from_last d G gs))) (sym (change_map F d (λ f. f.variables) a (λ f. refl) fs))
         (subst (λ ys. FramesShown (Is program) cell_of (scheme program) made (shapes_of fs) (change_from_last d a (map (λ f. f.variables) fs)) ys) (sym (change_map G d (λ g. g.cells) b (λ g. refl) gs)) h))
 
+  -- no region of theirs is opened or closed
+  regions_left : (d : ℕ) (a : Content Value → Content Value) (fs : List S.Frame) (gs : List I.Frame) → SameRegions fs gs → SameRegions (change_from_last d (λ f. record f { variables = a f.variables }) fs) gs
+  regions_left d a [] gs h = h
+  regions_left d a (f ∷ fs) [] h = absurd h
+  regions_left d a (f ∷ fs) (g ∷ gs) h = by (nat_eq d (length fs)) (regions_left d a fs gs h.1)
+    where
+      by : (q : Bool) → SameRegions (change_from_last d (λ f. record f { variables = a f.variables }) fs) gs → SameRegions (if q then record f { variables = a f.variables } ∷ fs else f ∷ change_from_last d (λ f. record f { variables = a f.variables }) fs) (g ∷ gs)
+      by true k = h
+      by false k = (h.0, k)
+
+  regions_right : (d : ℕ) (b : List Cell → List Cell) (fs : List S.Frame) (gs : List I.Frame) → SameRegions fs gs → SameRegions fs (change_from_last d (λ g. record g { cells = b g.cells }) gs)
+  regions_right d b [] [] h = h
+  regions_right d b [] (g ∷ gs) h = absurd h
+  regions_right d b (f ∷ fs) [] h = absurd h
+  regions_right d b (f ∷ fs) (g ∷ gs) h = by (nat_eq d (length gs)) (regions_right d b fs gs h.1)
+    where
+      by : (q : Bool) → SameRegions fs (change_from_last d (λ g. record g { cells = b g.cells }) gs) → SameRegions (f ∷ fs) (if q then record g { cells = b g.cells } ∷ gs else g ∷ change_from_last d (λ g. record g { cells = b g.cells }) gs)
+      by true k = h
+      by false k = (h.0, k)
+
   -- where the changed memory shows the changed store, all is the same but for the change
-  pub written : HasTypes program → HasShapes program (tables_of image) → (r : Root) (a : Content Value → Content Value) (b : List Cell → List Cell) (s : Store) (mem : Memory) (ms ps : List ℕ) (fs : List S.Frame) (gs : List I.Frame) → mem.made ≡ s.made → AreFew program s.made → Follows program image ms ps → WentFrames program image s.made fs gs →
+  pub written : HasTypes program → HasShapes program (tables_of image) → (r : Root) (a : Content Value → Content Value) (b : List Cell → List Cell) (s : Store) (mem : Memory) (ms ps : List ℕ) (fs : List S.Frame) (gs : List I.Frame) → mem.made ≡ s.made → AreFew program s.made → Follows program image ms ps → WentFrames program image s.made fs gs → SameRegions fs gs →
       Shows (Is program) cell_of (scheme program) s.made (shapes_of fs) (change_root r a (S.all_rooted fs s)) (change_root r b (I.rooted gs mem)) →
       SameState program image (store_with r a s) (I.memory_with r b mem) (S.all_frames ms (S.frames_with r a fs)) (I.all_frames ps (I.frames_with r b gs))
-  written typed shaped (FrameRoot d) a b s mem ms ps fs gs made few follows went h =
+  written typed shaped (FrameRoot d) a b s mem ms ps fs gs made few follows went marks h =
       let shown = variables_written s.made d a b fs gs h.of_frames in
       record {
         stores = record { made = made; few = few; of_modules = h.of_modules; of_objects = h.of_objects };
-        same = record { follows = follows; frames = went_same program image typed shaped s.made (change_from_last d (F s.made d a b) fs) (change_from_last d (G s.made d a b) gs) few (went_written s.made d a b fs gs went) shown; shown = shown };
+        same = record { follows = follows; frames = went_same program image typed shaped s.made (change_from_last d (F s.made d a b) fs) (change_from_last d (G s.made d a b) gs) few (went_written s.made d a b fs gs went) shown; shown = shown; regions = regions_right d b (S.frames_with (FrameRoot d) a fs) gs (regions_left d a fs gs marks) };
       }
-  written typed shaped (ModuleRoot m) a b s mem ms ps fs gs made few follows went h =
+  written typed shaped (ModuleRoot m) a b s mem ms ps fs gs made few follows went marks h =
       record {
         stores = record { made = made; few = few; of_modules = h.of_modules; of_objects = h.of_objects };
-        same = record { follows = follows; frames = went_same program image typed shaped s.made fs gs few went h.of_frames; shown = h.of_frames };
+        same = record { follows = follows; frames = went_same program image typed shaped s.made fs gs few went h.of_frames; shown = h.of_frames; regions = marks };
       }
-  written typed shaped (ObjectRoot o) a b s mem ms ps fs gs made few follows went h =
+  written typed shaped (ObjectRoot o) a b s mem ms ps fs gs made few follows went marks h =
       record {
         stores = record { made = made; few = few; of_modules = h.of_modules; of_objects = h.of_objects };
-        same = record { follows = follows; frames = went_same program image typed shaped s.made fs gs few went h.of_frames; shown = h.of_frames };
+        same = record { follows = follows; frames = went_same program image typed shaped s.made fs gs few went h.of_frames; shown = h.of_frames; regions = marks };
       }

@@ -1,6 +1,6 @@
--- The code of a program. A jump names its target, so each piece of code is told where it stands. Code of statements is told too where
--- EXIT leads, and how many FORs and CASEs are around it: what one of them keeps has this number, so that what is in it keeps nothing there.
-use Rattle.std.specs.Prelude.{ℕ, zero, suc, ℤ, pos, ◌+◌, Option, Some, None, option_map, List, [], ◌∷◌, ◌++◌, length, map, reverse, slice_get, if◌then◌else◌}
+-- The code of a program. A jump names its target, so each piece of code is told where it stands. Code of statements is told too how they
+-- are left, and how many FORs and CASEs are around it: what one of them keeps has this number, so that what is in it keeps nothing there.
+use Rattle.std.specs.Prelude.{ℕ, zero, suc, ℤ, pos, ◌+◌, Bool, true, false, Option, Some, None, option_map, List, [], ◌∷◌, ◌++◌, length, map, reverse, slice_get, if◌then◌else◌}
 use Rattle.aos_base.specs.declared.text.Pos.{Pos}
 use Rattle.aos_base.specs.declared.operator.Unary.TheVariants.{Range}
 use Rattle.aos_base.specs.declared.number.Width.{Width}
@@ -21,7 +21,7 @@ use Rattle.aos_layout.specs.Frame.{frame, parameter_kind}
 use Rattle.aos_code.specs.Silent.{kinds_of}
 use Rattle.aos_types.specs.declared.row.TypeRow.{TypeRow}
 use Rattle.aos_types.specs.Table.{row_of, is_procedure}
-use Rattle.aos_typed.specs.Program.{Place, ModuleVar, Local, Passed, Field, Index, Of, Deref, Typed, Guarded, Rows, Known, Opened, Row, Spread, Longer, Arguments, NoMore, Scalar, Whole, Opening, Callee, Plain, Dispatched, Upper, Through, Expr, Lit, SelfRef, Read, Unary, Binary, And, Or, Element, Ord, Chr, CompareTexts, Len, LenBehind, Function, Same, Is, IsRecord, Guard, ProcedureOf, MethodOf, SameProcedure, Had, Call, Open, Char, Int, String, Ln, Stat, Assign, Copy, PutText, If, Case, While, Repeat, Loop, Exit, For, Block, Assert, Halt, Change, Perform, Return, New, Make, With, WithRecord, Out, Stats, Nothing, Then, Arms, Otherwise, Arm, Cases, NoElse, Else, OfLabels, Parameter, Procedure, Program}
+use Rattle.aos_typed.specs.Program.{Place, ModuleVar, Local, Passed, Field, Index, Of, Deref, Typed, Guarded, Rows, Known, Opened, Row, Spread, Longer, Arguments, NoMore, Scalar, Whole, Opening, Callee, Plain, Dispatched, Upper, Through, Expr, Lit, SelfRef, Read, Unary, Binary, And, Or, Element, Ord, Chr, CompareTexts, Len, LenBehind, Function, Same, Is, IsRecord, Guard, ProcedureOf, MethodOf, SameProcedure, Had, Call, Open, Char, Int, String, Ln, Stat, Assign, Copy, PutText, If, Case, While, Repeat, Loop, Exit, For, Block, Assert, Halt, Change, Perform, Return, New, Make, With, WithRecord, Out, Stats, Nothing, Then, Arms, Otherwise, Arm, Cases, NoElse, Else, OfLabels, Parameter, Body, Procedure, Program}
 use Rattle.aos_typed.specs.Source.{module_shape}
 use Rattle.aos_sim.specs.Search.{arms_in, search_of, search_size, search_code}
 use Rattle.aos_typed.specs.declared.tree.TType.{TType}
@@ -30,10 +30,63 @@ use Rattle.aos_typed.specs.declared.tree.TType.TheVariants.{Integer}
 use Rattle.aos_code.specs.declared.instr.Kind.{Kind}
 use Rattle.aos_code.specs.declared.instr.Kind.TheVariants.{N, R, C}
 use Rattle.aos_code.specs.declared.instr.Instr.{Instr}
-use Rattle.aos_code.specs.declared.instr.Instr.TheVariants.{Num, Nil, NilCall, Proc, Bind, EqCall, CallValue, SelfRef as SelfOf, Virtual, Deref as DerefOf, OpenRef, EqRef, Is as IsOf, IsPlace, Guard as GuardOf, GuardPlace, NewArray, Dup, Drop, Swap, Frame as FrameOf, Param, Length, IndexOpen, PickLen, Call as CallOf, Keep, Kept, Fail, Assert as AssertOf, Halt as HaltOf, Module, Offset, Index as IndexOf, Unary as OnOne, Binary as OnTwo, Jump, JumpFalse, Begin, Load, Store, Copy as CopyOf, PutText as PutTextOf, CmpText, NewObject, Start, Return as ReturnOf, OutChar, OutInt, OutString, OutLn, OutOpen}
+use Rattle.aos_code.specs.declared.instr.Instr.TheVariants.{Num, Nil, NilCall, Proc, Bind, EqCall, CallValue, SelfRef as SelfOf, Virtual, Deref as DerefOf, OpenRef, EqRef, Is as IsOf, IsPlace, Guard as GuardOf, GuardPlace, NewArray, Dup, Drop, Swap, Frame as FrameOf, Param, Length, IndexOpen, PickLen, Call as CallOf, Keep, Kept, Fail, Assert as AssertOf, Halt as HaltOf, Module, Offset, Index as IndexOf, Unary as OnOne, Binary as OnTwo, Jump, JumpFalse, Begin, Load, Store, Copy as CopyOf, PutText as PutTextOf, CmpText, NewObject, Start, Enter, Leave, Return as ReturnOf, OutChar, OutInt, OutString, OutLn, OutOpen}
 
 abbrev pub begin : Pos → Instr
 begin at = Begin at.line at.col
+
+-- Regions. A frame has one open region at most, since its lock's owner traps where it asks for it again.
+
+-- whether statements stand in a region of their body: in none; in one around the innermost LOOP that is around them, which RETURN leaves;
+-- or in one within that, which EXIT leaves too
+pub data Within : Type 0 where
+  NoRegion : Within
+  AroundLoop : Within
+  InLoop : Within
+
+-- how statements are left: where EXIT leads, and what they stand in
+pub record Ways : Type 0 where
+  pub exit : ℕ
+  pub within : Within
+
+-- the statements of a block, those of a LOOP behind which this is, and those of a body
+abbrev pub block_within : (exclusive : Bool) → Within → Within
+block_within true w = InLoop
+block_within false w = w
+
+abbrev pub block_ways : (exclusive : Bool) → Ways → Ways
+block_ways exclusive w = record { exit = w.exit; within = block_within exclusive w.within }
+
+abbrev pub loop_within : Within → Within
+loop_within NoRegion = NoRegion
+loop_within AroundLoop = AroundLoop
+loop_within InLoop = AroundLoop
+
+abbrev pub loop_ways : (exit : ℕ) → Ways → Ways
+loop_ways exit w = record { exit = exit; within = loop_within w.within }
+
+abbrev pub body_ways : (exclusive : Bool) → (exit : ℕ) → Ways
+body_ways exclusive exit = record { exit = exit; within = block_within exclusive NoRegion }
+
+-- where the statements of a block stand that begins here, and the block with these statements
+abbrev pub block_at : (exclusive : Bool) → ℕ → ℕ
+block_at true at = at + 1
+block_at false at = at
+
+abbrev pub block_code : (exclusive : Bool) → List Instr → List Instr
+block_code true b = Enter ∷ (b ++ Leave ∷ [])
+block_code false b = b
+
+-- EXIT leaves a region within the LOOP, and RETURN each
+abbrev pub exit_code : Within → ℕ → List Instr
+exit_code NoRegion exit = Jump exit ∷ []
+exit_code AroundLoop exit = Jump exit ∷ []
+exit_code InLoop exit = Leave ∷ (Jump exit ∷ [])
+
+abbrev pub return_code : Within → List Instr
+return_code NoRegion = ReturnOf ∷ []
+return_code AroundLoop = Leave ∷ (ReturnOf ∷ [])
+return_code InLoop = Leave ∷ (ReturnOf ∷ [])
 
 -- a value is given as a number: TRUE as 1, FALSE as 0, a character as its code, and a set by its bits
 abbrev pub literal_code : Literal → Instr
@@ -297,81 +350,82 @@ module _ (program : Program) (own : Option Procedure) where
       round_code here (value_code (Read (Integer w) p) (at + 1)) step level b (step_code here w p step (body_place w p at + length b)) at
 
   abbrev mutual
-    pub stat_code : Stat → (at exit level : ℕ) → List Instr
-    stat_code (Assign here t p e) at exit level = assign_code here t p e at
-    stat_code (Copy here t p q) at exit level =
+    pub stat_code : Stat → (at : ℕ) → Ways → (level : ℕ) → List Instr
+    stat_code (Assign here t p e) at ways level = assign_code here t p e at
+    stat_code (Copy here t p q) at ways level =
         begin here
         ∷ operands_code (place_code p (at + 1)) (place_code q (at + 1 + length (place_code p (at + 1)))) (CopyOf (cells_of t))
-    stat_code (PutText here strict a b) at exit level =
+    stat_code (PutText here strict a b) at ways level =
         begin here
         ∷ operands_code (rows_code a (at + 1)) (rows_code b (at + 1 + length (rows_code a (at + 1)))) (PutTextOf strict)
-    stat_code (If here arms) at exit level =
-        begin here ∷ arms_code arms (at + 1) (at + 1 + length (arms_code arms (at + 1) 0 exit level)) exit level
-    stat_code (Case here e cases) at exit level =
+    stat_code (If here arms) at ways level =
+        begin here ∷ arms_code arms (at + 1) (at + 1 + length (arms_code arms (at + 1) 0 ways level)) ways level
+    stat_code (Case here e cases) at ways level =
         let c = value_code e (at + 1) in
         let search = search_of cases in
         let from = at + 1 + length c + 1 in
         let first = from + search_size search in
-        let end = first + length (cases_code cases first 0 exit level) in
-        begin here ∷ (c ++ (Keep level N ∷ (search_code (arm_place cases first exit level) (arms_in cases) search level from ++ cases_code cases first end exit level)))
-    stat_code (While here e body) at exit level =
-        let c = value_code e (at + 1) in while_code here c (stats_code body (at + 1 + length c + 1) exit level) at
-    stat_code (Repeat here body e) at exit level =
-        let b = stats_code body (at + 1) exit level in repeat_code here b (value_code e (at + 1 + length b)) at
-    stat_code (Loop here body) at exit level =
-        let out = at + 1 + length (stats_code body (at + 1) 0 level) + 1 in
-        loop_code here (stats_code body (at + 1) out level) at
-    stat_code (Exit here) at exit level = begin here ∷ (Jump exit ∷ [])
-    stat_code (For here w p from to step body) at exit level =
+        let end = first + length (cases_code cases first 0 ways level) in
+        begin here ∷ (c ++ (Keep level N ∷ (search_code (arm_place cases first ways level) (arms_in cases) search level from ++ cases_code cases first end ways level)))
+    stat_code (While here e body) at ways level =
+        let c = value_code e (at + 1) in while_code here c (stats_code body (at + 1 + length c + 1) ways level) at
+    stat_code (Repeat here body e) at ways level =
+        let b = stats_code body (at + 1) ways level in repeat_code here b (value_code e (at + 1 + length b)) at
+    stat_code (Loop here body) at ways level =
+        let out = at + 1 + length (stats_code body (at + 1) (loop_ways 0 ways) level) + 1 in
+        loop_code here (stats_code body (at + 1) (loop_ways out ways) level) at
+    stat_code (Exit here) at ways level = begin here ∷ exit_code ways.within ways.exit
+    stat_code (For here w p from to step body) at ways level =
         let head = for_head here w p from to at level in
         let first = at + length head in
-        head ++ rounds_with here w p step (stats_code body (body_place w p first) exit (suc level)) first level
-    stat_code (Block here body) at exit level = begin here ∷ stats_code body (at + 1) exit level
-    stat_code (Assert here e code) at exit level = begin here ∷ (value_code e (at + 1) ++ AssertOf code ∷ [])
-    stat_code (Halt here code) at exit level = begin here ∷ (HaltOf code ∷ [])
-    stat_code (Change here c p e) at exit level = changed_code here c p e at
-    stat_code (Perform here c more) at exit level = begin here ∷ called_code c more (at + 1)
-    stat_code (Return here None) at exit level = begin here ∷ (ReturnOf ∷ [])
-    stat_code (Return here (Some e)) at exit level = begin here ∷ (value_code e (at + 1) ++ ReturnOf ∷ [])
-    stat_code (New here p t more) at exit level = begin here ∷ new_code p t more (at + 1) level
-    stat_code (Make here p t ns) at exit level = begin here ∷ make_code p t ns (at + 1)
-    stat_code (With here e body) at exit level =
-        let c = value_code e (at + 1) in begin here ∷ (c ++ (Drop ∷ stats_code body (at + 1 + length c + 1) exit level))
-    stat_code (WithRecord here p body) at exit level =
-        let c = place_code p (at + 1) in begin here ∷ (c ++ (Drop ∷ stats_code body (at + 1 + length c + 1) exit level))
-    stat_code (Out here call) at exit level = begin here ∷ out_code call (at + 1)
+        head ++ rounds_with here w p step (stats_code body (body_place w p first) ways (suc level)) first level
+    stat_code (Block here exclusive body) at ways level =
+        begin here ∷ block_code exclusive (stats_code body (block_at exclusive (at + 1)) (block_ways exclusive ways) level)
+    stat_code (Assert here e code) at ways level = begin here ∷ (value_code e (at + 1) ++ AssertOf code ∷ [])
+    stat_code (Halt here code) at ways level = begin here ∷ (HaltOf code ∷ [])
+    stat_code (Change here c p e) at ways level = changed_code here c p e at
+    stat_code (Perform here c more) at ways level = begin here ∷ called_code c more (at + 1)
+    stat_code (Return here None) at ways level = begin here ∷ return_code ways.within
+    stat_code (Return here (Some e)) at ways level = begin here ∷ (value_code e (at + 1) ++ return_code ways.within)
+    stat_code (New here p t more) at ways level = begin here ∷ new_code p t more (at + 1) level
+    stat_code (Make here p t ns) at ways level = begin here ∷ make_code p t ns (at + 1)
+    stat_code (With here e body) at ways level =
+        let c = value_code e (at + 1) in begin here ∷ (c ++ (Drop ∷ stats_code body (at + 1 + length c + 1) ways level))
+    stat_code (WithRecord here p body) at ways level =
+        let c = place_code p (at + 1) in begin here ∷ (c ++ (Drop ∷ stats_code body (at + 1 + length c + 1) ways level))
+    stat_code (Out here call) at ways level = begin here ∷ out_code call (at + 1)
 
-    pub stats_code : Stats → (at exit level : ℕ) → List Instr
-    stats_code Nothing at exit level = []
-    stats_code (Then s ss) at exit level =
-        stat_code s at exit level ++ stats_code ss (at + length (stat_code s at exit level)) exit level
+    pub stats_code : Stats → (at : ℕ) → Ways → (level : ℕ) → List Instr
+    stats_code Nothing at ways level = []
+    stats_code (Then s ss) at ways level =
+        stat_code s at ways level ++ stats_code ss (at + length (stat_code s at ways level)) ways level
 
-    pub arms_code : Arms → (at end exit level : ℕ) → List Instr
-    arms_code (Otherwise ss) at end exit level = stats_code ss at exit level
-    arms_code (Arm e ss arms) at end exit level =
+    pub arms_code : Arms → (at end : ℕ) → Ways → (level : ℕ) → List Instr
+    arms_code (Otherwise ss) at end ways level = stats_code ss at ways level
+    arms_code (Arm e ss arms) at end ways level =
         let c = value_code e at in
-        let b = stats_code ss (at + length c + 1) exit level in
-        arm_code c b at end (arms_code arms (at + length c + 1 + length b + 1) end exit level)
+        let b = stats_code ss (at + length c + 1) ways level in
+        arm_code c b at end (arms_code arms (at + length c + 1 + length b + 1) end ways level)
 
     -- the arms of CASE, one behind another
-    pub cases_code : Cases → (at end exit level : ℕ) → List Instr
-    cases_code NoElse at end exit level = Fail 4 ∷ []
-    cases_code (Else ss) at end exit level = stats_code ss at exit level
-    cases_code (OfLabels rs ss cases) at end exit level =
-        let b = stats_code ss at exit level in
-        b ++ (Jump end ∷ cases_code cases (at + length b + 1) end exit level)
+    pub cases_code : Cases → (at end : ℕ) → Ways → (level : ℕ) → List Instr
+    cases_code NoElse at end ways level = Fail 4 ∷ []
+    cases_code (Else ss) at end ways level = stats_code ss at ways level
+    cases_code (OfLabels rs ss cases) at end ways level =
+        let b = stats_code ss at ways level in
+        b ++ (Jump end ∷ cases_code cases (at + length b + 1) end ways level)
 
     -- where the arm of this number begins
-    pub arm_place : Cases → (at exit level : ℕ) → ℕ → ℕ
-    arm_place NoElse at exit level k = at
-    arm_place (Else ss) at exit level k = at
-    arm_place (OfLabels rs ss cases) at exit level zero = at
-    arm_place (OfLabels rs ss cases) at exit level (suc k) = arm_place cases (at + length (stats_code ss at exit level) + 1) exit level k
+    pub arm_place : Cases → (at : ℕ) → Ways → (level : ℕ) → ℕ → ℕ
+    arm_place NoElse at ways level k = at
+    arm_place (Else ss) at ways level k = at
+    arm_place (OfLabels rs ss cases) at ways level zero = at
+    arm_place (OfLabels rs ss cases) at ways level (suc k) = arm_place cases (at + length (stats_code ss at ways level) + 1) ways level k
 
   -- the rounds of a FOR, in which more is kept
-  abbrev pub rounds_code : Pos → Width → Place → ℤ → Stats → (at exit level : ℕ) → List Instr
-  rounds_code here w p step body at exit level =
-      rounds_with here w p step (stats_code body (body_place w p at) exit (suc level)) at level
+  abbrev pub rounds_code : Pos → Width → Place → ℤ → Stats → (at : ℕ) → Ways → (level : ℕ) → List Instr
+  rounds_code here w p step body at ways level =
+      rounds_with here w p step (stats_code body (body_place w p at) ways (suc level)) at level
 
   -- what a body ends with: the end of its frame, or of a function's trap 10
   abbrev pub end_code : List Instr
@@ -381,6 +435,10 @@ module _ (program : Program) (own : Option Procedure) where
       by None = ReturnOf ∷ []
       by (Some t) = Fail 10 ∷ []
 
-  -- a body: its statements, and its end, to which an EXIT leads that stands in no LOOP
-  abbrev pub body_code : Stats → List Instr
-  body_code ss = stats_code ss 0 (length (stats_code ss 0 0 0)) 0 ++ end_code
+  -- a body: its statements, which are a region where it is exclusive, and its end, to which an EXIT leads that stands in no LOOP
+  abbrev pub statements_code : Body → (exit : ℕ) → List Instr
+  statements_code b exit =
+      block_code b.is_exclusive (stats_code b.statements (block_at b.is_exclusive 0) (body_ways b.is_exclusive exit) 0)
+
+  abbrev pub body_code : Body → List Instr
+  body_code b = statements_code b (length (statements_code b 0)) ++ end_code

@@ -4,3 +4,4 @@ pub mod Cells
 pub mod Shows
 pub mod Rewriting
 pub mod Need
+pub mod Monitors

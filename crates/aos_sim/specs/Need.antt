@@ -117,7 +117,7 @@ abbrev mutual
   stat_need (For here w p from to step body) =
       max (max (value_need to) (assign_need (place_need p) (value_need from)))
       (max (assign_need (place_need p) (max (place_need p) 2)) (stats_need body))
-  stat_need (Block here body) = stats_need body
+  stat_need (Block here exclusive body) = stats_need body
   stat_need (Assert here e code) = value_need e
   stat_need (Halt here code) = 0
   stat_need (Change here c p e) = changed_need c (place_need p) (value_need e)
@@ -157,7 +157,7 @@ abbrev mutual
   stat_level (Loop here body) d = stats_level body d
   stat_level (Exit here) d = d
   stat_level (For here w p from to step body) d = stats_level body (suc d)
-  stat_level (Block here body) d = stats_level body d
+  stat_level (Block here exclusive body) d = stats_level body d
   stat_level (Assert here e code) d = d
   stat_level (Halt here code) d = d
   stat_level (Change here c p e) d = d
@@ -182,15 +182,15 @@ abbrev mutual
   cases_level (Else ss) d = stats_level ss d
   cases_level (OfLabels rs ss cases) d = max (stats_level ss d) (cases_level cases d)
 
--- a body, whose end takes nothing
+-- a body with these statements: the entry and the end of its region take nothing, nor does its own end
 abbrev pub body_need : Stats → ℕ
 body_need ss = stats_need ss
 
--- how many numbers a body keeps something under
+-- how many numbers a body with these statements keeps something under
 abbrev pub keeps_of : Stats → ℕ
 keeps_of ss = stats_level ss 0
 
 -- each body of an image of the program has as many operands at most as its statements need
 abbrev pub HasDepthsOf : Program → Image → Type 0
 HasDepthsOf p image =
-    map (λ b. b.depth) image.bodies.items ≡ map (λ r. body_need r.body) (routines p)
+    map (λ b. b.depth) image.bodies.items ≡ map (λ r. body_need r.body.statements) (routines p)

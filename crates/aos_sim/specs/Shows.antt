@@ -59,12 +59,12 @@ shape_of rows r = by r.own
           params = [];
           cells = 0;
           counted = 0;
-          keeps = keeps_of r.body;
+          keeps = keeps_of r.body.statements;
           result = None;
           method = false;
           kinds = [];
         }
-    by (Some q) = known rows r.home (keeps_of r.body) q
+    by (Some q) = known rows r.home (keeps_of r.body.statements) q
 
 -- These bodies, shapes and descriptions are the code of a program: each routine has a body and a shape, those of modules first. The
 -- cells of a module have numbers of 32 bits.

@@ -6,6 +6,7 @@ ghost use Rattle.aos_typed.specs.Program.{Program};
 ghost use Rattle.aos_code.specs.declared.image.Image.{Image};
 ghost use Rattle.aos_typed.specs.WellTyped.{IsWellTyped};
 ghost use Rattle.aos_sim.specs.Shows.{IsCodeOf, Shows, NeverLost};
+ghost use Rattle.aos_sim.specs.Monitors.{HasMonitors};
 ghost use Rattle.aos_sim.specs.Rewriting.{DesignatorRewrites, ExpressionRewrites, StatementRewrites, AssignedRewrites, AssignmentRewrites};
 
 /// An image that has a well-typed program's code shows the program: for every budget and every
@@ -19,6 +20,16 @@ pub fn image_shows_program()
 /// which finds another operand than it takes, or a place that isn't there.
 pub fn image_is_never_lost()
     ensures { (p : Program) (image : Image) → IsWellTyped p → IsCodeOf p image → NeverLost image }
+{}
+
+/// In every state of every execution of a program at most one activity is in a lock's regions and
+/// doesn't wait for the lock, and it is the owner; a lock with an entrant has an owner; an activity
+/// that has ended owns nothing and stands nowhere; and each activity stands in one queue at most.
+/// Each release gives the lock to the first waiter whose condition holds or traps, else to the first
+/// entrant, else to nobody. Each trap line has a trap at its entry of the schedule, and no other entry
+/// adds one. Where an execution is Dead, each activity that hasn't ended stands in a lock's list.
+pub fn program_has_monitors()
+    ensures { (p : Program) → HasMonitors p }
 {}
 
 /// A designator or an expression whose first reads have been answered means the same as the one in

@@ -1,5 +1,5 @@
 -- A row of statements is seen as their list is, and so are those of arms and of arguments.
-use Rattle.std.proofs.Common.{◌≡◌, refl, sym, ap, ◌∙◌, ℕ, ℤ}
+use Rattle.std.proofs.Common.{◌≡◌, refl, sym, ap, ◌∙◌, ℕ, ℤ, Bool}
 use Rattle.std.specs.declared.vec.Vec.{Vec}
 use Rattle.std.specs.declared.alloc.Global.{Global}
 use Rattle.aos_base.specs.declared.text.Pos.{Pos}
@@ -60,8 +60,8 @@ loop_seen at body = ap (λ l. Loop at l) (body_seen body)
 pub for_seen : (at : Pos) (w : Width) (p : TPlace) (from to : TExpr) (step : ℤ) (body : Vec TStat Global) → seen_stat (view.For at w p from to step body) ≡ For at w (seen_place p) (seen_expr from) (seen_expr to) step (seen_stats body.items)
 for_seen at w p from to step body = ap (λ l. For at w (seen_place p) (seen_expr from) (seen_expr to) step l) (body_seen body)
 
-pub block_seen : (at : Pos) (body : Vec TStat Global) → seen_stat (view.Block at body) ≡ Block at (seen_stats body.items)
-block_seen at body = ap (λ l. Block at l) (body_seen body)
+pub block_seen : (at : Pos) (exclusive : Bool) (body : Vec TStat Global) → seen_stat (view.Block at exclusive body) ≡ Block at exclusive (seen_stats body.items)
+block_seen at exclusive body = ap (λ l. Block at exclusive l) (body_seen body)
 
 pub with_seen : (at : Pos) (e : TExpr) (body : Vec TStat Global) → seen_stat (view.With at e body) ≡ With at (seen_expr e) (seen_stats body.items)
 with_seen at e body = ap (λ l. With at (seen_expr e) l) (body_seen body)

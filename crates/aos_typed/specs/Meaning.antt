@@ -15,7 +15,7 @@ use Rattle.aos_typed.specs.declared.tree.Change.TheVariants as change
 use Rattle.aos_typed.specs.declared.tree.LabelRange.{LabelRange}
 use Rattle.aos_typed.specs.declared.tree.TType.TheVariants.{Integer, Set}
 use Rattle.aos_base.specs.Question.{Tree, Val, Traps, bind, ask, Ask, ByName, ByType, Upward, Initially, ByCreator, ByValue, Reads, Stores, Copies, PutsText, ComparesTexts, Calls, Places, Lengths, Opens, Sizes, Tests, Makes, Starts, PutsInt, PutsChar, PutsString, PutsLn, PutsNothing}
-use Rattle.aos_typed.specs.Program.{Place, ModuleVar, Local, Passed, Field, Index, Of, Deref, Typed, Guarded, Rows, Known, Opened, Row, Spread, Longer, Arguments, NoMore, Scalar, Whole, Opening, Callee, Plain, Dispatched, Upper, Through, Expr, Lit, SelfRef, Read, Unary, Binary, And, Or, Element, Ord, Chr, CompareTexts, Len, LenBehind, Function, Same, Is, IsRecord, Guard, ProcedureOf, MethodOf, SameProcedure, Had, Call, Open as OutOpen, Char as OutChar, Int as OutInt, String as OutString, Ln as OutLn, Stat, Assign, Copy, PutText, If, Case, While, Repeat, Loop, Exit, For, Block, Assert, Halt, Change, Perform, Return, New, Make, With, WithRecord, Out, Stats, Nothing, Then, Arms, Otherwise, Arm, Cases, NoElse, Else, OfLabels, Program}
+use Rattle.aos_typed.specs.Program.{Place, ModuleVar, Local, Passed, Field, Index, Of, Deref, Typed, Guarded, Rows, Known, Opened, Row, Spread, Longer, Arguments, NoMore, Scalar, Whole, Opening, Callee, Plain, Dispatched, Upper, Through, Expr, Lit, SelfRef, Read, Unary, Binary, And, Or, Element, Ord, Chr, CompareTexts, Len, LenBehind, Function, Same, Is, IsRecord, Guard, ProcedureOf, MethodOf, SameProcedure, Had, Call, Open as OutOpen, Char as OutChar, Int as OutInt, String as OutString, Ln as OutLn, Stat, Assign, Copy, PutText, If, Case, While, Repeat, Loop, Exit, For, Block, Assert, Halt, Change, Perform, Return, New, Make, With, WithRecord, Out, Stats, Nothing, Then, Arms, Otherwise, Arm, Cases, NoElse, Else, OfLabels, Body, Program}
 use Rattle.aos_types.specs.declared.row.TypeId.{TypeId}
 use Rattle.aos_types.specs.declared.row.TypeRow.{TypeRow}
 use Rattle.aos_types.specs.Extension.{comes_to}
@@ -278,16 +278,29 @@ module _ (p : Program) (here : Here) where
   values_of (e ∷ es) = bind (value_of e) (λ v. bind (values_of es) (λ vs. Val (v ∷ vs)))
 
 -- What remains of a frame's statements: one that is to begin; the rounds of a FOR, with its last value and its step, each of which
--- begins; a LOOP, which begins again; or what follows the statements of a REPEAT, which doesn't begin.
+-- begins; a LOOP, which begins again; what follows the statements of a REPEAT, which doesn't begin; a region that is to be entered, with
+-- its statements; the mark of one that is open, which ends there; or the end of the frame, with a result, behind which nothing counts. The
+-- last three aren't begun.
 pub data Item : Type 0 where
   Do : Stat → Item
   Rounds : Pos → Width → Place → (last step : ℤ) → Stats → Item
   Round : Stat → Item
   Until : Pos → Stats → Expr → Item
+  Region : Stats → Item
+  End : Item
+  Gives : Option Value → Item
 
 abbrev pub items_of : Stats → List Item
 items_of Nothing = []
 items_of (Then s ss) = Do s ∷ items_of ss
+
+-- statements that are a region where they are exclusive
+abbrev pub block_items : (exclusive : Bool) → Stats → List Item
+block_items true ss = Region ss ∷ []
+block_items false ss = items_of ss
+
+abbrev pub body_items : Body → List Item
+body_items b = block_items b.is_exclusive b.statements
 
 -- what follows a statement
 pub data After : Type 0 where
@@ -295,13 +308,27 @@ pub data After : Type 0 where
   Returns : Option Value → After  -- the end of the frame, with this result
   Exits : After  -- what follows the innermost LOOP
 
--- what remains behind the innermost LOOP
+-- what remains behind the innermost LOOP: the regions within it end before that
 abbrev pub leave : List Item → List Item
 leave [] = []
 leave (Do s ∷ is) = leave is
 leave (Rounds at w p last step b ∷ is) = leave is
 leave (Round s ∷ is) = is
 leave (Until at b e ∷ is) = leave is
+leave (Region ss ∷ is) = leave is
+leave (End ∷ is) = End ∷ leave is
+leave (Gives r ∷ is) = Gives r ∷ []
+
+-- what remains where the frame is left with a result: its regions end before that, the inner first
+abbrev pub leave_all : Option Value → List Item → List Item
+leave_all r [] = Gives r ∷ []
+leave_all r (Do s ∷ is) = leave_all r is
+leave_all r (Rounds at w p last step b ∷ is) = leave_all r is
+leave_all r (Round s ∷ is) = leave_all r is
+leave_all r (Until at b e ∷ is) = leave_all r is
+leave_all r (Region ss ∷ is) = leave_all r is
+leave_all r (End ∷ is) = End ∷ leave_all r is
+leave_all r (Gives r' ∷ is) = Gives r ∷ []
 
 -- the arm of a selector's value; trap 4 where none has it and there is no ELSE
 abbrev pub is_in : ℤ → LabelRange → Bool
@@ -344,7 +371,7 @@ pos_of (Repeat at body e) = at
 pos_of (Loop at body) = at
 pos_of (Exit at) = at
 pos_of (For at w p from to step body) = at
-pos_of (Block at body) = at
+pos_of (Block at exclusive body) = at
 pos_of (Assert at e code) = at
 pos_of (Halt at code) = at
 pos_of (Change at c p e) = at
@@ -402,7 +429,7 @@ module _ (p : Program) (here : Here) where
   stat_of (Exit at) = Val Exits
   stat_of (For at w q from to step body) =
       bind (value to) (λ v. Val (Into (Do (Assign at (Integer w) q from) ∷ Rounds at w q (number_of v) step body ∷ [])))
-  stat_of (Block at body) = Val (Into (items_of body))
+  stat_of (Block at exclusive body) = Val (Into (block_items exclusive body))
   stat_of (Assert at e code) = bind (value e) (λ v. if is_true v then Val (Into []) else Traps 7 code)
   stat_of (Halt at code) = Traps 8 code
   stat_of (Change at c q e) =
@@ -429,3 +456,7 @@ module _ (p : Program) (here : Here) where
   item_of (Rounds at w q last step b) = rounds_of at w q last step b
   item_of (Round s) = stat_of s
   item_of (Until at b e) = bind (value e) (λ v. Val (Into (if is_true v then [] else Do (Repeat at b e) ∷ [])))
+  -- these don't begin: they stand for themselves
+  item_of (Region ss) = Val (Into (Region ss ∷ []))
+  item_of End = Val (Into (End ∷ []))
+  item_of (Gives r) = Val (Into (Gives r ∷ []))

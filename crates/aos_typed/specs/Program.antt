@@ -103,7 +103,7 @@ mutual
     Loop : Pos → Stats → Stat
     Exit : Pos → Stat
     For : Pos → Width → Place → (from to : Expr) → (step : ℤ) → Stats → Stat
-    Block : Pos → Stats → Stat
+    Block : Pos → (exclusive : Bool) → Stats → Stat  -- an exclusive one is a region of its body's lock
     Assert : Pos → Expr → (code : ℕ) → Stat
     Halt : Pos → (code : ℕ) → Stat
     Change : Pos → Changing → Place → Expr → Stat
@@ -141,7 +141,12 @@ pub record Parameter : Type 0 where
   pub by_reference : Bool
   pub of : TType
 
--- a procedure, with the statements of its body; a proper one has no result. A method or an object's body is of a type, by the
+-- what is carried out: statements, all of which are a region where the body is exclusive
+pub record Body : Type 0 where
+  pub is_exclusive : Bool
+  pub statements : Stats
+
+-- a procedure, with its body; a proper one has no result. A method or an object's body is of a type, by the
 -- type's number in the program; and a method may be an initializer
 pub record Procedure : Type 0 where
   pub name : List ℕ
@@ -150,7 +155,7 @@ pub record Procedure : Type 0 where
   pub parameters : List Parameter
   pub locals : List Variable
   pub result : Option TType
-  pub body : Stats
+  pub body : Body
 
 -- a method, with its slot: that of the method which it overrides, or else the next one
 pub record Method : Type 0 where
@@ -174,7 +179,7 @@ pub record Module : Type 0 where
   pub variables : List Variable
   pub texts : List (List ℕ)
   pub procedures : List Procedure
-  pub body : Stats
+  pub body : Body
 
 -- the modules in load order, the table of all types, of which the predeclared ones stand first, and what stands beside those
 -- behind them

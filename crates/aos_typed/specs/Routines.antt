@@ -3,14 +3,14 @@
 use Rattle.std.specs.Prelude.{ℕ, suc, List, [], ◌∷◌, ◌++◌, map, Bool, is_some, Option, Some, None, option_and_then}
 use Rattle.aos_base.specs.Rooted.{by_number}
 use Rattle.aos_typed.specs.declared.tree.TType.{TType}
-use Rattle.aos_typed.specs.Program.{Stats, Parameter, Variable, Procedure, ObjectType, Module, Program}
+use Rattle.aos_typed.specs.Program.{Body, Parameter, Variable, Procedure, ObjectType, Module, Program}
 
--- the statements of a module's body, or of a procedure, a method or an object's body, which is none for a module's, and the number
--- of the module whose text they are
+-- a module's body, or that of a procedure, a method or an object, which is none for a module's, and the number of the module whose
+-- text it is
 pub record Routine : Type 0 where
   pub home : ℕ
   pub own : Option Procedure
-  pub body : Stats
+  pub body : Body
 
 -- the parameters, the locals and the result; a module's body has none
 abbrev pub parameters_of : Option Procedure → List Parameter

@@ -1,5 +1,5 @@
 -- What the code's program is seen as: boxes and vectors are left out, and names are their bytes.
-use Rattle.std.specs.Prelude.{List, [], ◌∷◌, map, option_map}
+use Rattle.std.specs.Prelude.{List, [], ◌∷◌, map, Bool, option_map}
 use Rattle.std.specs.String.{string_bytes}
 use Rattle.aos_typed.specs.declared.tree.TPlace.{TPlace}
 use Rattle.aos_typed.specs.declared.tree.TPlace.TheVariants as place
@@ -26,7 +26,7 @@ use Rattle.aos_typed.specs.declared.tree.TMethod.{TMethod}
 use Rattle.aos_typed.specs.declared.tree.TObject.{TObject}
 use Rattle.aos_typed.specs.declared.tree.TModule.{TModule}
 use Rattle.aos_typed.specs.declared.tree.Program.{Program as TProgram}
-use Rattle.aos_typed.specs.Program.{Place, ModuleVar, Local, Passed, Field, Index, Of, Deref, Typed, Guarded, Rows, Known, Opened, Row, Spread, Longer, Arguments, NoMore, Scalar, Whole, Opening, Callee, Plain, Dispatched, Upper, Through, Expr, Lit, SelfRef, Read, Unary, Binary, And, Or, Element, Ord, Chr, CompareTexts, Len, LenBehind, Function, Same, Is, IsRecord, Guard, ProcedureOf, MethodOf, SameProcedure, Call, Open, Char, Int, String, Ln, Stat, Assign, Copy, PutText, If, Case, While, Repeat, Loop, Exit, For, Block, Assert, Halt, Change, Perform, Return, New, Make, With, WithRecord, Out, Stats, Nothing, Then, Arms, Otherwise, Arm, Cases, NoElse, Else, OfLabels, Variable, Parameter, Procedure, Method, ObjectType, Module, Program}
+use Rattle.aos_typed.specs.Program.{Place, ModuleVar, Local, Passed, Field, Index, Of, Deref, Typed, Guarded, Rows, Known, Opened, Row, Spread, Longer, Arguments, NoMore, Scalar, Whole, Opening, Callee, Plain, Dispatched, Upper, Through, Expr, Lit, SelfRef, Read, Unary, Binary, And, Or, Element, Ord, Chr, CompareTexts, Len, LenBehind, Function, Same, Is, IsRecord, Guard, ProcedureOf, MethodOf, SameProcedure, Call, Open, Char, Int, String, Ln, Stat, Assign, Copy, PutText, If, Case, While, Repeat, Loop, Exit, For, Block, Assert, Halt, Change, Perform, Return, New, Make, With, WithRecord, Out, Stats, Nothing, Then, Arms, Otherwise, Arm, Cases, NoElse, Else, OfLabels, Variable, Parameter, Body, Procedure, Method, ObjectType, Module, Program}
 
 abbrev mutual
   pub seen_place : TPlace → Place
@@ -108,7 +108,7 @@ abbrev mutual
   seen_stat (stat.Loop' at shape body) = Loop at (seen_row body)
   seen_stat (stat.Exit at) = Exit at
   seen_stat (stat.For' at w p from to step shape body) = For at w (seen_place p) (seen_expr from) (seen_expr to) step (seen_row body)
-  seen_stat (stat.Block' at shape body) = Block at (seen_row body)
+  seen_stat (stat.Block' at exclusive shape body) = Block at exclusive (seen_row body)
   seen_stat (stat.Assert at e code) = Assert at (seen_expr e) code
   seen_stat (stat.Halt at code) = Halt at code
   seen_stat (stat.Change at c p e) = Change at c (seen_place p) (seen_expr e)
@@ -157,6 +157,9 @@ seen_variable v = record { name = string_bytes v.name; of = v.of }
 abbrev pub seen_parameter : TParameter → Parameter
 seen_parameter p = record { name = string_bytes p.name; by_reference = p.by_reference; of = p.of }
 
+abbrev pub seen_body : Bool → List TStat → Body
+seen_body exclusive ss = record { is_exclusive = exclusive; statements = seen_stats ss }
+
 abbrev pub seen_procedure : TProcedure → Procedure
 seen_procedure p =
     record {
@@ -166,7 +169,7 @@ seen_procedure p =
       parameters = map seen_parameter p.parameters.items;
       locals = map seen_variable p.locals.items;
       result = p.result;
-      body = seen_stats p.body.items;
+      body = seen_body p.is_exclusive p.body.items;
     }
 
 abbrev pub seen_method : TMethod → Method
@@ -190,7 +193,7 @@ seen_module m =
       variables = map seen_variable m.variables.items;
       texts = map (λ t. t.items) m.texts.items;
       procedures = map seen_procedure m.procedures.items;
-      body = seen_stats m.body.items;
+      body = seen_body m.is_exclusive m.body.items;
     }
 
 abbrev pub seen_program : TProgram → Program

@@ -26,7 +26,7 @@ use Rattle.aos_types.specs.Shape.{Shape, Nothing, size}
 use Rattle.aos_types.specs.Shape as shape
 use Rattle.aos_types.specs.Content.{Content, Scalar, Empty, Row, found, placed, overlay, first_content}
 use Rattle.aos_types.specs.World.{read}
-use Rattle.aos_typed.specs.Program.{Stats, Repeat, Variable as TypedVariable, ObjectType, Module, Program}
+use Rattle.aos_typed.specs.Program.{Body, Repeat, Variable as TypedVariable, ObjectType, Module, Program}
 use Rattle.aos_typed.specs.Handed.{Part, nested, head, handed}
 use Rattle.aos_typed.specs.Numbers.{id_of, id_of_made}
 use Rattle.aos_typed.specs.Open.{open_element}
@@ -37,7 +37,7 @@ use Rattle.aos_typed.specs.Spot.{Spot, OnHeap}
 use Rattle.aos_typed.specs.Text.{text_in, with_text, fitted, text_content, text_shape}
 use Rattle.aos_typed.specs.Value.{Value, Int, Flag, Char, Set, Object, Callable, Place, number_of, is_true}
 use Rattle.aos_typed.specs.Store.{Store, scalar_in, rooted, value_at, store_with, type_of_object, with_object, new_number, has_room, made_in}
-use Rattle.aos_typed.specs.Meaning.{Here, Question, Doing, Item, Do, Rounds, Round, Until, After, Into, Exits, Returns, leave, items_of, item_of, pos_of, value_of, object_in}
+use Rattle.aos_typed.specs.Meaning.{Here, Question, Doing, Item, Do, Rounds, Round, Until, Region, End, Gives, After, Into, Exits, Returns, leave, leave_all, items_of, body_items, item_of, pos_of, value_of, object_in}
 
 -- a frame: the module of its text, the object whose method or body it is, 0 for none, whether it is a function's, the shape of its
 -- variables and what they hold, how many scalars count, the statement last begun, the items that remain, and the answers that the
@@ -61,7 +61,7 @@ pub record Frames : Type 0 where
 abbrev pub Turned : Type 0
 Turned = Turn Store Frames
 
--- the lock of a frame's regions: that of the object whose method or body it is, or else of its module
+-- the lock of a frame's regions, all of which have the same one: that of the object whose method or body it is, or else of its module
 abbrev pub own_lock : (home object : ℕ) → LockName
 own_lock home zero = ModuleLock home
 own_lock home (suc k) = ObjectLock (suc k)
@@ -290,7 +290,7 @@ module _ (p : Program) (following : List ℕ) where
         counted = size all;
         variables = row_of (map (λ x. x.content) parts);
         at = None;
-        items = items_of r.body;
+        items = body_items r.body;
         answers = None;
       }
 
@@ -311,11 +311,8 @@ module _ (p : Program) (following : List ℕ) where
   abbrev pub answer : Question → Frame → List Frame → Store → Turned
   answer (Reads t q) f fs s = goes_on following (answered (value_at q (all_rooted (f ∷ fs) s)) f ∷ fs) s
   answer (Stores q v) f fs s = writes following q.root (placed q.path (Scalar v)) (answered done f ∷ fs) s
-  answer (Ends result) f fs s = ends following result fs s
   answer (Makes t vs) f fs s = makes_with (array_lengths (map number_of vs)) t f fs s
   answer (Starts v) f fs s = starts following v f fs s
-  answer Enters f fs s = leaves following (Enter (lock_of f)) (f ∷ fs) s
-  answer Leaves f fs s = leaves following (Leave (lock_of f)) (f ∷ fs) s
   answer (PutsInt v n) f fs s = prints following (written v n) f fs s
   answer (PutsChar v) f fs s = puts following (unsigned_abs (number_of v) ∷ []) (answered done f ∷ fs) s
   answer PutsNothing f fs s = puts following [] (answered done f ∷ fs) s
@@ -340,6 +337,10 @@ module _ (p : Program) (following : List ℕ) where
   answer (Opens v) f fs s = goes_on following (answered done f ∷ fs) s
   answer (Sizes v d) f fs s = goes_on following (answered done f ∷ fs) s
   answer (Tests v t) f fs s = goes_on following (answered done f ∷ fs) s
+  -- asked by no statement: items end a frame, and enter and end its regions
+  answer (Ends result) f fs s = goes_on following (answered done f ∷ fs) s
+  answer Enters f fs s = goes_on following (answered done f ∷ fs) s
+  answer Leaves f fs s = goes_on following (answered done f ∷ fs) s
 
   -- the first of these items goes on without a beginning: what follows where its value is TRUE, and where it's FALSE
   abbrev pub tests : Doing Value → (if_true if_false : Turned) → Frame → List Frame → Store → Turned
@@ -352,7 +353,12 @@ module _ (p : Program) (following : List ℕ) where
   finishes true f fs s = leaves following (Trapped 10 0) (f ∷ fs) s
   finishes false f fs s = ends following None fs s
 
-  -- the next item begins, or the frame ends where there is none; the condition behind a REPEAT's statements is no beginning
+  -- the first of these items leaves work to the kernel, without a beginning
+  abbrev pub asks_for : Did → List Item → Frame → List Frame → Store → Turned
+  asks_for work is f fs s = leaves following work (record f { items = is; answers = None } ∷ fs) s
+
+  -- the next item begins, or the frame ends where there is none; the condition behind a REPEAT's statements is no beginning, nor is the
+  -- entry of a region or its end
   abbrev pub settles : List Item → Frame → List Frame → Store → Turned
   settles [] f fs s = finishes f.gives f fs s
   settles (Do st ∷ is) f fs s = begins following (pos_of st) (Do st ∷ is) f fs s
@@ -362,11 +368,14 @@ module _ (p : Program) (following : List ℕ) where
       let test = value_of p (here_of f fs) e in
       tests (calm p.types (made_in s) f.variables test) (settles is f fs s) (begins following at (Do (Repeat at b e) ∷ is) f fs s)
       (record f { items = Until at b e ∷ is; answers = Some (noted p.types (made_in s) f.variables test) }) fs s
+  settles (Region ss ∷ is) f fs s = asks_for (Enter (lock_of f)) (Region ss ∷ is) f fs s
+  settles (End ∷ is) f fs s = asks_for (Leave (lock_of f)) (End ∷ is) f fs s
+  settles (Gives r ∷ is) f fs s = ends following r fs s
 
   abbrev pub goes : Doing After → List Item → Frame → List Frame → Store → Turned
   goes (Val (Into is)) rest f fs s = settles (is ++ rest) f fs s
   goes (Val Exits) rest f fs s = settles (leave rest) f fs s
-  goes (Val (Returns r)) rest f fs s = ends following r fs s
+  goes (Val (Returns r)) rest f fs s = settles (leave_all r rest) f fs s
   goes (Asks q k) rest f fs s = answer q f fs s
   goes (Traps n c) rest f fs s = leaves following (Trapped n c) (f ∷ fs) s
 
@@ -383,9 +392,9 @@ module _ (p : Program) (following : List ℕ) where
   turn_at [] s = leaves following Ended [] s
   turn_at (f ∷ fs) s = item_turn f.answers f.items f fs s
 
--- the frame of a body, which has no variables: of this module, on this object, and with these statements
-abbrev pub body_frame : (home object : ℕ) → Stats → Frame
-body_frame home o ss =
+-- the frame of a body, which has no variables: of this module, and on this object
+abbrev pub body_frame : (home object : ℕ) → Body → Frame
+body_frame home o b =
     record {
       home = home;
       object = o;
@@ -394,7 +403,7 @@ body_frame home o ss =
       counted = 0;
       variables = Empty;
       at = None;
-      items = items_of ss;
+      items = body_items b;
       answers = None;
     }
 
@@ -406,15 +415,52 @@ abbrev pub position_or : Where → List Frame → Where
 position_or none [] = none
 position_or none (f ∷ fs) = or_below f.at f.home (position_or none fs)
 
--- where the topmost frame that has begun a statement stands; line 0 and column 0 where none has
-abbrev pub position_in : List Frame → Where
-position_in [] = record { module_ = 0; pos = record { line = 0; col = 0 } }
-position_in (f ∷ fs) = position_or (record { module_ = f.home; pos = record { line = 0; col = 0 } }) (f ∷ fs)
+-- the module of the lowest frame, or this one where there is none
+abbrev pub lowest_home : ℕ → List Frame → ℕ
+lowest_home home [] = home
+lowest_home home (f ∷ fs) = lowest_home f.home fs
 
--- past the work that was left to the kernel, which is the first item's latest question
+-- where the topmost frame that has begun a statement stands; where none has, line 0 and column 0 of the module of the body with which
+-- the activity began
+abbrev pub position_in : List Frame → Where
+position_in fs = position_or (record { module_ = lowest_home 0 fs; pos = record { line = 0; col = 0 } }) fs
+
+-- Past the work that was left to the kernel: the latest question of the first item, where it has begun; or else the entry of a region,
+-- whose mark then stands behind its statements, or its end, with which the mark is gone.
+
+abbrev pub goes_into : List Item → Frame → Frame
+goes_into [] f = f
+goes_into (Region ss ∷ is) f = record f { items = items_of ss ++ End ∷ is }
+goes_into (End ∷ is) f = record f { items = is }
+goes_into (Do st ∷ is) f = f
+goes_into (Rounds at w p last step b ∷ is) f = f
+goes_into (Round st ∷ is) f = f
+goes_into (Until at b e ∷ is) f = f
+goes_into (Gives r ∷ is) f = f
+
+abbrev pub past_by : Option (List Value) → Frame → Frame
+past_by None f = goes_into f.items f
+past_by (Some vs) f = record f { answers = Some (vs ++ done ∷ []) }
+
 abbrev pub past_all : List Frame → List Frame
 past_all [] = []
-past_all (f ∷ fs) = answered done f ∷ fs
+past_all (f ∷ fs) = past_by f.answers f ∷ fs
+
+-- The locks of the open regions, the latest entered first: each has its mark.
+
+abbrev pub locks_in : LockName → List Item → List LockName
+locks_in l [] = []
+locks_in l (Do st ∷ is) = locks_in l is
+locks_in l (Rounds at w p last step b ∷ is) = locks_in l is
+locks_in l (Round st ∷ is) = locks_in l is
+locks_in l (Until at b e ∷ is) = locks_in l is
+locks_in l (Region ss ∷ is) = locks_in l is
+locks_in l (End ∷ is) = l ∷ locks_in l is
+locks_in l (Gives r ∷ is) = []
+
+abbrev pub regions_of : List Frame → List LockName
+regions_of [] = []
+regions_of (f ∷ fs) = locks_in (lock_of f) f.items ++ regions_of fs
 
 -- with which the body begins that an object has, which is that of a type
 abbrev pub object_frames : ℕ → Option ObjectType → Frames
@@ -472,7 +518,7 @@ module _ (p : Program) where
         turn = turn;
         past = past;
         verdict = λ s fs c. Fails;
-        regions = λ fs. [];
+        regions = λ fs. regions_of fs.frames;
         position = λ fs. position_in (opened fs).frames;
         body = body_of;
         priority = λ s o. 2;

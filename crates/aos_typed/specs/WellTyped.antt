@@ -481,7 +481,7 @@ module _ (p : Program) where
       IsStatement (For at w place from to step body) =
           (is_variable place ≡ true) × IsPlaceOf place (Integer w) × IsOf from (Integer w) × IsOf to (Integer w)
           × IsWithin w step × AreStatements body
-      IsStatement (Block at body) = AreStatements body
+      IsStatement (Block at exclusive body) = AreStatements body
       IsStatement (Assert at e code) = IsOf e Boolean × (code < 256)
       IsStatement (Halt at code) = code < 256
       IsStatement (Change at c place e) = IsPlaceOf place (changed_type c) × IsOf e (amount_type c)
@@ -544,7 +544,7 @@ pub record IsProcedure (p : Program) (x : Procedure) : Type 0 where
   pub parameters : All (λ a. IsType p a.of) x.parameters
   pub locals : All (λ v. IsVariableType p v.of) x.locals
   pub result : IsResult p x.result
-  pub body : AreStatements p (Some x) x.body
+  pub body : AreStatements p (Some x) x.body.statements
 
 -- What stands beside types.
 
@@ -605,7 +605,7 @@ pub record IsWellTyped (p : Program) : Type 0 where
   pub few : length p.modules ≤ 64
   pub names : All (λ m. is_ident m.name ≡ true) p.modules
   pub differ : AllPairs (λ m n. m.name ≢ n.name) p.modules
-  pub bodies : All (λ m. AreStatements p None m.body) p.modules
+  pub bodies : All (λ m. AreStatements p None m.body.statements) p.modules
   pub objects : AreObjectTypes p 0 p.objects
   pub homes : All (λ o. o.home < length p.modules) p.objects
   pub types : AreTypes p.types

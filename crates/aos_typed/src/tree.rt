@@ -297,7 +297,9 @@ pub enum TStat {
     Exit(Pos),
     /// FOR with an integer variable of this width: the value that it begins with, the last one, the step, and its statements.
     For(Pos, Width, TPlace, TExpr, TExpr, i64, Vec<TStat>),
-    Block(Pos, Vec<TStat>),
+    /// A block. One that is exclusive is a region of its body's lock: that of the object whose method or body it stands in, or else
+    /// that of the module.
+    Block(Pos, bool, Vec<TStat>),
     /// Trap 7 with a code where the condition is FALSE.
     Assert(Pos, TExpr, u8),
     /// Trap 8 with a code.
@@ -349,7 +351,7 @@ pub struct TParameter {
 }
 
 /// A procedure, with the statements of its body; a proper one has no result. A method or an object's body says of which type it
-/// is, by the type's number in the program, and an initializer that it is one.
+/// is, by the type's number in the program, and an initializer that it is one. An exclusive body is a region, as an exclusive block is.
 #[derive(Drop, Debug)]
 pub struct TProcedure {
     pub name: String,
@@ -358,6 +360,7 @@ pub struct TProcedure {
     pub parameters: Vec<TParameter>,
     pub locals: Vec<TVariable>,
     pub result: Option<TType>,
+    pub is_exclusive: bool,
     pub body: Vec<TStat>,
 }
 
@@ -385,13 +388,15 @@ pub struct TObject {
     pub methods: Vec<TMethod>,
 }
 
-/// A module, with its string constants, by the codes of their characters, its procedures, and the statements of its body.
+/// A module, with its string constants, by the codes of their characters, its procedures, and the statements of its body, which is a
+/// region of the module's lock where it is exclusive.
 #[derive(Drop, Debug)]
 pub struct TModule {
     pub name: String,
     pub variables: Vec<TVariable>,
     pub texts: Vec<Vec<u8>>,
     pub procedures: Vec<TProcedure>,
+    pub is_exclusive: bool,
     pub body: Vec<TStat>,
 }
 
