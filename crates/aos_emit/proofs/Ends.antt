@@ -1,7 +1,7 @@
 -- What a routine ends with.
 use Rattle.std.proofs.Common.{◌≡◌, ℕ, Bool, true, false, List, [], ◌∷◌, Option, Some, None, refl}
 use Rattle.aos_typed.specs.declared.tree.TType.{TType}
-use Rattle.aos_typed.specs.Program.{Stats, Parameter, Variable, Procedure, Program}
+use Rattle.aos_typed.specs.Program.{Body, Parameter, Variable, Procedure, Program}
 use Rattle.aos_typed.specs.Routines.{gives}
 use Rattle.aos_code.specs.declared.instr.Instr.TheVariants.{Fail, Return}
 use Rattle.aos_sim.specs.Code.{end_code}
@@ -11,7 +11,7 @@ module _ (p : Program) where
   gives_end None e = absurd (cc)
   gives_end (Some q) e = by q.name q.of q.is_initializer q.parameters q.locals q.result q.body e
     where
-      by : (name : List ℕ) (of : Option ℕ) (initial : Bool) (parameters : List Parameter) (locals : List Variable) (result : Option TType) (body : Stats) → gives (Some (record { name = name; of = of; is_initializer = initial; parameters = parameters; locals = locals; result = result; body = body })) ≡ true → end_code p (Some (record { name = name; of = of; is_initializer = initial; parameters = parameters; locals = locals; result = result; body = body })) ≡ Fail 10 ∷ []
+      by : (name : List ℕ) (of : Option ℕ) (initial : Bool) (parameters : List Parameter) (locals : List Variable) (result : Option TType) (body : Body) → gives (Some (record { name = name; of = of; is_initializer = initial; parameters = parameters; locals = locals; result = result; body = body })) ≡ true → end_code p (Some (record { name = name; of = of; is_initializer = initial; parameters = parameters; locals = locals; result = result; body = body })) ≡ Fail 10 ∷ []
       by name of initial parameters locals None body e = absurd (cc)
       by name of initial parameters locals (Some t) body e = refl
 
@@ -19,6 +19,6 @@ module _ (p : Program) where
   nothing_end None e = refl
   nothing_end (Some q) e = by q.name q.of q.is_initializer q.parameters q.locals q.result q.body e
     where
-      by : (name : List ℕ) (of : Option ℕ) (initial : Bool) (parameters : List Parameter) (locals : List Variable) (result : Option TType) (body : Stats) → gives (Some (record { name = name; of = of; is_initializer = initial; parameters = parameters; locals = locals; result = result; body = body })) ≡ false → end_code p (Some (record { name = name; of = of; is_initializer = initial; parameters = parameters; locals = locals; result = result; body = body })) ≡ Return ∷ []
+      by : (name : List ℕ) (of : Option ℕ) (initial : Bool) (parameters : List Parameter) (locals : List Variable) (result : Option TType) (body : Body) → gives (Some (record { name = name; of = of; is_initializer = initial; parameters = parameters; locals = locals; result = result; body = body })) ≡ false → end_code p (Some (record { name = name; of = of; is_initializer = initial; parameters = parameters; locals = locals; result = result; body = body })) ≡ Return ∷ []
       by name of initial parameters locals None body e = refl
       by name of initial parameters locals (Some t) body e = absurd (cc)

@@ -10,3 +10,4 @@ pub mod Made
 pub mod Stash
 pub mod Sorts
 pub mod Searches
+pub mod Ways

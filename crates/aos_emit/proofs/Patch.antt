@@ -15,9 +15,9 @@ use Rattle.aos_typed.specs.Seen.{seen_stat}
 use Rattle.aos_code.specs.declared.instr.Instr.{Instr}
 use Rattle.aos_code.specs.declared.instr.Instr.TheVariants.{Kept, Binary, Jump, JumpFalse}
 use Rattle.aos_code.specs.declared.instr.Kind.TheVariants.{N}
-use Rattle.aos_sim.specs.Code.{begin, value_code, step_code, body_place, rounds_with, stat_code, stats_code, cases_code}
+use Rattle.aos_sim.specs.Code.{Ways, begin, value_code, step_code, body_place, rounds_with, stat_code, stats_code, cases_code}
 use Rattle.aos_emit.specs.Places.{places_from}
-use Rattle.aos_emit.specs.Redirect.{pending_exit, pending_end, redirect, redirect_behind}
+use Rattle.aos_emit.specs.Redirect.{pending_end, redirect, redirect_behind}
 
 -- code behind other code
 pub followed : (base c1 c2 front : List Instr) (back : ℕ → List Instr) → c1 ≡ base ++ front → c2 ≡ c1 ++ back (length c1) → c2 ≡ base ++ (front ++ back (length base + length front))
@@ -55,29 +55,29 @@ patched base front inside c1 c2 c3 c4 x last over n1 n2 e1 m1 e2 e3 e4 m2 =
     ∙ ap (λ n. base ++ (front ++ (over n ∷ (b ++ last ∷ [])))) d
 
 -- one more arm of CASE
-module _ (p : Program) (own : Option Procedure) (base c1 c2 : List Instr) (rs : List LabelRange) (ss : Stats) (rest : Cases) (d : ℕ) (e1 : c1 ≡ base ++ stats_code p own ss (length base) pending_exit d) (e2 : c2 ≡ c1 ++ Jump pending_end ∷ []) where
-  behind : length c2 ≡ length base + length (stats_code p own ss (length base) pending_exit d) + 1
+module _ (p : Program) (own : Option Procedure) (w : Ways) (base c1 c2 : List Instr) (rs : List LabelRange) (ss : Stats) (rest : Cases) (d : ℕ) (e1 : c1 ≡ base ++ stats_code p own ss (length base) w d) (e2 : c2 ≡ c1 ++ Jump pending_end ∷ []) where
+  behind : length c2 ≡ length base + length (stats_code p own ss (length base) w d) + 1
   behind =
-      let l1 = ap length e1 ∙ length-append base (stats_code p own ss (length base) pending_exit d) in
+      let l1 = ap length e1 ∙ length-append base (stats_code p own ss (length base) w d) in
       let l2 = ap length e2 ∙ length-append c1 (Jump pending_end ∷ []) in
       omega (arith, l1, l2)
 
-  pub choice_more : c2 ++ cases_code p own rest (length c2) pending_end pending_exit d ≡ base ++ cases_code p own (OfLabels rs ss rest) (length base) pending_end pending_exit d
+  pub choice_more : c2 ++ cases_code p own rest (length c2) pending_end w d ≡ base ++ cases_code p own (OfLabels rs ss rest) (length base) pending_end w d
   choice_more =
-      let b = stats_code p own ss (length base) pending_exit d in
-      let more = cases_code p own rest (length base + length b + 1) pending_end pending_exit d in
-      ap (λ m. c2 ++ cases_code p own rest m pending_end pending_exit d) behind
+      let b = stats_code p own ss (length base) w d in
+      let more = cases_code p own rest (length base + length b + 1) pending_end w d in
+      ap (λ m. c2 ++ cases_code p own rest m pending_end w d) behind
       ∙ ap (λ l. l ++ more) e2
       ∙ append_assoc c1 (Jump pending_end ∷ []) more
       ∙ ap (λ l. l ++ Jump pending_end ∷ more) e1
       ∙ append_assoc base b (Jump pending_end ∷ more)
 
   -- and its place
-  pub place_more : (ps more : List ℕ) (n : ℕ) → more ≡ ps ++ n ∷ [] → n ≡ length base → more ++ places_from p own rest (length c2) pending_exit d ≡ ps ++ places_from p own (OfLabels rs ss rest) (length base) pending_exit d
+  pub place_more : (ps more : List ℕ) (n : ℕ) → more ≡ ps ++ n ∷ [] → n ≡ length base → more ++ places_from p own rest (length c2) w d ≡ ps ++ places_from p own (OfLabels rs ss rest) (length base) w d
   place_more ps more n e is =
-      (λ j. e j ++ places_from p own rest (behind j) pending_exit d)
-      ∙ append_assoc ps (n ∷ []) (places_from p own rest (length base + length (stats_code p own ss (length base) pending_exit d) + 1) pending_exit d)
-      ∙ ap (λ m. ps ++ m ∷ places_from p own rest (length base + length (stats_code p own ss (length base) pending_exit d) + 1) pending_exit d) is
+      (λ j. e j ++ places_from p own rest (behind j) w d)
+      ∙ append_assoc ps (n ∷ []) (places_from p own rest (length base + length (stats_code p own ss (length base) w d) + 1) w d)
+      ∙ ap (λ m. ps ++ m ∷ places_from p own rest (length base + length (stats_code p own ss (length base) w d) + 1) w d) is
 
 -- code whose pending number is redirected
 pub ended : (base code : List Instr) (of : ℕ → List Instr) (p from to : ℕ) → code ≡ base ++ of p → from ≡ length base → map (redirect p to) (of p) ≡ of to → redirect_behind from p to code ≡ base ++ of to
@@ -104,5 +104,5 @@ round_is p own here w q step b base d start e =
     ∙ ap round same
 
 -- the code of what a statement is seen as
-pub emitted : (p : Program) (own : Option Procedure) (base all : List Instr) (level : ℕ) (s : TStat) (x y : Stat) → x ≡ y → seen_stat s ≡ y → all ≡ base ++ stat_code p own x (length base) pending_exit level → all ≡ base ++ stat_code p own (seen_stat s) (length base) pending_exit level
-emitted p own base all level s x y e seen is = is ∙ ap (λ z. base ++ stat_code p own z (length base) pending_exit level) (e ∙ sym seen)
+pub emitted : (p : Program) (own : Option Procedure) (w : Ways) (base all : List Instr) (level : ℕ) (s : TStat) (x y : Stat) → x ≡ y → seen_stat s ≡ y → all ≡ base ++ stat_code p own x (length base) w level → all ≡ base ++ stat_code p own (seen_stat s) (length base) w level
+emitted p own w base all level s x y e seen is = is ∙ ap (λ z. base ++ stat_code p own z (length base) w level) (e ∙ sym seen)

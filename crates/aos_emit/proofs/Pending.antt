@@ -22,9 +22,9 @@ use Rattle.aos_code.specs.declared.instr.Kind.{Kind}
 use Rattle.aos_code.specs.declared.instr.Kind.TheVariants.{N}
 use Rattle.aos_typed.specs.Methods.{is_active, body_type, initializer}
 use Rattle.aos_typed.specs.Numbers.{body_number}
-use Rattle.aos_sim.specs.Code.{begin, literal_code, lengths_code, drops, dimensions, make_instr, call_instr, own_cell, place_code, rows_code, arguments_code, receiver_code, value_code, values_code, make_code, out_code, stash, unstash, initial_kinds, initialize_code, carry_out_instr, store_code, new_code, change_code, changed_code, assign_code, for_head, step_code, body_place, rounds_with, stat_code, stats_code, arms_code, cases_code, arm_place}
+use Rattle.aos_sim.specs.Code.{Within, NoRegion, AroundLoop, InLoop, Ways, block_within, block_at, block_code, loop_within, exit_code, return_code, begin, literal_code, lengths_code, drops, dimensions, make_instr, call_instr, own_cell, place_code, rows_code, arguments_code, receiver_code, value_code, values_code, make_code, out_code, stash, unstash, initial_kinds, initialize_code, carry_out_instr, store_code, new_code, change_code, changed_code, assign_code, for_head, step_code, body_place, rounds_with, stat_code, stats_code, arms_code, cases_code, arm_place}
 use Rattle.aos_sim.specs.Search.{Search, Nowhere, At, Split, arms_in, search_of, search_size, search_code}
-use Rattle.aos_sim.proofs.Sizes.{search_length, stat_length, stats_length, arms_length, cases_length}
+use Rattle.aos_sim.proofs.Sizes.{way, search_length, stat_length, stats_length, arms_length, cases_length}
 use Rattle.aos_emit.specs.Redirect.{redirected, redirect}
 
 -- what leads to the pending number is redirected
@@ -263,119 +263,136 @@ module _ (p x : ℕ) where
         (moved (omega (arith, search_length place other below d (at + 4))) (search_turns place other lt above d (at + 4 + search_size below)))))))
 
     -- the arms begin where they do whatever their exit is, and none behind their end
-    arm_same : (cases : Cases) (at y z d n : ℕ) → arm_place program own cases at y d n ≡ arm_place program own cases at z d n
-    arm_same NoElse at y z d n = refl
-    arm_same (Else ss) at y z d n = refl
-    arm_same (OfLabels rs ss cases) at y z d zero = refl
-    arm_same (OfLabels rs ss cases) at y z d (suc n) =
-        arm_same cases (at + length (stats_code program own ss at y d) + 1) y z d n
-        ∙ ap (λ m. arm_place program own cases (at + m + 1) z d n) (stats_length program own ss at y z d)
+    arm_same : (cases : Cases) (at : ℕ) (u : Within) (y z d n : ℕ) → arm_place program own cases at (way u y) d n ≡ arm_place program own cases at (way u z) d n
+    arm_same NoElse at u y z d n = refl
+    arm_same (Else ss) at u y z d n = refl
+    arm_same (OfLabels rs ss cases) at u y z d zero = refl
+    arm_same (OfLabels rs ss cases) at u y z d (suc n) =
+        arm_same cases (at + length (stats_code program own ss at (way u y) d) + 1) u y z d n
+        ∙ ap (λ m. arm_place program own cases (at + m + 1) (way u z) d n) (stats_length program own ss at u y z d)
 
-    arm_within : (cases : Cases) (at end y d n : ℕ) → arm_place program own cases at y d n ≤ at + length (cases_code program own cases at end y d)
-    arm_within NoElse at end y d n = omega arith
-    arm_within (Else ss) at end y d n = omega arith
-    arm_within (OfLabels rs ss cases) at end y d zero = omega arith
-    arm_within (OfLabels rs ss cases) at end y d (suc n) =
-        let b = stats_code program own ss at y d in
+    arm_within : (cases : Cases) (at end : ℕ) (w : Ways) (d n : ℕ) → arm_place program own cases at w d n ≤ at + length (cases_code program own cases at end w d)
+    arm_within NoElse at end w d n = omega arith
+    arm_within (Else ss) at end w d n = omega arith
+    arm_within (OfLabels rs ss cases) at end w d zero = omega arith
+    arm_within (OfLabels rs ss cases) at end w d (suc n) =
+        let b = stats_code program own ss at w d in
         let next = at + length b + 1 in
-        omega (arith, arm_within cases next end y d n, length-append b (i.Jump end ∷ cases_code program own cases next end y d))
+        omega (arith, arm_within cases next end w d n, length-append b (i.Jump end ∷ cases_code program own cases next end w d))
+
+    exit_turns : {at : ℕ} (u : Within) (y : ℕ) → Turns at (exit_code u y) (exit_code u (redirected p x y))
+    exit_turns NoRegion y = turn refl nothing
+    exit_turns AroundLoop y = turn refl nothing
+    exit_turns InLoop y = turn refl (turn refl nothing)
+
+    return_same : (u : Within) → map (redirect p x) (return_code u) ≡ return_code u
+    return_same NoRegion = refl
+    return_same AroundLoop = refl
+    return_same InLoop = refl
+
+    -- a block, whose statements stand behind its beginning
+    block_turns : (at : ℕ) (exclusive : Bool) (b c : List Instr) → Turns (block_at exclusive at) b c → Turns at (block_code exclusive b) (block_code exclusive c)
+    block_turns at true b c h = turn refl (behind h refl)
+    block_turns at false b c h = h
 
     mutual
-      stat_turns : (s : Stat) (at y d : ℕ) → Turns at (stat_code program own s at y d) (stat_code program own s at (redirected p x y) d)
-      stat_turns (Assign here t q e) at y d = assign_turns here t q e at
-      stat_turns (Copy here t q r) at y d = turn refl (both (place_turns q (at + 1)) (behind (place_turns r (at + 1 + length (place_code program own q (at + 1)))) refl))
-      stat_turns (PutText here strict a b) at y d =
+      stat_turns : (s : Stat) (at : ℕ) (u : Within) (y d : ℕ) → Turns at (stat_code program own s at (way u y) d) (stat_code program own s at (way u (redirected p x y)) d)
+      stat_turns (Assign here t q e) at u y d = assign_turns here t q e at
+      stat_turns (Copy here t q r) at u y d = turn refl (both (place_turns q (at + 1)) (behind (place_turns r (at + 1 + length (place_code program own q (at + 1)))) refl))
+      stat_turns (PutText here strict a b) at u y d =
           turn refl (both (rows_turn a (at + 1)) (behind (rows_turn b (at + 1 + length (rows_code program own a (at + 1)))) refl))
-      stat_turns (If here arms) at y d =
+      stat_turns (If here arms) at u y d =
           let z = redirected p x y in
-          let end = at + 1 + length (arms_code program own arms (at + 1) 0 y d) in
-          ends (λ lt. (let here = known end (omega (arith, lt, arms_length program own arms (at + 1) end 0 y y d)) in
-          turn refl (said (ap (λ n. arms_code program own arms (at + 1) n z d) (here ∙ ap (λ n. at + 1 + n) (arms_length program own arms (at + 1) 0 0 y z d))) (arms_turn arms (at + 1) end y d))))
-      stat_turns (Case here e cases) at y d =
+          let end = at + 1 + length (arms_code program own arms (at + 1) 0 (way u y) d) in
+          ends (λ lt. (let here = known end (omega (arith, lt, arms_length program own arms (at + 1) end 0 u y y d)) in
+          turn refl (said (ap (λ n. arms_code program own arms (at + 1) n (way u z) d) (here ∙ ap (λ n. at + 1 + n) (arms_length program own arms (at + 1) 0 0 u y z d))) (arms_turn arms (at + 1) end u y d))))
+      stat_turns (Case here e cases) at u y d =
           let z = redirected p x y in
           let t = search_of cases in
           let other = arms_in cases in
           let c = value_code program own e (at + 1) in
           let from = at + 1 + length c + 1 in
           let first = from + search_size t in
-          let end = first + length (cases_code program own cases first 0 y d) in
-          let place : ℕ → ℕ = arm_place program own cases first y d in
+          let end = first + length (cases_code program own cases first 0 (way u y) d) in
+          let place : ℕ → ℕ = arm_place program own cases first (way u y) d in
           let search = search_code place other t d from in
-          let arms = cases_code program own cases first end y d in
+          let arms = cases_code program own cases first end (way u y) d in
           let size = search_length place other t d from in
           let whole = length-append c (i.Keep d N ∷ (search ++ arms)) in
-          let ending = cases_length program own cases first end 0 y y d in
+          let ending = cases_length program own cases first end 0 u y y d in
           ends (λ lt. (let here = known end (omega (arith, lt, whole, length-append search arms, size, ending)) in
-          let below : (n : ℕ) → place n < p = λ n. omega (arith, lt, whole, length-append search arms, size, arm_within cases first end y d n) in
+          let below : (n : ℕ) → place n < p = λ n. omega (arith, lt, whole, length-append search arms, size, arm_within cases first end (way u y) d n) in
           turn refl (both (value_turns e (at + 1)) (turn refl
-          (both (said (λ j. search_code (λ n. arm_same cases first y z d n j) other t d from) (search_turns place other below t d from))
-          (moved (omega (arith, size)) (said (ap (λ n. cases_code program own cases first n z d) (here ∙ ap (λ n. first + n) (cases_length program own cases first 0 0 y z d))) (cases_turn cases first end y d))))))))
-      stat_turns (While here e body) at y d =
+          (both (said (λ j. search_code (λ n. arm_same cases first u y z d n j) other t d from) (search_turns place other below t d from))
+          (moved (omega (arith, size)) (said (ap (λ n. cases_code program own cases first n (way u z) d) (here ∙ ap (λ n. first + n) (cases_length program own cases first 0 0 u y z d))) (cases_turn cases first end u y d))))))))
+      stat_turns (While here e body) at u y d =
           let z = redirected p x y in
           let first = at + 1 + length (value_code program own e (at + 1)) + 1 in
-          ends (λ lt. turn refl (both (value_turns e (at + 1)) (turn (ap (λ n. i.JumpFalse (first + n + 1)) (stats_length program own body first y z d)) (both (stats_turn body first y d) (jump at (omega (arith, lt)))))))
-      stat_turns (Repeat here body e) at y d =
+          ends (λ lt. turn refl (both (value_turns e (at + 1)) (turn (ap (λ n. i.JumpFalse (first + n + 1)) (stats_length program own body first u y z d)) (both (stats_turn body first u y d) (jump at (omega (arith, lt)))))))
+      stat_turns (Repeat here body e) at u y d =
           let z = redirected p x y in
-          turn refl (both (stats_turn body (at + 1) y d)
-          (said (ap (λ n. value_code program own e (at + 1 + n) ++ i.JumpFalse at ∷ []) (stats_length program own body (at + 1) y z d)) (behind (value_turns e (at + 1 + length (stats_code program own body (at + 1) y d))) refl)))
-      stat_turns (Loop here body) at y d =
-          let out = at + 1 + length (stats_code program own body (at + 1) 0 d) + 1 in
-          let b = stats_code program own body (at + 1) out d in
-          ends (λ lt. (let here = known out (omega (arith, lt, length-append b (i.Jump at ∷ []), stats_length program own body (at + 1) out 0 d)) in
-          turn refl (both (said (ap (λ n. stats_code program own body (at + 1) n d) here) (stats_turn body (at + 1) out d)) (jump at (omega (arith, lt))))))
-      stat_turns (Exit here) at y d = turn refl (turn refl nothing)
-      stat_turns (For here w q from to step body) at y d =
+          turn refl (both (stats_turn body (at + 1) u y d)
+          (said (ap (λ n. value_code program own e (at + 1 + n) ++ i.JumpFalse at ∷ []) (stats_length program own body (at + 1) u y z d)) (behind (value_turns e (at + 1 + length (stats_code program own body (at + 1) (way u y) d))) refl)))
+      stat_turns (Loop here body) at u y d =
+          let v = loop_within u in
+          let out = at + 1 + length (stats_code program own body (at + 1) (way v 0) d) + 1 in
+          let b = stats_code program own body (at + 1) (way v out) d in
+          ends (λ lt. (let here = known out (omega (arith, lt, length-append b (i.Jump at ∷ []), stats_length program own body (at + 1) v out 0 d)) in
+          turn refl (both (said (ap (λ n. stats_code program own body (at + 1) (way v n) d) here) (stats_turn body (at + 1) v out d)) (jump at (omega (arith, lt))))))
+      stat_turns (Exit here) at u y d = turn refl (exit_turns u y)
+      stat_turns (For here w q from to step body) at u y d =
           let first = at + length (for_head program own here w q from to at d) in
           both (head_turns here w q from to at d)
-          (rounds_turn here w q step _ _ first d (stats_length program own body (body_place program own w q first) y (redirected p x y) (suc d)) (stats_turn body (body_place program own w q first) y (suc d)))
-      stat_turns (Block here body) at y d = turn refl (stats_turn body (at + 1) y d)
-      stat_turns (Assert here e code) at y d = turn refl (behind (value_turns e (at + 1)) refl)
-      stat_turns (Halt here code) at y d = turn refl (turn refl nothing)
-      stat_turns (Change here c q e) at y d = changed_turns here c q e at
-      stat_turns (Perform here c more) at y d = turn refl (value_turns (Function c more) (at + 1))
-      stat_turns (Return here None) at y d = turn refl (turn refl nothing)
-      stat_turns (Return here (Some e)) at y d = turn refl (behind (value_turns e (at + 1)) refl)
-      stat_turns (New here q t more) at y d = turn refl (new_turns q t more (at + 1) d)
-      stat_turns (Make here q t es) at y d = turn refl (make_turns q t es (at + 1))
-      stat_turns (With here e body) at y d =
-          turn refl (both (value_turns e (at + 1)) (turn refl (stats_turn body (at + 1 + length (value_code program own e (at + 1)) + 1) y d)))
-      stat_turns (WithRecord here q body) at y d =
-          turn refl (both (place_turns q (at + 1)) (turn refl (stats_turn body (at + 1 + length (place_code program own q (at + 1)) + 1) y d)))
-      stat_turns (Out here call) at y d = turn refl (out_turns call (at + 1))
+          (rounds_turn here w q step _ _ first d (stats_length program own body (body_place program own w q first) u y (redirected p x y) (suc d)) (stats_turn body (body_place program own w q first) u y (suc d)))
+      stat_turns (Block here exclusive body) at u y d =
+          turn refl (block_turns (at + 1) exclusive _ _ (stats_turn body (block_at exclusive (at + 1)) (block_within exclusive u) y d))
+      stat_turns (Assert here e code) at u y d = turn refl (behind (value_turns e (at + 1)) refl)
+      stat_turns (Halt here code) at u y d = turn refl (turn refl nothing)
+      stat_turns (Change here c q e) at u y d = changed_turns here c q e at
+      stat_turns (Perform here c more) at u y d = turn refl (value_turns (Function c more) (at + 1))
+      stat_turns (Return here None) at u y d = turn refl (record { is = λ lt. return_same u })
+      stat_turns (Return here (Some e)) at u y d = turn refl (behind (value_turns e (at + 1)) (return_same u))
+      stat_turns (New here q t more) at u y d = turn refl (new_turns q t more (at + 1) d)
+      stat_turns (Make here q t es) at u y d = turn refl (make_turns q t es (at + 1))
+      stat_turns (With here e body) at u y d =
+          turn refl (both (value_turns e (at + 1)) (turn refl (stats_turn body (at + 1 + length (value_code program own e (at + 1)) + 1) u y d)))
+      stat_turns (WithRecord here q body) at u y d =
+          turn refl (both (place_turns q (at + 1)) (turn refl (stats_turn body (at + 1 + length (place_code program own q (at + 1)) + 1) u y d)))
+      stat_turns (Out here call) at u y d = turn refl (out_turns call (at + 1))
 
-      stats_turn : (ss : Stats) (at y d : ℕ) → Turns at (stats_code program own ss at y d) (stats_code program own ss at (redirected p x y) d)
-      stats_turn Nothing at y d = nothing
-      stats_turn (Then s ss) at y d =
+      stats_turn : (ss : Stats) (at : ℕ) (u : Within) (y d : ℕ) → Turns at (stats_code program own ss at (way u y) d) (stats_code program own ss at (way u (redirected p x y)) d)
+      stats_turn Nothing at u y d = nothing
+      stats_turn (Then s ss) at u y d =
           let z = redirected p x y in
-          both (stat_turns s at y d) (said (ap (λ n. stats_code program own ss (at + n) z d) (stat_length program own s at y z d)) (stats_turn ss (at + length (stat_code program own s at y d)) y d))
+          both (stat_turns s at u y d) (said (ap (λ n. stats_code program own ss (at + n) (way u z) d) (stat_length program own s at u y z d)) (stats_turn ss (at + length (stat_code program own s at (way u y) d)) u y d))
 
-      arms_turn : (arms : Arms) (at end y d : ℕ) → Turns at (arms_code program own arms at end y d) (arms_code program own arms at (redirected p x end) (redirected p x y) d)
-      arms_turn (Otherwise ss) at end y d = stats_turn ss at y d
-      arms_turn (Arm e ss arms) at end y d =
+      arms_turn : (arms : Arms) (at end : ℕ) (u : Within) (y d : ℕ) → Turns at (arms_code program own arms at end (way u y) d) (arms_code program own arms at (redirected p x end) (way u (redirected p x y)) d)
+      arms_turn (Otherwise ss) at end u y d = stats_turn ss at u y d
+      arms_turn (Arm e ss arms) at end u y d =
           let z = redirected p x y in
           let to = redirected p x end in
           let first = at + length (value_code program own e at) + 1 in
-          let b = stats_code program own ss first y d in
-          let same = stats_length program own ss first y z d in
-          both (value_turns e at) (turn (ap (λ n. i.JumpFalse (first + n + 1)) same) (both (stats_turn ss first y d) (turn refl (said (ap (λ n. arms_code program own arms (first + n + 1) to z d) same) (arms_turn arms (first + length b + 1) end y d)))))
+          let b = stats_code program own ss first (way u y) d in
+          let same = stats_length program own ss first u y z d in
+          both (value_turns e at) (turn (ap (λ n. i.JumpFalse (first + n + 1)) same) (both (stats_turn ss first u y d) (turn refl (said (ap (λ n. arms_code program own arms (first + n + 1) to (way u z) d) same) (arms_turn arms (first + length b + 1) end u y d)))))
 
-      cases_turn : (cases : Cases) (at end y d : ℕ) → Turns at (cases_code program own cases at end y d) (cases_code program own cases at (redirected p x end) (redirected p x y) d)
-      cases_turn NoElse at end y d = turn refl nothing
-      cases_turn (Else ss) at end y d = stats_turn ss at y d
-      cases_turn (OfLabels rs ss cases) at end y d =
+      cases_turn : (cases : Cases) (at end : ℕ) (u : Within) (y d : ℕ) → Turns at (cases_code program own cases at end (way u y) d) (cases_code program own cases at (redirected p x end) (way u (redirected p x y)) d)
+      cases_turn NoElse at end u y d = turn refl nothing
+      cases_turn (Else ss) at end u y d = stats_turn ss at u y d
+      cases_turn (OfLabels rs ss cases) at end u y d =
           let z = redirected p x y in
           let to = redirected p x end in
-          both (stats_turn ss at y d) (turn refl
-          (said (ap (λ n. cases_code program own cases (at + n + 1) to z d) (stats_length program own ss at y z d)) (cases_turn cases (at + length (stats_code program own ss at y d) + 1) end y d)))
+          both (stats_turn ss at u y d) (turn refl
+          (said (ap (λ n. cases_code program own cases (at + n + 1) to (way u z) d) (stats_length program own ss at u y z d)) (cases_turn cases (at + length (stats_code program own ss at (way u y) d) + 1) end u y d)))
 
 module _ (program : Program) (own : Option Procedure) (p x : ℕ) where
   -- statements whose exit was pending
-  pub exit_known : (ss : Stats) (at d : ℕ) → at + length (stats_code program own ss at p d) < p → map (redirect p x) (stats_code program own ss at p d) ≡ stats_code program own ss at x d
-  exit_known ss at d lt = (stats_turn p x program own ss at p d).is lt ∙ ap (λ n. stats_code program own ss at n d) (comes p x)
+  pub exit_known : (ss : Stats) (at : ℕ) (u : Within) (d : ℕ) → at + length (stats_code program own ss at (way u p) d) < p → map (redirect p x) (stats_code program own ss at (way u p) d) ≡ stats_code program own ss at (way u x) d
+  exit_known ss at u d lt = (stats_turn p x program own ss at u p d).is lt ∙ ap (λ n. stats_code program own ss at (way u n) d) (comes p x)
 
   -- arms whose end was pending, while an exit has another number
-  pub arms_known : (arms : Arms) (at y d : ℕ) → redirected p x y ≡ y → at + length (arms_code program own arms at p y d) < p → map (redirect p x) (arms_code program own arms at p y d) ≡ arms_code program own arms at x y d
-  arms_known arms at y d other lt = (arms_turn p x program own arms at p y d).is lt ∙ (λ j. arms_code program own arms at (comes p x j) (other j) d)
+  pub arms_known : (arms : Arms) (at : ℕ) (u : Within) (y d : ℕ) → redirected p x y ≡ y → at + length (arms_code program own arms at p (way u y) d) < p → map (redirect p x) (arms_code program own arms at p (way u y) d) ≡ arms_code program own arms at x (way u y) d
+  arms_known arms at u y d other lt = (arms_turn p x program own arms at p u y d).is lt ∙ (λ j. arms_code program own arms at (comes p x j) (way u (other j)) d)
 
-  pub cases_known : (cases : Cases) (at y d : ℕ) → redirected p x y ≡ y → at + length (cases_code program own cases at p y d) < p → map (redirect p x) (cases_code program own cases at p y d) ≡ cases_code program own cases at x y d
-  cases_known cases at y d other lt = (cases_turn p x program own cases at p y d).is lt ∙ (λ j. cases_code program own cases at (comes p x j) (other j) d)
+  pub cases_known : (cases : Cases) (at : ℕ) (u : Within) (y d : ℕ) → redirected p x y ≡ y → at + length (cases_code program own cases at p (way u y) d) < p → map (redirect p x) (cases_code program own cases at p (way u y) d) ≡ cases_code program own cases at x (way u y) d
+  cases_known cases at u y d other lt = (cases_turn p x program own cases at p u y d).is lt ∙ (λ j. cases_code program own cases at (comes p x j) (way u (other j)) d)

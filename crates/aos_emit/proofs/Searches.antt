@@ -15,8 +15,8 @@ use Rattle.aos_code.specs.declared.instr.Instr.{Instr}
 use Rattle.aos_code.specs.declared.instr.Instr.TheVariants as i
 use Rattle.aos_code.specs.declared.instr.Kind.TheVariants.{N}
 use Rattle.aos_sim.specs.Search.{rows_to, rows_from, arms_in, in_order, Search, Nowhere, At, Split, lowest, halved, search_of, search_size, search_code}
-use Rattle.aos_sim.specs.Code.{stats_code, cases_code, arm_place}
-use Rattle.aos_sim.proofs.Sizes.{search_length, cases_length}
+use Rattle.aos_sim.specs.Code.{Within, Ways, stats_code, cases_code, arm_place}
+use Rattle.aos_sim.proofs.Sizes.{way, search_length, cases_length}
 use Rattle.aos_emit.specs.Places.{places_from, place_in, led}
 use Rattle.aos_emit.specs.Redirect.{pending_exit, pending_end, redirect_behind}
 use Rattle.aos_emit.proofs.Patch.{ended}
@@ -58,13 +58,13 @@ search_led f place other (Split middle below above) level at =
     ap (λ l. front ++ l) (map-append (led f) lower upper ∙ (λ j. search_led f place other below level (at + 4) j ++ search_led f place other above level (at + 4 + search_size below) j))
 
 module _ (program : Program) (own : Option Procedure) where
-  pub placed : (other : ℕ) (cases : Cases) (at exit level n : ℕ) → place_in other (places_from program own cases at exit level) n ≡ arm_place program own cases at exit level n
-  placed other NoElse at exit level zero = refl
-  placed other NoElse at exit level (suc n) = refl
-  placed other (Else ss) at exit level zero = refl
-  placed other (Else ss) at exit level (suc n) = refl
-  placed other (OfLabels rs ss cases) at exit level zero = refl
-  placed other (OfLabels rs ss cases) at exit level (suc n) = placed at cases (at + length (stats_code program own ss at exit level) + 1) exit level n
+  pub placed : (other : ℕ) (cases : Cases) (at : ℕ) (w : Ways) (level n : ℕ) → place_in other (places_from program own cases at w level) n ≡ arm_place program own cases at w level n
+  placed other NoElse at w level zero = refl
+  placed other NoElse at w level (suc n) = refl
+  placed other (Else ss) at w level zero = refl
+  placed other (Else ss) at w level (suc n) = refl
+  placed other (OfLabels rs ss cases) at w level zero = refl
+  placed other (OfLabels rs ss cases) at w level (suc n) = placed at cases (at + length (stats_code program own ss at w level) + 1) w level n
 
 -- a place by its number, and the last one past them
 pub place_there : (other : ℕ) (ps : List ℕ) (n d : ℕ) → n < length ps → place_in other ps n ≡ get_or ps n d
@@ -116,45 +116,45 @@ else_arms [] otherwise.Missing = refl
 else_arms [] (otherwise.Else' shape body) = refl
 else_arms (c ∷ cases) o = ap suc (else_arms cases o)
 
-pub else_place : (p : Program) (own : Option Procedure) (o : TElse) (at exit level : ℕ) → places_from p own (seen_else o) at exit level ≡ at ∷ []
-else_place p own otherwise.Missing at exit level = refl
-else_place p own (otherwise.Else' shape body) at exit level = refl
+pub else_place : (p : Program) (own : Option Procedure) (o : TElse) (at : ℕ) (w : Ways) (level : ℕ) → places_from p own (seen_else o) at w level ≡ at ∷ []
+else_place p own otherwise.Missing at w level = refl
+else_place p own (otherwise.Else' shape body) at w level = refl
 
 -- a search that leads to the numbers of arms, the arms behind it, whose end is told first, and then their places
-pub searched : (p : Program) (own : Option Procedure) (all : Cases) (base c1 c2 c3 now part rest : List Instr) (rows : List LabelRow) (places : List ℕ) (deep from first end other len d : ℕ) → rows ≡ in_order (rows_from 0 all) → deep ≡ length rows → other ≡ arms_in all → from ≡ length base → c1 ≡ base ++ search_code (λ n. n) other (halved deep rows) d (length base) → first ≡ length c1 → c2 ≡ c1 ++ cases_code p own all (length c1) pending_end pending_exit d → places ≡ places_from p own all (length c1) pending_exit d → end ≡ length c2 → length c2 < 4294967294 → c3 ≡ redirect_behind first pending_end end c2 → now ≡ c3 → len ≡ length c3 → part ≡ map (led (place_in 0 places)) (take (first - from) (drop from now)) → let begin = length base + search_size (search_of all) in take len ((take from now ++ (part ++ drop (first - from) (drop from now))) ++ rest) ≡ base ++ (search_code (arm_place p own all begin pending_exit d) (arms_in all) (search_of all) d (length base) ++ cases_code p own all begin (begin + length (cases_code p own all begin 0 pending_exit d)) pending_exit d)
-searched p own all base c1 c2 c3 now part rest rows places deep from first end other len d er ed eo ef e1 e2 e3 ep en few e4 e5 el part_is =
+pub searched : (p : Program) (own : Option Procedure) (u : Within) (all : Cases) (base c1 c2 c3 now part rest : List Instr) (rows : List LabelRow) (places : List ℕ) (deep from first end other len d : ℕ) → rows ≡ in_order (rows_from 0 all) → deep ≡ length rows → other ≡ arms_in all → from ≡ length base → c1 ≡ base ++ search_code (λ n. n) other (halved deep rows) d (length base) → first ≡ length c1 → c2 ≡ c1 ++ cases_code p own all (length c1) pending_end (way u pending_exit) d → places ≡ places_from p own all (length c1) (way u pending_exit) d → end ≡ length c2 → length c2 < 4294967294 → c3 ≡ redirect_behind first pending_end end c2 → now ≡ c3 → len ≡ length c3 → part ≡ map (led (place_in 0 places)) (take (first - from) (drop from now)) → let begin = length base + search_size (search_of all) in take len ((take from now ++ (part ++ drop (first - from) (drop from now))) ++ rest) ≡ base ++ (search_code (arm_place p own all begin (way u pending_exit) d) (arms_in all) (search_of all) d (length base) ++ cases_code p own all begin (begin + length (cases_code p own all begin 0 (way u pending_exit) d)) (way u pending_exit) d)
+searched p own u all base c1 c2 c3 now part rest rows places deep from first end other len d er ed eo ef e1 e2 e3 ep en few e4 e5 el part_is =
     let t = search_of all in
     let at = length base in
     let s = search_code (λ n. n) (arms_in all) t d at in
     let begin = at + search_size t in
-    let arms : ℕ → List Instr = λ n. cases_code p own all begin n pending_exit d in
+    let arms : ℕ → List Instr = λ n. cases_code p own all begin n (way u pending_exit) d in
     let last = begin + length (arms 0) in
     let size = search_length (λ n. n) (arms_in all) t d at in
     let depth : deep ≡ length (in_order (rows_from 0 all)) = ed ∙ ap length er in
     let found : c1 ≡ base ++ s = e1 ∙ (λ j. base ++ search_code (λ n. n) (eo j) (halved (depth j) (er j)) d at) in
     let l1 = ap length found ∙ length-append base s in
     let here : length c1 ≡ begin = omega (arith, l1, size) in
-    let pending : c2 ≡ c1 ++ arms pending_end = e3 ∙ ap (λ n. c1 ++ cases_code p own all n pending_end pending_exit d) here in
+    let pending : c2 ≡ c1 ++ arms pending_end = e3 ∙ ap (λ n. c1 ++ cases_code p own all n pending_end (way u pending_exit) d) here in
     let l2 = ap length pending ∙ length-append c1 (arms pending_end) in
-    let same = cases_length p own all begin pending_end 0 pending_exit pending_exit d in
+    let same = cases_length p own all begin pending_end 0 u pending_exit pending_exit d in
     let below : begin + length (arms pending_end) < 4294967294 = omega (arith, few, l2, here) in
     let to : end ≡ last = omega (arith, en, l2, here, same) in
     let told : c3 ≡ base ++ (s ++ arms last) =
-    e4 ∙ ended c1 c2 arms pending_end first end pending e2 (cases_known p own pending_end end all begin pending_exit d refl below)
+    e4 ∙ ended c1 c2 arms pending_end first end pending e2 (cases_known p own pending_end end all begin u pending_exit d refl below)
     ∙ (λ j. found j ++ arms (to j)) ∙ append_assoc base s (arms last) in
     let all_now = e5 ∙ told in
-    let placed_at : (n : ℕ) → place_in 0 places n ≡ arm_place p own all begin pending_exit d n =
-    λ n. ap (λ l. place_in 0 l n) (ep ∙ ap (λ k. places_from p own all k pending_exit d) here) ∙ placed p own 0 all begin pending_exit d n in
-    let led_there : map (led (place_in 0 places)) s ≡ search_code (arm_place p own all begin pending_exit d) (arms_in all) t d at =
+    let placed_at : (n : ℕ) → place_in 0 places n ≡ arm_place p own all begin (way u pending_exit) d n =
+    λ n. ap (λ l. place_in 0 l n) (ep ∙ ap (λ k. places_from p own all k (way u pending_exit) d) here) ∙ placed p own 0 all begin (way u pending_exit) d n in
+    let led_there : map (led (place_in 0 places)) s ≡ search_code (arm_place p own all begin (way u pending_exit) d) (arms_in all) t d at =
     search_led (place_in 0 places) (λ n. n) (arms_in all) t d at ∙ (λ j. search_code (λ n. placed_at n j) (arms_in all) t d at) in
     let long : length s ≡ first - from = omega (arith, ef, e2, here, size) in
     let behind : drop from now ≡ s ++ arms last = ap (drop from) all_now ∙ drop_at base (s ++ arms last) from (sym ef) in
-    let part_there : part ≡ search_code (arm_place p own all begin pending_exit d) (arms_in all) t d at =
+    let part_there : part ≡ search_code (arm_place p own all begin (way u pending_exit) d) (arms_in all) t d at =
     part_is ∙ ap (λ l. map (led (place_in 0 places)) (take (first - from) l)) behind ∙ ap (map (led (place_in 0 places))) (take_at s (arms last) (first - from) long) ∙ led_there in
-    let whole = search_code (arm_place p own all begin pending_exit d) (arms_in all) t d at ++ arms last in
+    let whole = search_code (arm_place p own all begin (way u pending_exit) d) (arms_in all) t d at ++ arms last in
     let written : take from now ++ (part ++ drop (first - from) (drop from now)) ≡ base ++ whole =
     (λ j. take from (all_now j) ++ (part_there j ++ drop (first - from) (behind j)))
-    ∙ (λ j. take_at base (s ++ arms last) from (sym ef) j ++ (search_code (arm_place p own all begin pending_exit d) (arms_in all) t d at ++ drop_at s (arms last) (first - from) long j)) in
+    ∙ (λ j. take_at base (s ++ arms last) from (sym ef) j ++ (search_code (arm_place p own all begin (way u pending_exit) d) (arms_in all) t d at ++ drop_at s (arms last) (first - from) long j)) in
     let count : length (base ++ whole) ≡ len =
-    omega (arith, el, ap length told, length-append base (s ++ arms last), length-append s (arms last), length-append base whole, length-append (search_code (arm_place p own all begin pending_exit d) (arms_in all) t d at) (arms last), search_length (arm_place p own all begin pending_exit d) (arms_in all) t d at, size) in
+    omega (arith, el, ap length told, length-append base (s ++ arms last), length-append s (arms last), length-append base whole, length-append (search_code (arm_place p own all begin (way u pending_exit) d) (arms_in all) t d at) (arms last), search_length (arm_place p own all begin (way u pending_exit) d) (arms_in all) t d at, size) in
     ap (λ l. take len (l ++ rest)) written ∙ take_at (base ++ whole) rest len count

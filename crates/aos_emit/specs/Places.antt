@@ -3,14 +3,14 @@ use Rattle.std.specs.Prelude.{ℕ, zero, suc, ◌+◌, Option, List, [], ◌∷�
 use Rattle.aos_typed.specs.Program.{Cases, NoElse, Else, OfLabels, Procedure, Program}
 use Rattle.aos_code.specs.declared.instr.Instr.{Instr}
 use Rattle.aos_code.specs.declared.instr.Instr.TheVariants.{Jump}
-use Rattle.aos_sim.specs.Code.{stats_code}
+use Rattle.aos_sim.specs.Code.{Ways, stats_code}
 
 -- the places of the arms with labels, and then that of what is behind them
-abbrev pub places_from : Program → Option Procedure → Cases → (at exit level : ℕ) → List ℕ
-places_from program own NoElse at exit level = at ∷ []
-places_from program own (Else ss) at exit level = at ∷ []
-places_from program own (OfLabels rs ss cases) at exit level =
-    at ∷ places_from program own cases (at + length (stats_code program own ss at exit level) + 1) exit level
+abbrev pub places_from : Program → Option Procedure → Cases → (at : ℕ) → Ways → (level : ℕ) → List ℕ
+places_from program own NoElse at ways level = at ∷ []
+places_from program own (Else ss) at ways level = at ∷ []
+places_from program own (OfLabels rs ss cases) at ways level =
+    at ∷ places_from program own cases (at + length (stats_code program own ss at ways level) + 1) ways level
 
 -- the place with this number, or the last one, where there is any
 abbrev pub place_in : (other : ℕ) → List ℕ → ℕ → ℕ

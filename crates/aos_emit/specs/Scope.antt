@@ -1,4 +1,4 @@
--- What a routine's code is emitted in: its program, and its procedure, if the routine is one.
+-- What a routine's code is emitted in: its program, its procedure, if the routine is one, and what its statements stand in.
 use Rattle.std.specs.Prelude.{◌≡◌, ℕ, List, [], Option, Some, None, option_map}
 use Rattle.aos_types.specs.declared.row.TypeRow.{TypeRow}
 use Rattle.aos_types.specs.Shape.{size}
@@ -7,16 +7,49 @@ use Rattle.aos_typed.specs.declared.tree.TProcedure.{TProcedure}
 use Rattle.aos_typed.specs.Program.{Procedure, Program}
 use Rattle.aos_typed.specs.Seen.{seen_procedure, seen_program}
 use Rattle.aos_layout.specs.Frame.{frame, frame_parts, places_from}
+use Rattle.aos_sim.specs.Code.{Within, NoRegion, AroundLoop, InLoop, Ways}
+use Rattle.aos_emit.specs.declared.regions.Within.{Within as Around}
+use Rattle.aos_emit.specs.declared.regions.Within.TheVariants as around
+use Rattle.aos_emit.specs.Redirect.{pending_exit}
 
 pub record Inside : Type 0 where
   pub program : TProgram
   pub own : Option TProcedure
+  pub within : Around
 
 abbrev pub program_of : Inside → Program
 program_of s = seen_program s.program
 
 abbrev pub own_of : Inside → Option Procedure
 own_of s = option_map seen_procedure s.own
+
+-- what statements stand in
+abbrev pub seen_within : Around → Within
+seen_within around.NoRegion = NoRegion
+seen_within around.AroundLoop = AroundLoop
+seen_within around.InLoop = InLoop
+
+abbrev pub within_of : Inside → Within
+within_of s = seen_within s.within
+
+-- in a region that begins here, and in a LOOP that does
+abbrev pub in_region : Inside → Inside
+in_region s = record { program = s.program; own = s.own; within = around.InLoop }
+
+abbrev pub around_loop : Around → Around
+around_loop around.NoRegion = around.NoRegion
+around_loop around.AroundLoop = around.AroundLoop
+around_loop around.InLoop = around.AroundLoop
+
+abbrev pub in_loop : Inside → Inside
+in_loop s = record { program = s.program; own = s.own; within = around_loop s.within }
+
+-- how statements are left where EXIT leads to this number, and where that isn't known yet
+abbrev pub left_to : Inside → (exit : ℕ) → Ways
+left_to s exit = record { exit = exit; within = within_of s }
+
+abbrev pub pending : Inside → Ways
+pending s = left_to s pending_exit
 
 -- the first cell of each parameter and then of each local of the procedure, and how many cells these have
 abbrev pub first_own : List TypeRow → Option Procedure → List ℕ

@@ -2,20 +2,77 @@
 
 ghost use Rattle.std.specs.Prelude.{◌≡◌, ◌≤◌, ◌^◌, ◌∷◌, [], ◌++◌, length, map, Some, IfOk, OnOk};
 ghost use Rattle.aos_typed.specs.Routines.{routines};
-ghost use Rattle.aos_typed.specs.Seen.{seen_program, seen_procedure};
+ghost use Rattle.aos_typed.specs.Seen.{seen_body, seen_program, seen_procedure, seen_stats};
 ghost use Rattle.aos_typed.specs.WellTyped.{IsProcedure, IsWellTyped};
 ghost use Rattle.aos_laid.specs.Routines.{IsTyped, seen_routine};
-ghost use Rattle.aos_sim.specs.Code.{body_code};
+ghost use Rattle.aos_emit.specs.Scope.{program_of, own_of};
+ghost use Rattle.aos_sim.specs.Code.{statements_code, end_code, body_code};
 ghost use Rattle.aos_sim.specs.Need.{body_need};
 
+use crate::emit::put;
+use crate::need::stats_need;
+use crate::regions::Within;
 use crate::scope::Scope;
-use crate::stats::emit_body;
+use crate::stats::emit_left;
 use aos_base::NoMemory;
-use aos_code::Body;
+use aos_code::{Body, Instr};
 use aos_laid::{Laid, Routine, routines_of};
 use aos_layout::FrameShape;
-use aos_typed::{Program, TProcedure};
+use aos_typed::{Program, TProcedure, TStat};
 use std::alloc::{AllocError, Global};
+
+// The end of a routine: that of its frame, or a function's trap 10.
+#[tactic(auto, using(crate::proofs::Ends::gives_end, crate::proofs::Ends::nothing_end))]
+fn end_instr(scope: &Scope<'_>) -> Instr
+    ensures { end_code (program_of scope.now) (own_of scope.now) ≡ result ∷ [] }
+{
+    if scope.gives() {
+        Instr::Fail(10)
+    } else {
+        Instr::Return
+    }
+}
+
+// The statements of a body, which are a region where it is exclusive. An EXIT that stands in no LOOP leads behind them.
+fn statements_of(
+    alloc: Global,
+    scope: &Scope<'_>,
+    exclusive: bool,
+    statements: &[TStat],
+) -> Result<Vec<Instr>, AllocError>
+    requires outside { scope.now.within ≡ Within.NoRegion }
+    ensures { IfOk result (λ code. (let whole = statements_code (program_of scope.now) (own_of scope.now) (seen_body exclusive statements.now) in
+        code.items ≡ whole (length (whole 0)))) }
+{
+    let mut code = Vec::new(alloc);
+    if exclusive {
+        let inside = scope.in_region();
+        put(&mut code, Instr::Enter)?;
+        emit_left(alloc, &inside, &mut code, statements, 1, 0)?;
+        put(&mut code, Instr::Leave)?;
+        return Ok(code);
+    }
+    emit_left(alloc, scope, &mut code, statements, 0, 0)?;
+    Ok(code)
+}
+
+// The body with these statements.
+fn emit_body(
+    alloc: Global,
+    scope: &Scope<'_>,
+    exclusive: bool,
+    statements: &[TStat],
+) -> Result<Body, AllocError>
+    requires outside { scope.now.within ≡ Within.NoRegion }
+    ensures code { IfOk result (λ body.
+        body.code.items ≡ body_code (program_of scope.now) (own_of scope.now) (seen_body exclusive statements.now)) }
+    ensures depth { IfOk result (λ body. body.depth ≡ body_need (seen_stats statements.now)) }
+{
+    let mut code = statements_of(alloc, scope, exclusive, statements)?;
+    put(&mut code, end_instr(scope))?;
+    let depth = stats_need(statements)?;
+    Ok(Body { code, depth })
+}
 
 // The body of a procedure of the module with this number, a method or what objects carry out. Where its parameters and locals lie
 // doesn't rest on how many values it keeps.
@@ -28,11 +85,11 @@ fn procedure_body(
     requires typed { IsProcedure (seen_program laid.now) (seen_procedure procedure.now) }
     ensures code { IfOk result (λ b. b.code.items ≡
         body_code (seen_program laid.now) (Some (seen_procedure procedure.now)) (seen_procedure procedure.now).body) }
-    ensures depth { IfOk result (λ b. b.depth ≡ body_need (seen_procedure procedure.now).body) }
+    ensures depth { IfOk result (λ b. b.depth ≡ body_need (seen_procedure procedure.now).body.statements) }
 {
     let FrameShape { shape, places, .. } = laid.frame(alloc, home, 0, procedure)?;
     let scope = Scope::procedure(laid, procedure, &places, shape.cells);
-    let body = emit_body(alloc, &scope, &procedure.body)?;
+    let body = emit_body(alloc, &scope, procedure.is_exclusive, &procedure.body)?;
     Ok(body)
 }
 
@@ -41,11 +98,11 @@ fn body_of(alloc: Global, laid: &Laid<'_>, routine: &Routine<'_>) -> Result<Body
     requires typed { IsTyped (seen_program laid.now) (seen_routine routine.now) }
     ensures code { IfOk result (λ b. b.code.items ≡
         body_code (seen_program laid.now) (seen_routine routine.now).own (seen_routine routine.now).body) }
-    ensures depth { IfOk result (λ b. b.depth ≡ body_need (seen_routine routine.now).body) }
+    ensures depth { IfOk result (λ b. b.depth ≡ body_need (seen_routine routine.now).body.statements) }
 {
     match routine {
-        Routine::Body(_, statements) => {
-            let body = emit_body(alloc, &Scope::body(laid), statements)?;
+        Routine::Body(_, exclusive, statements) => {
+            let body = emit_body(alloc, &Scope::body(laid), *exclusive, statements)?;
             Ok(body)
         }
         Routine::Procedure(home, procedure) => procedure_body(alloc, laid, *home, procedure),
@@ -69,7 +126,7 @@ pub fn bodies_of(alloc: Global, program: &Program) -> Result<Vec<Body>, NoMemory
     ensures code { IfOk result (λ bodies. map (λ b. b.code.items) bodies.items ≡
         map (λ r. body_code (seen_program program.now) r.own r.body) (routines (seen_program program.now))) }
     ensures depths { IfOk result (λ bodies. map (λ b. b.depth) bodies.items ≡
-        map (λ r. body_need r.body) (routines (seen_program program.now))) }
+        map (λ r. body_need r.body.statements) (routines (seen_program program.now))) }
 {
     let laid = Laid::new(alloc, program)?;
     let routines = routines_of(alloc, program)?;

@@ -4,8 +4,10 @@
 mod bodies;
 mod emit;
 mod fronts;
+mod leave;
 mod need;
 mod objects;
+mod regions;
 mod scope;
 mod search;
 mod stats;

@@ -425,7 +425,7 @@ fn stat_need(statement: &TStat) -> Result<u32, AllocError>
             let around = for_need(place, from, to)?;
             Ok(around.max(stats_need(body)?))
         }
-        TStat::Block(_, body) => stats_need(body),
+        TStat::Block(_, _, body) => stats_need(body),
         TStat::Assert(_, condition, _) => value_need(condition),
         TStat::Halt(_, _) => Ok(0),
         TStat::Change(_, change, place, value) => changed_need(*change, place, value),

@@ -1,4 +1,4 @@
-// A routine whose code is emitted: its program, and its procedure with its cells, if the routine is one.
+// A routine whose code is emitted: its program, its procedure with its cells, if the routine is one, and what its statements stand in.
 
 ghost use Rattle.std.specs.Prelude.{◌≡◌, None, Some, reverse, slice_get, if◌then◌else◌, IfOk};
 ghost use Rattle.std.specs.Option.{unwrap_or};
@@ -7,21 +7,24 @@ ghost use Rattle.aos_typed.specs.Numbers.{body_number, procedure_number};
 ghost use Rattle.aos_typed.specs.Routines.{gives, parameters_at};
 ghost use Rattle.aos_typed.specs.Seen.{seen_program, seen_procedure};
 ghost use Rattle.aos_sim.specs.Code.{variable_cell, own_cell, field_cell, cells_of, handed_kinds, kind_of};
-ghost use Rattle.aos_emit.specs.Scope.{AreOwn, program_of, own_of};
+ghost use Rattle.aos_emit.specs.Scope.{AreOwn, program_of, own_of, in_region, in_loop};
 
+use crate::regions::Within;
 use aos_code::Kind;
 use aos_laid::Laid;
 use aos_typed::{TProcedure, TType};
 use std::alloc::{AllocError, Global};
 use std::marker::Model;
 
-/// A routine of a program: its procedure, if it is one, and the first cell of each parameter and then of each local.
+/// A routine of a program: its procedure, if it is one, the first cell of each parameter and then of each local, and what the statements
+/// that are emitted stand in.
 #[derive(Drop)]
 pub struct Scope<'a> {
     program: &'a Laid<'a>,
     own: Option<&'a TProcedure>,
     places: &'a [u32],
     cells: u32,
+    within: Within,
 }
 
 impl<'a> Model for Scope<'a> {
@@ -29,28 +32,30 @@ impl<'a> Model for Scope<'a> {
     ghost use Rattle.std.specs.Coded.{codes};
     ghost use Rattle.aos_typed.specs.contracts.tree.TStat as stat;
     ghost use Rattle.aos_typed.specs.Seen.{seen_program};
-    ghost use Rattle.aos_emit.specs.Scope as within;
+    ghost use Rattle.aos_emit.specs.contracts.regions.Within as around;
+    ghost use Rattle.aos_emit.specs.Scope as scopes;
 
-    ghost Value = { within.Inside };
+    ghost Value = { scopes.Inside };
 
-    ghost coded = { Prim.hlevel (codes, stat.the_row.coded) };
+    ghost coded = { Prim.hlevel (codes, stat.the_row.coded, around.the_row.coded) };
 
-    ghost view = { λ s. record { program = s.program.now; own = option_map (λ q. q.now) s.own } };
+    ghost view = { λ s. record { program = s.program.now; own = option_map (λ q. q.now) s.own; within = s.within } };
 
-    ghost invariant = { λ s. within.AreOwn (seen_program s.program.now).types
-        (within.own_of (record { program = s.program.now; own = option_map (λ q. q.now) s.own })) s.places.now s.cells };
+    ghost invariant = { λ s. scopes.AreOwn (seen_program s.program.now).types
+        (scopes.own_of (record { program = s.program.now; own = option_map (λ q. q.now) s.own; within = s.within })) s.places.now s.cells };
 }
 
 impl<'a> Scope<'a> {
     /// A body that is no procedure's.
     pub fn body(program: &'a Laid<'a>) -> Scope<'a>
-        ensures { result ≡ record { program = program.now; own = None } }
+        ensures { result ≡ record { program = program.now; own = None; within = Within.NoRegion } }
     {
         Scope {
             program,
             own: None,
             places: &[],
             cells: 0,
+            within: Within::NoRegion,
         }
     }
 
@@ -62,13 +67,51 @@ impl<'a> Scope<'a> {
         cells: u32,
     ) -> Scope<'a>
         requires { AreOwn (seen_program program.now).types (Some (seen_procedure own.now)) places.now cells }
-        ensures { result ≡ record { program = program.now; own = Some own.now } }
+        ensures { result ≡ record { program = program.now; own = Some own.now; within = Within.NoRegion } }
     {
         Scope {
             program,
             own: Some(own),
             places,
             cells,
+            within: Within::NoRegion,
+        }
+    }
+
+    // The same routine, where its statements stand in this.
+    fn standing(&self, within: Within) -> Scope<'a>
+        ensures { result ≡ record { program = self.now.program; own = self.now.own; within = within } }
+    {
+        Scope {
+            program: self.program,
+            own: self.own,
+            places: self.places,
+            cells: self.cells,
+            within,
+        }
+    }
+
+    /// What the statements stand in.
+    pub fn within(&self) -> Within
+        ensures { result ≡ self.now.within }
+    {
+        self.within
+    }
+
+    /// In a region that begins here.
+    pub fn in_region(&self) -> Scope<'a>
+        ensures { result ≡ in_region self.now }
+    {
+        self.standing(Within::InLoop)
+    }
+
+    /// In a LOOP that begins here: a region is around it.
+    pub fn in_loop(&self) -> Scope<'a>
+        ensures { result ≡ in_loop self.now }
+    {
+        match self.within {
+            Within::NoRegion => self.standing(Within::NoRegion),
+            Within::AroundLoop | Within::InLoop => self.standing(Within::AroundLoop),
         }
     }
 

@@ -1,57 +1,31 @@
 // From typed statements to instructions: what is emitted is the code that the definitions give. A jump forward to what isn't
 // emitted yet has a pending number, and is told where it goes when that is known.
 
-ghost use Rattle.std.specs.Prelude.{◌≡◌, ◌+◌, ◌≤◌, [], ◌∷◌, ◌++◌, length, option_map, OnOk, IfOk};
+ghost use Rattle.std.specs.Prelude.{◌≡◌, ◌+◌, true, [], ◌∷◌, ◌++◌, length, OnOk, IfOk};
 ghost use Rattle.aos_typed.specs.Meaning as meaning;
-ghost use Rattle.aos_typed.specs.Program.{Read, Copy, PutText, Perform, Return, If, Case, While, Repeat, Loop, Block, With, WithRecord, Assert};
+ghost use Rattle.aos_typed.specs.Program.{Read, Copy, PutText, Perform, If, Case, While, Repeat, Loop, Block, With, WithRecord, Assert};
 ghost use Rattle.aos_typed.specs.Seen.{seen_place, seen_rows, seen_list, seen_callee, seen_expr, seen_call, seen_stat, seen_stats, seen_else, arms_of, cases_of};
-ghost use Rattle.aos_emit.specs.Redirect.{pending_exit, pending_end, redirect_behind, redirect as redirection};
-ghost use Rattle.aos_emit.specs.Scope.{program_of, own_of};
+ghost use Rattle.aos_emit.specs.Redirect.{pending_end};
+ghost use Rattle.aos_emit.specs.Scope.{program_of, own_of, left_to, pending};
 ghost use Rattle.aos_emit.specs.Places.{places_from};
-ghost use Rattle.aos_sim.specs.Need.{body_need};
 ghost use Rattle.aos_sim.specs.Search.{arms_in, search_of, search_size, search_code};
-ghost use Rattle.aos_sim.specs.Code.{begin, value_code, out_code, assign_code, change_code, changed_code, for_head, step_code, rounds_code, arm_code, stat_code, stats_code, arms_code, cases_code, arm_place, end_code, body_code};
+ghost use Rattle.aos_sim.specs.Code.{begin, value_code, out_code, assign_code, change_code, changed_code, for_head, step_code, rounds_code, arm_code, stat_code, stats_code, arms_code, cases_code, arm_place, block_ways, block_code};
 
 use crate::emit::{
     PENDING_END, emit_begin, emit_call, emit_place, emit_rows, emit_value, next_place, number_of,
     put,
 };
-use crate::need::stats_need;
+use crate::leave::{PENDING_EXIT, emit_exit, emit_return, redirect};
 use crate::objects::{emit_make, emit_new, emit_object, emit_record};
 use crate::scope::Scope;
 use crate::search::{put_search, rows_of, set_places};
 use aos_base::{Binary, Pos, Relation, Width};
-use aos_code::{Body, Instr, Kind};
+use aos_code::{Instr, Kind};
 use aos_laid::next;
 use aos_typed::{
     Change, OutCall, TArgument, TArm, TCallee, TCase, TElse, TExpr, TPlace, TRows, TStat, TType,
 };
 use std::alloc::{AllocError, Global};
-
-// The number that the jump of an EXIT has until it is known where its LOOP ends: no instruction has it.
-const PENDING_EXIT: u32 = 4294967295;
-
-// What leads to a pending number leads to another.
-fn redirect_one(instr: Instr, pending: u32, to: u32) -> Instr
-    ensures { result ≡ redirection pending to instr }
-{
-    match instr {
-        Instr::Jump(target) => Instr::Jump(if target == pending { to } else { target }),
-        _ => instr,
-    }
-}
-
-// The jumps from an instruction on are told where they go that have a pending number.
-fn redirect(code: &mut Vec<Instr>, from: usize, pending: u32, to: u32)
-    requires { from ≤ length code.old.items }
-    ensures { code.new.items ≡ redirect_behind from pending to code.old.items }
-{
-    let mut at = from;
-    while at < code.len() {
-        code[at] = redirect_one(code[at], pending, to);
-        at += 1;
-    }
-}
 
 // A call of a procedure of module Out.
 fn put_out(
@@ -124,7 +98,7 @@ fn emit_copy(
     from: &TPlace,
 ) -> Result<(), AllocError>
     ensures { OnOk result (code.new.items ≡ code.old.items ++
-        stat_code (program_of scope.now) (own_of scope.now) (Copy at of (seen_place to.now) (seen_place from.now)) (length code.old.items) 0 0) }
+        stat_code (program_of scope.now) (own_of scope.now) (Copy at of (seen_place to.now) (seen_place from.now)) (length code.old.items) (pending scope.now) 0) }
 {
     emit_begin(code, at)?;
     emit_place(alloc, scope, code, to)?;
@@ -143,7 +117,7 @@ fn emit_put(
 ) -> Result<(), AllocError>
     ensures { OnOk result (code.new.items ≡ code.old.items ++
         stat_code (program_of scope.now) (own_of scope.now) (PutText at strict (seen_rows from.now) (seen_rows to.now))
-        (length code.old.items) 0 0) }
+        (length code.old.items) (pending scope.now) 0) }
 {
     emit_begin(code, at)?;
     emit_rows(alloc, scope, code, from)?;
@@ -161,38 +135,10 @@ fn emit_perform(
 ) -> Result<(), AllocError>
     ensures { OnOk result (code.new.items ≡ code.old.items ++
         stat_code (program_of scope.now) (own_of scope.now) (Perform at (seen_callee callee.now) (seen_list arguments.now))
-        (length code.old.items) 0 0) }
+        (length code.old.items) (pending scope.now) 0) }
 {
     emit_begin(code, at)?;
     emit_call(alloc, scope, code, callee, arguments)
-}
-
-fn emit_return(
-    alloc: Global,
-    scope: &Scope<'_>,
-    code: &mut Vec<Instr>,
-    at: Pos,
-    value: &Option<TExpr>,
-) -> Result<(), AllocError>
-    ensures { OnOk result (code.new.items ≡ code.old.items ++
-        stat_code (program_of scope.now) (own_of scope.now) (Return at (option_map seen_expr value.now))
-        (length code.old.items) 0 0) }
-{
-    emit_begin(code, at)?;
-    match value {
-        Some(result) => {
-            emit_value(alloc, scope, code, result)?;
-            put(code, Instr::Return)
-        }
-        None => put(code, Instr::Return),
-    }
-}
-
-fn emit_exit(code: &mut Vec<Instr>, at: Pos) -> Result<(), AllocError>
-    ensures { OnOk result (code.new.items ≡ code.old.items ++ begin at ∷ (Instr.Jump pending_exit ∷ [])) }
-{
-    emit_begin(code, at)?;
-    put(code, Instr::Jump(PENDING_EXIT))
 }
 
 fn emit_assert(
@@ -204,7 +150,7 @@ fn emit_assert(
     number: u8,
 ) -> Result<(), AllocError>
     ensures { OnOk result (code.new.items ≡ code.old.items ++
-        stat_code (program_of scope.now) (own_of scope.now) (Assert at (seen_expr condition.now) number) (length code.old.items) 0 0) }
+        stat_code (program_of scope.now) (own_of scope.now) (Assert at (seen_expr condition.now) number) (length code.old.items) (pending scope.now) 0) }
 {
     emit_begin(code, at)?;
     emit_value(alloc, scope, code, condition)?;
@@ -366,7 +312,7 @@ fn emit_arm(
 ) -> Result<(), AllocError>
     ensures { OnOk result (let c = value_code (program_of scope.now) (own_of scope.now) (seen_expr test.now) (length code.old.items) in
         code.new.items ≡ code.old.items ++ arm_code c
-        (stats_code (program_of scope.now) (own_of scope.now) (seen_stats body.now) (length code.old.items + length c + 1) pending_exit level)
+        (stats_code (program_of scope.now) (own_of scope.now) (seen_stats body.now) (length code.old.items + length c + 1) (pending scope.now) level)
         (length code.old.items) then []) }
 {
     emit_value(alloc, scope, code, test)?;
@@ -391,11 +337,30 @@ fn emit_while(
 ) -> Result<(), AllocError>
     ensures { OnOk result (code.new.items ≡ code.old.items ++
         stat_code (program_of scope.now) (own_of scope.now) (While at (seen_expr condition.now) (seen_stats body.now))
-        (length code.old.items) pending_exit level) }
+        (length code.old.items) (pending scope.now) level) }
 {
     let start = next_place(code)?;
     emit_begin(code, at)?;
     emit_arm(alloc, scope, code, condition, body, start, level)
+}
+
+// Statements that are a region.
+#[cycle(emit_stat)]
+fn emit_region(
+    alloc: Global,
+    scope: &Scope<'_>,
+    code: &mut Vec<Instr>,
+    body: &[TStat],
+    level: u32,
+) -> Result<(), AllocError>
+    ensures { OnOk result (code.new.items ≡ code.old.items ++
+        block_code true (stats_code (program_of scope.now) (own_of scope.now) (seen_stats body.now) (length code.old.items + 1)
+        (block_ways true (pending scope.now)) level)) }
+{
+    let inside = scope.in_region();
+    put(code, Instr::Enter)?;
+    emit_stats(alloc, &inside, code, body, level)?;
+    put(code, Instr::Leave)
 }
 
 #[cycle(emit_stat)]
@@ -404,14 +369,20 @@ fn emit_block(
     scope: &Scope<'_>,
     code: &mut Vec<Instr>,
     at: Pos,
+    exclusive: bool,
     body: &[TStat],
     level: u32,
 ) -> Result<(), AllocError>
     ensures { OnOk result (code.new.items ≡ code.old.items ++
-        stat_code (program_of scope.now) (own_of scope.now) (Block at (seen_stats body.now)) (length code.old.items) pending_exit level) }
+        stat_code (program_of scope.now) (own_of scope.now) (Block at exclusive (seen_stats body.now)) (length code.old.items)
+        (pending scope.now) level) }
 {
     emit_begin(code, at)?;
-    emit_stats(alloc, scope, code, body, level)
+    if exclusive {
+        emit_region(alloc, scope, code, body, level)
+    } else {
+        emit_stats(alloc, scope, code, body, level)
+    }
 }
 
 // WITH of an object, which is guarded first.
@@ -427,7 +398,7 @@ fn emit_with(
 ) -> Result<(), AllocError>
     ensures { OnOk result (code.new.items ≡ code.old.items ++
         stat_code (program_of scope.now) (own_of scope.now) (With at (seen_expr object.now) (seen_stats body.now))
-        (length code.old.items) pending_exit level) }
+        (length code.old.items) (pending scope.now) level) }
 {
     emit_object(alloc, scope, code, at, object)?;
     emit_stats(alloc, scope, code, body, level)
@@ -446,7 +417,7 @@ fn emit_with_record(
 ) -> Result<(), AllocError>
     ensures { OnOk result (code.new.items ≡ code.old.items ++
         stat_code (program_of scope.now) (own_of scope.now) (WithRecord at (seen_place place.now) (seen_stats body.now))
-        (length code.old.items) pending_exit level) }
+        (length code.old.items) (pending scope.now) level) }
 {
     emit_record(alloc, scope, code, at, place)?;
     emit_stats(alloc, scope, code, body, level)
@@ -464,7 +435,7 @@ fn emit_repeat(
 ) -> Result<(), AllocError>
     ensures { OnOk result (code.new.items ≡ code.old.items ++
         stat_code (program_of scope.now) (own_of scope.now) (Repeat at (seen_stats body.now) (seen_expr condition.now))
-        (length code.old.items) pending_exit level) }
+        (length code.old.items) (pending scope.now) level) }
 {
     let start = next_place(code)?;
     emit_begin(code, at)?;
@@ -473,9 +444,9 @@ fn emit_repeat(
     put(code, Instr::JumpFalse(start))
 }
 
-// Statements in which an EXIT leads behind so many instructions that come after them.
+/// Statements in which an EXIT leads behind so many instructions that come after them.
 #[cycle(emit_stat)]
-fn emit_left(
+pub fn emit_left(
     alloc: Global,
     scope: &Scope<'_>,
     code: &mut Vec<Instr>,
@@ -484,9 +455,9 @@ fn emit_left(
     level: u32,
 ) -> Result<(), AllocError>
     ensures { OnOk result (let first = length code.old.items in
-        let size = length (stats_code (program_of scope.now) (own_of scope.now) (seen_stats body.now) first 0 level) in
+        let size = length (stats_code (program_of scope.now) (own_of scope.now) (seen_stats body.now) first (left_to scope.now 0) level) in
         code.new.items ≡ code.old.items ++
-        stats_code (program_of scope.now) (own_of scope.now) (seen_stats body.now) first (first + size + behind) level) }
+        stats_code (program_of scope.now) (own_of scope.now) (seen_stats body.now) first (left_to scope.now (first + size + behind)) level) }
 {
     let first = code.len();
     emit_stats(alloc, scope, code, body, level)?;
@@ -505,11 +476,12 @@ fn emit_loop(
     level: u32,
 ) -> Result<(), AllocError>
     ensures { OnOk result (code.new.items ≡ code.old.items ++
-        stat_code (program_of scope.now) (own_of scope.now) (Loop at (seen_stats body.now)) (length code.old.items) pending_exit level) }
+        stat_code (program_of scope.now) (own_of scope.now) (Loop at (seen_stats body.now)) (length code.old.items) (pending scope.now) level) }
 {
     let start = next_place(code)?;
+    let inside = scope.in_loop();
     emit_begin(code, at)?;
-    emit_left(alloc, scope, code, body, 1, level)?;
+    emit_left(alloc, &inside, code, body, 1, level)?;
     put(code, Instr::Jump(start))
 }
 
@@ -528,7 +500,7 @@ fn emit_rounds(
 ) -> Result<(), AllocError>
     ensures { OnOk result (code.new.items ≡ code.old.items ++
         rounds_code (program_of scope.now) (own_of scope.now) at width (seen_place variable.now) step.now (seen_stats body.now)
-        (length code.old.items) pending_exit level) }
+        (length code.old.items) (pending scope.now) level) }
 {
     let start = next_place(code)?;
     let inside = next(level)?;
@@ -556,7 +528,7 @@ fn emit_arms(
 ) -> Result<(), AllocError>
     ensures { OnOk result (code.new.items ≡ code.old.items ++
         arms_code (program_of scope.now) (own_of scope.now) (arms_of arms.now (seen_stats otherwise.now))
-        (length code.old.items) pending_end pending_exit level) }
+        (length code.old.items) pending_end (pending scope.now) level) }
 {
     for arm in arms {
         emit_arm(alloc, scope, code, &arm.test, &arm.body, PENDING_END, level)?;
@@ -576,7 +548,7 @@ fn emit_if(
 ) -> Result<(), AllocError>
     ensures { OnOk result (code.new.items ≡ code.old.items ++
         stat_code (program_of scope.now) (own_of scope.now) (If at (arms_of arms.now (seen_stats otherwise.now)))
-        (length code.old.items) pending_exit level) }
+        (length code.old.items) (pending scope.now) level) }
 {
     emit_begin(code, at)?;
     let first = code.len();
@@ -596,7 +568,7 @@ fn emit_else(
     level: u32,
 ) -> Result<(), AllocError>
     ensures { OnOk result (code.new.items ≡ code.old.items ++
-        cases_code (program_of scope.now) (own_of scope.now) (seen_else otherwise.now) (length code.old.items) pending_end pending_exit level) }
+        cases_code (program_of scope.now) (own_of scope.now) (seen_else otherwise.now) (length code.old.items) pending_end (pending scope.now) level) }
 {
     match otherwise {
         TElse::Missing => put(code, Instr::Fail(4)),
@@ -617,10 +589,10 @@ fn emit_choices(
 ) -> Result<Vec<u32>, AllocError>
     ensures code { OnOk result (code.new.items ≡ code.old.items ++
         cases_code (program_of scope.now) (own_of scope.now) (cases_of cases.now (seen_else otherwise.now))
-        (length code.old.items) pending_end pending_exit level) }
+        (length code.old.items) pending_end (pending scope.now) level) }
     ensures places { IfOk result (λ places. places.items ≡
         places_from (program_of scope.now) (own_of scope.now) (cases_of cases.now (seen_else otherwise.now))
-        (length code.old.items) pending_exit level) }
+        (length code.old.items) (pending scope.now) level) }
 {
     let mut places = Vec::new(alloc);
     for case in cases {
@@ -647,10 +619,10 @@ fn emit_found(
 ) -> Result<(), AllocError>
     ensures { OnOk result (let all = cases_of cases.now (seen_else otherwise.now) in
         let first = length code.old.items + search_size (search_of all) in
-        let end = first + length (cases_code (program_of scope.now) (own_of scope.now) all first 0 pending_exit level) in
+        let end = first + length (cases_code (program_of scope.now) (own_of scope.now) all first 0 (pending scope.now) level) in
         code.new.items ≡ code.old.items ++
-        (search_code (arm_place (program_of scope.now) (own_of scope.now) all first pending_exit level) (arms_in all) (search_of all) level (length code.old.items)
-        ++ cases_code (program_of scope.now) (own_of scope.now) all first end pending_exit level)) }
+        (search_code (arm_place (program_of scope.now) (own_of scope.now) all first (pending scope.now) level) (arms_in all) (search_of all) level (length code.old.items)
+        ++ cases_code (program_of scope.now) (own_of scope.now) all first end (pending scope.now) level)) }
 {
     let rows = rows_of(alloc, cases)?;
     let from = code.len();
@@ -677,7 +649,7 @@ fn emit_case(
 ) -> Result<(), AllocError>
     ensures { OnOk result (code.new.items ≡ code.old.items ++
         stat_code (program_of scope.now) (own_of scope.now) (Case at (seen_expr selector.now) (cases_of cases.now (seen_else otherwise.now)))
-        (length code.old.items) pending_exit level) }
+        (length code.old.items) (pending scope.now) level) }
 {
     emit_begin(code, at)?;
     emit_value(alloc, scope, code, selector)?;
@@ -694,7 +666,7 @@ fn emit_stat(
     level: u32,
 ) -> Result<(), AllocError>
     ensures { OnOk result (code.new.items ≡ code.old.items ++
-        stat_code (program_of scope.now) (own_of scope.now) (seen_stat statement.now) (length code.old.items) pending_exit level) }
+        stat_code (program_of scope.now) (own_of scope.now) (seen_stat statement.now) (length code.old.items) (pending scope.now) level) }
 {
     match statement {
         TStat::Assign(at, of, place, value) => {
@@ -711,12 +683,14 @@ fn emit_stat(
         TStat::While(at, test, body) => emit_while(alloc, scope, code, *at, test, body, level),
         TStat::Repeat(at, body, test) => emit_repeat(alloc, scope, code, *at, body, test, level),
         TStat::Loop(at, body) => emit_loop(alloc, scope, code, *at, body, level),
-        TStat::Exit(at) => emit_exit(code, *at),
+        TStat::Exit(at) => emit_exit(scope, code, *at),
         TStat::For(at, of, variable, from, to, step, body) => {
             emit_head(alloc, scope, code, *at, *of, variable, from, to, level)?;
             emit_rounds(alloc, scope, code, *at, *of, variable, step, body, level)
         }
-        TStat::Block(at, body) => emit_block(alloc, scope, code, *at, body, level),
+        TStat::Block(at, exclusive, body) => {
+            emit_block(alloc, scope, code, *at, *exclusive, body, level)
+        }
         TStat::Assert(at, test, number) => emit_assert(alloc, scope, code, *at, test, *number),
         TStat::Halt(at, number) => emit_halt(code, *at, *number),
         TStat::Change(at, change, place, value) => {
@@ -750,35 +724,10 @@ fn emit_stats(
     level: u32,
 ) -> Result<(), AllocError>
     ensures { OnOk result (code.new.items ≡ code.old.items ++
-        stats_code (program_of scope.now) (own_of scope.now) (seen_stats statements.now) (length code.old.items) pending_exit level) }
+        stats_code (program_of scope.now) (own_of scope.now) (seen_stats statements.now) (length code.old.items) (pending scope.now) level) }
 {
     for statement in statements {
         emit_stat(alloc, scope, code, statement, level)?;
     }
     Ok(())
-}
-
-// The end of a routine: that of its frame, or a function's trap 10.
-#[tactic(auto, using(crate::proofs::Ends::gives_end, crate::proofs::Ends::nothing_end))]
-fn end_instr(scope: &Scope<'_>) -> Instr
-    ensures { end_code (program_of scope.now) (own_of scope.now) ≡ result ∷ [] }
-{
-    if scope.gives() {
-        Instr::Fail(10)
-    } else {
-        Instr::Return
-    }
-}
-
-/// The body with these statements.
-pub fn emit_body(alloc: Global, scope: &Scope<'_>, statements: &[TStat]) -> Result<Body, AllocError>
-    ensures code { IfOk result (λ body.
-        body.code.items ≡ body_code (program_of scope.now) (own_of scope.now) (seen_stats statements.now)) }
-    ensures depth { IfOk result (λ body. body.depth ≡ body_need (seen_stats statements.now)) }
-{
-    let mut code = Vec::new(alloc);
-    emit_left(alloc, scope, &mut code, statements, 0, 0)?;
-    put(&mut code, end_instr(scope))?;
-    let depth = stats_need(statements)?;
-    Ok(Body { code, depth })
 }

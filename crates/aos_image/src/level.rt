@@ -74,7 +74,7 @@ fn stat_level(statement: &TStat, around: u32) -> Result<u32, AllocError>
             let inside = next(around)?;
             stats_level(body, inside)
         }
-        TStat::Block(_, body) => stats_level(body, around),
+        TStat::Block(_, _, body) => stats_level(body, around),
         TStat::Assert(_, _, _) => Ok(around),
         TStat::Halt(_, _) => Ok(around),
         TStat::Change(_, _, _, _) => Ok(around),

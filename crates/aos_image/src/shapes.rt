@@ -1,9 +1,9 @@
 // What code knows of each routine: its parameters, its cells, what it keeps and what it gives.
 
-ghost use Rattle.std.specs.Prelude.{◌≡◌, ◌≤◌, ◌∷◌, [], ◌++◌, List, length, map, None, IfOk, OnOk};
+ghost use Rattle.std.specs.Prelude.{◌≡◌, ◌≤◌, ◌∷◌, [], ◌++◌, List, length, map, Bool, None, IfOk, OnOk};
 ghost use Rattle.aos_types.specs.declared.row.TypeRow.{TypeRow};
 ghost use Rattle.aos_typed.specs.Routines.{routine_of, routines};
-ghost use Rattle.aos_typed.specs.Seen.{seen_program, seen_procedure, seen_stats};
+ghost use Rattle.aos_typed.specs.Seen.{seen_program, seen_procedure, seen_body};
 ghost use Rattle.aos_typed.specs.WellTyped.{IsProcedure, IsWellTyped};
 ghost use Rattle.aos_layout.specs.Seen.{seen_shape};
 ghost use Rattle.aos_laid.specs.Routines.{IsTyped, seen_routine};
@@ -19,8 +19,8 @@ use std::alloc::{AllocError, Global};
 
 // The shape of a module's body: its frame has no cells, and it gives nothing.
 fn body_shape(alloc: Global, home: u32, body: &[TStat]) -> Result<ProcShape, AllocError>
-    ensures { IfOk result (λ s. (rows : List TypeRow) → seen_shape s ≡
-        shape_of rows (record { home = home; own = None; body = seen_stats body.now })) }
+    ensures { IfOk result (λ s. (rows : List TypeRow) (exclusive : Bool) → seen_shape s ≡
+        shape_of rows (record { home = home; own = None; body = seen_body exclusive body.now })) }
 {
     Ok(ProcShape {
         module: home,
@@ -61,7 +61,7 @@ fn routine_shape(
         shape_of (seen_program laid.now).types (seen_routine routine.now)) }
 {
     match routine {
-        Routine::Body(home, statements) => {
+        Routine::Body(home, _, statements) => {
             let shape = body_shape(alloc, *home, statements)?;
             Ok(shape)
         }

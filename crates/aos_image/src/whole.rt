@@ -30,7 +30,7 @@ pub fn link(alloc: Global, program: &Program, bodies: Vec<Body>) -> Result<Image
     requires matching { map (λ b. b.code.items) bodies.items ≡
         map (λ r. body_code (seen_program program.now) r.own r.body) (routines (seen_program program.now)) }
     requires depths { map (λ b. b.depth) bodies.items ≡
-        map (λ r. body_need r.body) (routines (seen_program program.now)) }
+        map (λ r. body_need r.body.statements) (routines (seen_program program.now)) }
     ensures bodies { IfOk result (λ image. image.bodies.items ≡ bodies.items) }
     ensures code { IfOk result (λ image. IsCodeOf (seen_program program.now) image) }
     ensures depths { IfOk result (λ image. HasDepthsOf (seen_program program.now) image) }

@@ -19,7 +19,7 @@ abbrev mutual
   height (Loop at body) = suc (heights body)
   height (Exit at) = 0
   height (For at w p from to step body) = suc (heights body)
-  height (Block at body) = suc (heights body)
+  height (Block at exclusive body) = suc (heights body)
   height (Assert at e code) = 0
   height (Halt at code) = 0
   height (Change at c p e) = 0

@@ -4,15 +4,15 @@ use Rattle.std.proofs.lemmas.List.{map-append}
 use Rattle.std.proofs.lemmas.List.Elements.{All-append}
 use Rattle.aos_typed.specs.declared.tree.TModule.{TModule}
 use Rattle.aos_typed.specs.declared.tree.TObject.{TObject}
-use Rattle.aos_typed.specs.Program.{Stats, Procedure, Method, Module, ObjectType, Program}
+use Rattle.aos_typed.specs.Program.{Body, Procedure, Method, Module, ObjectType, Program}
 use Rattle.aos_typed.specs.Routines.{Routine, routine_of, bodies_from, methods_from, procedures_from, routines}
-use Rattle.aos_typed.specs.Seen.{seen_stats, seen_method, seen_module, seen_object, seen_procedure}
+use Rattle.aos_typed.specs.Seen.{seen_body, seen_method, seen_module, seen_object, seen_procedure}
 use Rattle.aos_typed.specs.WellTyped.{IsProcedure, IsMethod, AreObjectTypes, IsWellTyped}
 use Rattle.aos_laid.specs.Routines.{IsTyped}
 use Rattle.aos_laid.proofs.Lists.{next_of, count_of}
 
-abbrev body_of : ℕ → Stats → Routine
-body_of m ss = record { home = m; own = None; body = ss }
+abbrev body_of : ℕ → Body → Routine
+body_of m b = record { home = m; own = None; body = b }
 
 abbrev of_method : ℕ → Method → Routine
 of_method m x = routine_of m x.procedure
@@ -44,12 +44,12 @@ added before so_far now xs ys zs e f g = f ∙ ap (λ l. l ++ ys) e ∙ append_a
 
 module _ (before so_far now : List Routine) where
   -- The body of one more module,
-  pub body_more : (ms : List TModule) (k n : ℕ) (m : TModule) → k < length ms → m ≡ get_or ms k m → n ≡ k → so_far ≡ before ++ bodies_from 0 (map seen_module (take k ms)) → now ≡ so_far ++ record { home = n; own = None; body = seen_stats m.body.items } ∷ [] → now ≡ before ++ bodies_from 0 (map seen_module (take (k + 1) ms))
+  pub body_more : (ms : List TModule) (k n : ℕ) (m : TModule) → k < length ms → m ≡ get_or ms k m → n ≡ k → so_far ≡ before ++ bodies_from 0 (map seen_module (take k ms)) → now ≡ so_far ++ record { home = n; own = None; body = seen_body m.is_exclusive m.body.items } ∷ [] → now ≡ before ++ bodies_from 0 (map seen_module (take (k + 1) ms))
   body_more ms k n m lt at is f g =
       let xs = map seen_module (take k ms) in
       let there : 0 + length xs ≡ n = omega (arith, count_of seen_module ms k lt, is) in
       added before so_far now (bodies_from 0 xs) _ _ f g
-      (ap (bodies_from 0) (next_of seen_module ms k m lt at) ∙ bodies_last 0 xs (seen_module m) ∙ ap (λ j. bodies_from 0 xs ++ body_of j (seen_stats m.body.items) ∷ []) there)
+      (ap (bodies_from 0) (next_of seen_module ms k m lt at) ∙ bodies_last 0 xs (seen_module m) ∙ ap (λ j. bodies_from 0 xs ++ body_of j (seen_body m.is_exclusive m.body.items) ∷ []) there)
 
   -- one more of what each gives one routine, as what objects carry out, a procedure or a method,
   pub one_more : {X Y : Type 0} (see : X → Y) (one : Y → Routine) (xs : List X) (k : ℕ) (x : X) → k < length xs → x ≡ get_or xs k x → so_far ≡ before ++ map one (map see (take k xs)) → now ≡ so_far ++ one (see x) ∷ [] → now ≡ before ++ map one (map see (take (k + 1) xs))

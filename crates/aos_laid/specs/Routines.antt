@@ -5,13 +5,13 @@ use Rattle.aos_types.specs.declared.row.TypeRow.{TypeRow}
 use Rattle.aos_layout.specs.Frame.{IsThere}
 use Rattle.aos_typed.specs.Program.{Parameter, Procedure, Program}
 use Rattle.aos_typed.specs.Routines.{Routine, parameters_of, routine_of}
-use Rattle.aos_typed.specs.Seen.{seen_stats, seen_procedure}
+use Rattle.aos_typed.specs.Seen.{seen_body, seen_procedure}
 use Rattle.aos_typed.specs.WellTyped.{IsProcedure}
 use Rattle.aos_laid.specs.declared.routines.Routine.{Routine as CodeRoutine}
 use Rattle.aos_laid.specs.declared.routines.Routine.TheVariants.{Body, Procedure as Declared}
 
 abbrev pub seen_routine : CodeRoutine → Routine
-seen_routine (Body m ss) = record { home = m; own = None; body = seen_stats ss.now }
+seen_routine (Body m exclusive ss) = record { home = m; own = None; body = seen_body exclusive ss.now }
 seen_routine (Declared m q) = routine_of m (seen_procedure q.now)
 
 abbrev pub seen_routines : List CodeRoutine → List Routine

@@ -81,7 +81,7 @@ fn taken_in(alloc: Global, types: &Types, routine: &Routine<'_>) -> Result<Vec<K
         (map (parameter_kind types.now) (parameters_of (seen_routine routine.now).own)))) }
 {
     match routine {
-        Routine::Body(_, _) => Ok(Vec::new(alloc)),
+        Routine::Body(_, _, _) => Ok(Vec::new(alloc)),
         Routine::Procedure(_, procedure) => kinds_taken(alloc, types, procedure),
     }
 }

@@ -12,8 +12,8 @@ use std::alloc::{AllocError, Global};
 /// text it is.
 #[derive(Drop)]
 pub enum Routine<'a> {
-    /// The statements of a module's body.
-    Body(u32, &'a [TStat]),
+    /// A module's body, whether it is exclusive, and its statements.
+    Body(u32, bool, &'a [TStat]),
     /// A procedure, a method or what objects carry out.
     Procedure(u32, &'a TProcedure),
 }
@@ -34,7 +34,10 @@ fn put_bodies<'a>(all: &mut Vec<Routine<'a>>, modules: &'a [TModule]) -> Result<
 {
     let mut number = 0;
     for module in modules {
-        put(all, Routine::Body(number, module.body.as_slice()))?;
+        put(
+            all,
+            Routine::Body(number, module.is_exclusive, module.body.as_slice()),
+        )?;
         number += 1;
     }
     Ok(())

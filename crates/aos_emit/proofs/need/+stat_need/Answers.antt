@@ -45,7 +45,7 @@ stat_need-stats_need-requires-in-For t c =
 pub stat_need-stats_need-requires-in-Block : goal.stat_need-stats_need-requires-in-Block
 stat_need-stats_need-requires-in-Block t c =
     let x = c.in-Block in
-    let less = within _ _ _ _ (ap seen_stat x.is ∙ block_seen x.field-0 x.body) refl c.deref-in-Block.ensures.value in
+    let less = within _ _ _ _ (ap seen_stat x.is ∙ block_seen x.field-0 x.field-1 x.body) refl c.deref-in-Block.ensures.value in
     search (rules, less)
 
 pub stat_need-stats_need-requires-in-With : goal.stat_need-stats_need-requires-in-With
@@ -105,7 +105,7 @@ stat_need-returns-in_ok-stats_need-in-For t c =
 pub stat_need-returns-in-Block : goal.stat_need-returns-in-Block
 stat_need-returns-in-Block t c =
     let x = c.in-Block in
-    let all = ap (λ l. stats_need (seen_stats l)) c.deref-in-Block.ensures.value ∙ sym (ap stat_need (ap seen_stat x.is ∙ block_seen x.field-0 x.body)) in
+    let all = ap (λ l. stats_need (seen_stats l)) c.deref-in-Block.ensures.value ∙ sym (ap stat_need (ap seen_stat x.is ∙ block_seen x.field-0 x.field-1 x.body)) in
     subst (λ m. IfOk c.stats_need-in-Block.result (λ n. n ≡ m)) all c.stats_need-in-Block.ensures
 
 pub stat_need-returns-in_ok-stats_need-in-With : goal.stat_need-returns-in_ok-stats_need-in-With

@@ -45,7 +45,7 @@ stat_level-stats_level-requires-in-For t c =
 pub stat_level-stats_level-requires-in-Block : goal.stat_level-stats_level-requires-in-Block
 stat_level-stats_level-requires-in-Block t c =
     let x = c.in-Block in
-    let less = within _ _ _ _ (ap seen_stat x.is ∙ block_seen x.field-0 x.body) refl c.deref-in-Block.ensures.value in
+    let less = within _ _ _ _ (ap seen_stat x.is ∙ block_seen x.field-0 x.field-1 x.body) refl c.deref-in-Block.ensures.value in
     search (rules, less)
 
 pub stat_level-stats_level-requires-in-With : goal.stat_level-stats_level-requires-in-With
@@ -109,7 +109,7 @@ pub stat_level-returns-in-Block : goal.stat_level-returns-in-Block
 stat_level-returns-in-Block t c =
     let x = c.in-Block in
     let d = c.args.around in
-    let all = ap (λ l. stats_level (seen_stats l) d) c.deref-in-Block.ensures.value ∙ sym (ap (λ s. stat_level s d) (ap seen_stat x.is ∙ block_seen x.field-0 x.body)) in
+    let all = ap (λ l. stats_level (seen_stats l) d) c.deref-in-Block.ensures.value ∙ sym (ap (λ s. stat_level s d) (ap seen_stat x.is ∙ block_seen x.field-0 x.field-1 x.body)) in
     subst (λ m. IfOk c.stats_level-in-Block.result (λ n. n ≡ m)) all c.stats_level-in-Block.ensures
 
 pub stat_level-returns-in-With : goal.stat_level-returns-in-With

@@ -7,4 +7,4 @@ use Rattle.aos_image.proofs.shapes.routine_shape.Goals as goal
 pub returns-in_ok-shape-in-Body : goal.returns-in_ok-shape-in-Body
 returns-in_ok-shape-in-Body c =
     let rows = (seen_program c.args.laid.now).types in
-    c.in_ok-shape-in-Body.ensures rows ∙ sym (ap (λ r. shape_of rows (seen_routine r)) c.in-Body.is)
+    c.in_ok-shape-in-Body.ensures rows c.in-Body.field-1 ∙ sym (ap (λ r. shape_of rows (seen_routine r)) c.in-Body.is)

@@ -7,7 +7,7 @@ use Rattle.aos_emit.proofs.scope.Scope.own_cell.Goals as goal
 
 pub returns : goal.returns
 returns c =
-    let s : Inside = record { program = c.self.inside.program.now; own = option_map (λ q. q.now) c.self.inside.own } in
+    let s : Inside = record { program = c.self.inside.program.now; own = option_map (λ q. q.now) c.self.inside.own; within = c.self.inside.within } in
     c.cell_at.ensures
     ∙ own_is (program_of s) (own_of s) c.self.inside.places.now c.self.inside.cells c.args.number c.self.invariant
     ∙ ap (λ (s : Inside). own_cell (program_of s) (own_of s) c.args.number) c.self.view_is

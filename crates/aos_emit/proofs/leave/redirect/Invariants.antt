@@ -1,6 +1,6 @@
 use Rattle.std.proofs.Common.{◌≡◌, ◌≤◌, ◌-◌, length}
 use Rattle.aos_emit.specs.Redirect.{redirect_behind}
-use Rattle.aos_emit.proofs.stats.redirect.Given as goal
+use Rattle.aos_emit.proofs.leave.redirect.Given as goal
 
 -- what is left to redirect makes the whole of what was redirected
 abbrev pub invariant-loop-at : goal.invariant-loop-at
