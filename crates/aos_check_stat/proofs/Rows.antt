@@ -37,7 +37,7 @@ use Rattle.aos_symbols.proofs.Keeping.{after_more}
 use Rattle.aos_check_expr.specs.Known.{width_of}
 use Rattle.aos_check_expr.specs.Designators.{guard}
 use Rattle.aos_check_expr.specs.Expressions.{condition, known_type}
-use Rattle.aos_check_stat.specs.Bodies.{listed, modifier_breaches, called_last, called_before, ended, Labels, label_in, selector, control, fitting, step_of, with_variable, narrowed_by, with_stat, stat_of, stat_in, stats_in, else_in, case_else_in, elsifs_in, cases_in}
+use Rattle.aos_check_stat.specs.Bodies.{listed, modifier_breaches, are_exclusive, called_last, called_before, ended, Labels, label_in, selector, control, fitting, step_of, with_variable, narrowed_by, with_stat, stat_of, stat_in, stats_in, else_in, case_else_in, elsifs_in, cases_in}
 use Rattle.aos_check_stat.specs.Listed as parts
 use Rattle.aos_check_stat.specs.Listed.{onto}
 
@@ -92,7 +92,7 @@ module _ (e : Env) (in_loop : Bool) where
   pub stat_block : (x : TreeStat) (b : Block) → x ≡ stat.Block b → stat_of e in_loop x ≡ parts.block_of e in_loop b
   stat_block x b is =
       ap (λ z. stat_of e in_loop z) is
-      ∙ ap (λ j. bind (judged (modifier_breaches e.here.text false b.modifiers) []) (λ (none : List Stat). bind j (λ us. kept (Some (BlockOf b.pos (listed us)))))) (stats_are b.body.stats)
+      ∙ ap (λ j. bind (judged (modifier_breaches e.here.text false b.modifiers) []) (λ (none : List Stat). bind j (λ us. kept (Some (BlockOf b.pos (are_exclusive e.here.text b.modifiers) (listed us)))))) (stats_are b.body.stats)
 
   pub stat_for : (x : TreeStat) (p : Pos) (n : Name) (q : Pos) (from to : TreeExpr) (by : Option TreeExpr) (body : StatSeq) → x ≡ stat.For p n q from to by body →
       stat_of e in_loop x ≡ parts.for_of e in_loop p n q from to by body.stats

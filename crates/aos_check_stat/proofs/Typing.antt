@@ -66,7 +66,7 @@ use Rattle.aos_check_expr.proofs.Typing.{IsWhole, IsSound, IsTextAt, expr_sound,
 use Rattle.aos_check_expr.proofs.Called.{IsCalling, IsBound}
 use Rattle.aos_check_expr.proofs.Initials.{initialized, none_initialized}
 use Rattle.aos_check_stat.specs.Bodies as judge
-use Rattle.aos_check_stat.specs.Bodies.{listed, put, lengths_wanted, new_breaches, count_breaches, outs, ended, arguments, behind_arguments, goes_on, modifier_breaches}
+use Rattle.aos_check_stat.specs.Bodies.{listed, put, lengths_wanted, new_breaches, count_breaches, outs, ended, arguments, behind_arguments, goes_on, modifier_breaches, are_exclusive}
 use Rattle.aos_check_stat.proofs.Places.{MayBe as MayBeOf, some_breach, not_long, not_nil, not_named, IsRead, read_sound, IsAssigned, assigned_sound, told_typed, copying, putting, copied_text, object_itself, object_made, pointer_made, IsTarget, target_sound, lengths_counted}
 use Rattle.aos_check_stat.proofs.Changed.{place_changed, change_call_sound, assert_sound, halt_sound}
 use Rattle.aos_check_stat.proofs.Apart.{between}
@@ -630,9 +630,9 @@ module _ (p : Inside) where
         (condition_sound p e whole c)
         (λ test is. holds_bind AreFine Fine (judge.stats_in e in_loop [] row) (λ body. kept (Some (While q test (listed body)))) (stats_sound e whole in_loop [] tt row) (λ body are h. (is, are)))
     stat_sound e whole in_loop (stat.Block' q ms shape row) =
-        holds_bind AreFine Fine (judged (modifier_breaches e.here.text false ms) []) (λ none. bind (judge.stats_in e in_loop none row) (λ body. kept (Some (BlockOf q (listed body)))))
+        holds_bind AreFine Fine (judged (modifier_breaches e.here.text false ms) []) (λ none. bind (judge.stats_in e in_loop none row) (λ body. kept (Some (BlockOf q (are_exclusive e.here.text ms) (listed body)))))
         (λ h. tt)
-        (λ none are. holds_bind AreFine Fine (judge.stats_in e in_loop none row) (λ body. kept (Some (BlockOf q (listed body)))) (stats_sound e whole in_loop none are row) (λ body all h. all))
+        (λ none are. holds_bind AreFine Fine (judge.stats_in e in_loop none row) (λ body. kept (Some (BlockOf q (are_exclusive e.here.text ms) (listed body)))) (stats_sound e whole in_loop none are row) (λ body all h. all))
     stat_sound e whole in_loop (stat.Exit q) = exit_sound p e whole in_loop q
     stat_sound e whole in_loop (stat.Return q x) = return_sound p e whole q (judge.gives_here e) (own_result p e whole) x
     stat_sound e whole in_loop (stat.Await q x) = λ h. tt

@@ -1,6 +1,6 @@
 -- The third pass: bodies. Built are assignments, calls of procedures and methods, all other statements but AWAIT, the predeclared
 -- procedures, of which NEW takes a pointer or an object variable, with the arguments of the object's initializer, the calls of Out, and of
--- the modifiers ACTIVE on an object's body.
+-- the modifiers ACTIVE on an object's body, and EXCLUSIVE on any body or block.
 -- A statement that isn't built is refused at its first token, a modifier at itself.
 use Rattle.std.specs.Prelude.{ℕ, ◌-◌, ℤ, pos, ◌||◌, slice_get, take, drop, List, [], ◌∷◌, ◌++◌, length, codes, map, Bool, true, false, not, ◌&&◌, Option, Some, None, is_some, if◌then◌else◌, ◌==◌}
 use Rattle.std.specs.Option.{is_none, unwrap_or, option_map}
@@ -172,20 +172,37 @@ no_call at ReadOnly = refused 36 at
 no_call at Computed = refused 36 at
 no_call at (Procedure m n) = refused 36 at
 
--- Modifiers: those that aren't built, and of the others one ACTIVE, without a value, on an object's body.
+-- Modifiers: those that aren't built, and of the others one EXCLUSIVE on any body or block, and one ACTIVE on an object's body, in any
+-- order, each without a value.
 abbrev pub is_later : List ℕ → Modifier → Bool
-is_later text m =
-    is_word text (codes "EXCLUSIVE") m.name || (is_word text (codes "PRIORITY") m.name || is_word text (codes "SAFE") m.name)
+is_later text m = is_word text (codes "PRIORITY") m.name || is_word text (codes "SAFE") m.name
 
-abbrev pub modifier_breach : List ℕ → Bool → Modifier → List Breach
-modifier_breach text may_be_active m =
+abbrev pub is_exclusive : List ℕ → Modifier → Bool
+is_exclusive text m = is_word text (codes "EXCLUSIVE") m.name
+
+-- those of an exclusive block
+abbrev pub are_exclusive : List ℕ → List Modifier → Bool
+are_exclusive text ms = list_any (is_exclusive text) ms
+
+-- one that may still stand there
+abbrev pub is_allowed : List ℕ → (may_be_active may_be_exclusive : Bool) → Modifier → Bool
+is_allowed text may_be_active may_be_exclusive m =
+    ((may_be_active && is_active text m) || (may_be_exclusive && is_exclusive text m)) && is_none m.value
+
+abbrev pub modifier_breach : List ℕ → (may_be_active may_be_exclusive : Bool) → Modifier → List Breach
+modifier_breach text may_be_active may_be_exclusive m =
     if is_later text m then breach 99 m.name.pos
-    else breach_unless (may_be_active && (is_active text m && is_none m.value)) 45 m.name.pos
+    else breach_unless (is_allowed text may_be_active may_be_exclusive m) 45 m.name.pos
 
-abbrev pub modifier_breaches : List ℕ → Bool → List Modifier → List Breach
-modifier_breaches text may_be_active [] = []
-modifier_breaches text may_be_active (m ∷ ms) =
-    modifier_breach text may_be_active m ++ modifier_breaches text (may_be_active && not (is_active text m)) ms
+abbrev pub breaches_behind : List ℕ → (may_be_active may_be_exclusive : Bool) → List Modifier → List Breach
+breaches_behind text may_be_active may_be_exclusive [] = []
+breaches_behind text may_be_active may_be_exclusive (m ∷ ms) =
+    modifier_breach text may_be_active may_be_exclusive m
+    ++ breaches_behind text (may_be_active && not (is_active text m)) (may_be_exclusive && not (is_exclusive text m)) ms
+
+-- those of a body that may be active or not
+abbrev pub modifier_breaches : List ℕ → (may_be_active : Bool) → List Modifier → List Breach
+modifier_breaches text may_be_active ms = breaches_behind text may_be_active true ms
 
 -- INC, DEC, INCL and EXCL of a variable, by a value or by 1: the variable is of an integer type, or a set
 abbrev pub changing : Routine → Option TypeId → Changing
@@ -688,7 +705,7 @@ abbrev mutual
       bind (condition e c) (λ test. bind (stats_in e in_loop [] row) (λ body. kept (Some (While p test (listed body)))))
   stat_of e in_loop (stat.Block' p ms shape row) =
       bind (judged (modifier_breaches e.here.text false ms) []) (λ none. bind (stats_in e in_loop none row) (λ body.
-      kept (Some (Block p (listed body)))))
+      kept (Some (Block p (are_exclusive e.here.text ms) (listed body)))))
   stat_of e in_loop (stat.Exit p) = exit_of in_loop p
   stat_of e in_loop (stat.Return p x) = return_of e p (gives_here e) x
   stat_of e in_loop (stat.Await p x) = not_yet p

@@ -16,3 +16,4 @@ mod texts;
 mod withs;
 
 pub use bodies::body_of;
+pub use refusals::are_exclusive;

@@ -16,7 +16,7 @@ use crate::calls::called;
 use crate::labels::{Labels, labels_in, selector};
 use crate::loops::{control, fitting, step_of};
 use crate::procedures::return_of;
-use crate::refusals::{not_yet, refuse_modifiers, refused};
+use crate::refusals::{are_exclusive, not_yet, refuse_modifiers, refused};
 use crate::texts::{put_text, text_to, value_fits};
 use crate::withs::{enter_with, leave_with, with_stat, with_variable};
 use aos_base::Pos;
@@ -434,9 +434,12 @@ fn block_of(
     ensures answer { IfOk result (λ s. option_map seen_stat s ≡
         (listed.block_of env.old in_loop block.now).answer) }
 {
-    refuse_modifiers(found, env.here.text(), false, block.modifiers.as_slice());
+    let text = env.here.text();
+    let modifiers = block.modifiers.as_slice();
+    let exclusive = are_exclusive(text, modifiers);
+    refuse_modifiers(found, text, false, modifiers);
     let body = stats_in(alloc, found, env, in_loop, block.body.stats.as_slice())?;
-    Ok(Some(TStat::Block(block.pos, body)))
+    Ok(Some(TStat::Block(block.pos, exclusive, body)))
 }
 
 /// The statements of a sequence.

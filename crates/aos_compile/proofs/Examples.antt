@@ -26,7 +26,7 @@ use Rattle.aos_tree.specs.declared.module.Module.{Module as Tree}
 use Rattle.aos_typed.specs.declared.tree.Literal.TheVariants as literal
 use Rattle.aos_typed.specs.declared.tree.TType.{TType}
 use Rattle.aos_typed.specs.declared.tree.TType.TheVariants as ttype
-use Rattle.aos_typed.specs.Program.{NoMore, ModuleVar, Lit, Assign, New, Nothing, Then, Module, Program}
+use Rattle.aos_typed.specs.Program.{Stats, Body, NoMore, ModuleVar, Lit, Assign, New, Nothing, Then, Module, Program}
 use Rattle.aos_types.specs.declared.row.TypeRow.TheVariants as row
 use Rattle.aos_symbols.specs.Env.{basic_rows}
 use Rattle.aos_symbols.specs.Outcome.{Outcome, refused, went, refusal}
@@ -49,9 +49,13 @@ abbrev module_of : List Import → List Decl → Option Block → ℕ → Tree
 module_of imports decls body end =
     record { pos = place 0; name = letter 7; imports = imports; decls = decls; body = body; strings = []; end = letter end }
 
+-- a body that isn't exclusive
+abbrev plain_body : Stats → Body
+plain_body ss = record { is_exclusive = false; statements = ss }
+
 -- no program but that of modules without anything
 abbrev bare : List ℕ → Module
-bare n = record { name = utf8_lossy n; variables = []; texts = []; procedures = []; body = Nothing }
+bare n = record { name = utf8_lossy n; variables = []; texts = []; procedures = []; body = plain_body Nothing }
 
 abbrev only_modules : List Module → Program
 only_modules ms = record { modules = ms; types = basic_rows; objects = [] }
@@ -141,8 +145,8 @@ unfolding out-Expr out-Simple out-Term out shown-the_row-Product-6 shown-the_row
 marked_read_only = refl
 
 marked : assigned (codes "MODULE B; VAR n*: LONGINT; END B.") (with_variable (Some ReadWrite) 18)
-    ≡ went (only_modules (record { name = utf8_lossy (codes "B"); variables = record { name = utf8_lossy (codes "n"); of = longint } ∷ []; texts = []; procedures = []; body = Nothing }
-    ∷ record { name = utf8_lossy (codes "A"); variables = []; texts = []; procedures = []; body = Then (Assign (place 26) longint (ModuleVar 0 0) (Lit (literal.Int (pos 1)))) Nothing } ∷ []))
+    ≡ went (only_modules (record { name = utf8_lossy (codes "B"); variables = record { name = utf8_lossy (codes "n"); of = longint } ∷ []; texts = []; procedures = []; body = plain_body Nothing }
+    ∷ record { name = utf8_lossy (codes "A"); variables = []; texts = []; procedures = []; body = plain_body (Then (Assign (place 26) longint (ModuleVar 0 0) (Lit (literal.Int (pos 1)))) Nothing) } ∷ []))
 unfolding out-Expr out-Simple out-Term out shown-the_row-Product-6 shown-the_row-Addition-5 shown
 marked = refl
 
@@ -151,8 +155,8 @@ renamed : elaborate (codes "MODULE A; IMPORT X := B; BEGIN X.n := 1 END A." ∷ 
     (tree (module_of (record { name = letter 17; of = Some (letter 22) } ∷ []) []
     (body (stat.Assign (record { name = letter 31; selectors = s.Field (place 32) (letter 33) ∷ [] }) (place 35) (number 38))) 44)
     ∷ tree (with_variable (Some ReadWrite) 18) ∷ [])
-    ≡ went (only_modules (record { name = utf8_lossy (codes "B"); variables = record { name = utf8_lossy (codes "n"); of = longint } ∷ []; texts = []; procedures = []; body = Nothing }
-    ∷ record { name = utf8_lossy (codes "A"); variables = []; texts = []; procedures = []; body = Then (Assign (place 31) longint (ModuleVar 0 0) (Lit (literal.Int (pos 1)))) Nothing } ∷ []))
+    ≡ went (only_modules (record { name = utf8_lossy (codes "B"); variables = record { name = utf8_lossy (codes "n"); of = longint } ∷ []; texts = []; procedures = []; body = plain_body Nothing }
+    ∷ record { name = utf8_lossy (codes "A"); variables = []; texts = []; procedures = []; body = plain_body (Then (Assign (place 31) longint (ModuleVar 0 0) (Lit (literal.Int (pos 1)))) Nothing) } ∷ []))
 unfolding out-Expr out-Simple out-Term out shown-the_row-Product-6 shown-the_row-Addition-5 shown
 renamed = refl
 
@@ -161,10 +165,19 @@ unknown_member : elaborate (codes "MODULE A; IMPORT B; BEGIN B.n := 1 END A." �
 unfolding out-Expr out-Simple out-Term out shown-the_row-Product-6 shown-the_row-Addition-5 shown
 unknown_member = refl
 
+-- BEGIN {a modifier} and a statement
+abbrev marked_body : (begin from to : ℕ) → TreeStat → Option Block
+marked_body begin from to x =
+    Some (record { pos = place begin; modifiers = record { name = name from to; value = None } ∷ []; body = record { stats = x ∷ [] } })
+
 -- BEGIN {ACTIVE} and a statement
 abbrev active_body : (begin word : ℕ) → TreeStat → Option Block
-active_body begin word x =
-    Some (record { pos = place begin; modifiers = record { name = name word (word + 6); value = None } ∷ []; body = record { stats = x ∷ [] } })
+active_body begin word x = marked_body begin word (word + 6) x
+
+-- an exclusive body
+an_exclusive_body : elaborate (codes "MODULE M; BEGIN {EXCLUSIVE} END M." ∷ []) (tree (module_of [] [] (marked_body 10 17 26 stat.Empty) 32) ∷ [])
+    ≡ went (only_modules (record (bare (codes "M")) { body = record { is_exclusive = true; statements = Nothing } } ∷ []))
+an_exclusive_body = refl
 
 -- MODULE B; TYPE T*= OBJECT BEGIN {ACTIVE} END T; VAR p*: T; END B.
 abbrev active : Option Block
@@ -185,8 +198,8 @@ making =
 an_object_of_another_module : elaborate (codes "MODULE A; IMPORT B; BEGIN NEW(B.p) END A." ∷ codes "MODULE B; TYPE T*= OBJECT BEGIN {ACTIVE} END T; VAR p*: T; END B." ∷ [])
     (tree making ∷ tree with_object ∷ [])
     ≡ went (record {
-      modules = record { name = utf8_lossy (codes "B"); variables = record { name = utf8_lossy (codes "p"); of = ttype.Named 0 } ∷ []; texts = []; procedures = []; body = Nothing }
-          ∷ record { name = utf8_lossy (codes "A"); variables = []; texts = []; procedures = []; body = Then (New (place 26) (ModuleVar 0 0) 0 NoMore) Nothing } ∷ [];
+      modules = record { name = utf8_lossy (codes "B"); variables = record { name = utf8_lossy (codes "p"); of = ttype.Named 0 } ∷ []; texts = []; procedures = []; body = plain_body Nothing }
+          ∷ record { name = utf8_lossy (codes "A"); variables = []; texts = []; procedures = []; body = plain_body (Then (New (place 26) (ModuleVar 0 0) 0 NoMore) Nothing) } ∷ [];
       types = basic_rows ++ row.Object None [] ∷ [];
       objects =
           record {
@@ -194,7 +207,7 @@ an_object_of_another_module : elaborate (codes "MODULE A; IMPORT B; BEGIN NEW(B.
             home = 0;
             has_body = true;
             is_active = true;
-            body = record { name = []; of = Some 0; is_initializer = false; parameters = []; locals = []; result = None; body = Nothing };
+            body = record { name = []; of = Some 0; is_initializer = false; parameters = []; locals = []; result = None; body = plain_body Nothing };
             methods = [];
           }
           ∷ [];
@@ -213,7 +226,7 @@ declared_anew : elaborate (codes "MODULE B; VAR n: LONGINT; NEW: LONGINT; BEGIN 
       variables = record { name = utf8_lossy (codes "n"); of = longint } ∷ record { name = utf8_lossy (codes "NEW"); of = longint } ∷ [];
       texts = [];
       procedures = [];
-      body = Then (Assign (place 46) longint (ModuleVar 0 1) (Lit (literal.Int (pos 1)))) Nothing;
+      body = plain_body (Then (Assign (place 46) longint (ModuleVar 0 1) (Lit (literal.Int (pos 1)))) Nothing);
     } ∷ []))
 unfolding out-Expr out-Simple out-Term out shown-the_row-Product-6 shown-the_row-Addition-5 shown
 declared_anew = refl
@@ -234,7 +247,7 @@ a_constant : elaborate (codes "MODULE B; CONST c = 1; VAR n: LONGINT; BEGIN n :=
       variables = record { name = utf8_lossy (codes "n"); of = longint } ∷ [];
       texts = [];
       procedures = [];
-      body = Then (Assign (place 45) longint (ModuleVar 0 0) (Lit (literal.Int (pos 1)))) Nothing;
+      body = plain_body (Then (Assign (place 45) longint (ModuleVar 0 0) (Lit (literal.Int (pos 1)))) Nothing);
     } ∷ []))
 unfolding out-Expr out-Simple out-Term out shown-the_row-Product-6 shown-the_row-Addition-5 shown
 a_constant = refl

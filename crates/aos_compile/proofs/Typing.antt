@@ -49,7 +49,7 @@ module _ (ss : List Source) where
 
 -- all that is typed of a program
 pub record TypedWell (p : Program) : Type 0 where
-  pub bodies : All (λ m. AreStatements p None m.body) p.modules
+  pub bodies : All (λ m. AreStatements p None m.body.statements) p.modules
   pub objects : AreObjectTypes p 0 p.objects
   pub homes : All (λ o. o.home < length p.modules) p.objects
   pub types : AreTypes p.types
@@ -113,7 +113,7 @@ module _ (w : World) (sound : IsWorld w) (few : length w.types < 2 ^ 32) where
 
   world_typed : TypedWell (program_of w)
   world_typed = record {
-    bodies = all_of (λ m. AreStatements (program_of w) None m.body) w.modules typed.bodies;
+    bodies = all_of (λ m. AreStatements (program_of w) None m.body.statements) w.modules typed.bodies;
     objects = object_types (program_of w) sound.table typed.objects sound.shapes slots;
     homes = object_homes (program_of w) sound.table typed.objects;
     types = sound.table.sound;

@@ -28,7 +28,7 @@ use Rattle.aos_check_expr.proofs.Whole.{IsTyped, IsSearched, IsWhole}
 use Rattle.aos_check_decl.proofs.Typing.{HasHeading}
 use Rattle.aos_check_stat.specs.Bodies.{listed, body_of}
 use Rattle.aos_check_stat.proofs.Typing.{body_sound}
-use Rattle.aos_compile.specs.Modules.{bodies_from, first_scope, object_procedure, variables_of, procedure_of}
+use Rattle.aos_compile.specs.Modules.{body_with, bodies_from, first_scope, object_procedure, variables_of, procedure_of}
 use Rattle.aos_compile.proofs.TypingLocals.{own_typed}
 use Rattle.aos_compile.proofs.TypingPaths.{path_searched}
 use Rattle.aos_compile.proofs.TypingProcedures.{AreBodies as AreProcedureBodies, IsSignature, heading_signature, signature_with, signed}
@@ -135,9 +135,9 @@ module _ (program : Program) (e : Env) (m : Tree) (begins : RowsStay env.basic_r
           by zero = ap (λ z. env.innermost ((env.opened e z ++ []) ++ e.path)) found
           by (suc n) = ap (λ z. env.innermost ((env.opened e z ++ env.object_path e (env.chain_behind (λ b. env.chain_by n e.types b) (base_of (row_of e.types t)))) ++ e.path)) found
 
-      pub body_within : (b : Option Block) → Holds (λ ss. AreStatements program (Some (object_procedure k (listed ss))) (listed ss)) (body_of within true b)
+      pub body_within : (b : Option Block) → Holds (λ ss. AreStatements program (Some (object_procedure k (body_with e.here.text b (listed ss)))) (listed ss)) (body_of within true b)
       body_within b none =
-          let own = Some (object_procedure k (listed (body_of within true b).answer)) in
+          let own = Some (object_procedure k (body_with e.here.text b (listed (body_of within true b).answer))) in
           let low = (objects t o found).1 home in
           let silent = ap (signature_in e.here) innermost_is ∙ no_signature o.scope low in
           body_sound (inside own) within

@@ -512,12 +512,12 @@ module _ (w : World) (sound : IsWorld w) (text : List ℕ) (m : Tree) (once : Ea
       longer = length-append w.modules (module_of e m b ∷ [])
 
       abbrev AreSound : Module → Type 0
-      AreSound x = AreStatements (program_of world) None x.body
+      AreSound x = AreStatements (program_of world) None x.body.statements
 
       all_bodies : Each AreSound world.modules
       all_bodies =
           joined AreSound w.modules (module_of e m b ∷ [])
-          (implied (λ x. AreStatements (program_of w) None x.body) AreSound (λ x is. body_grows (program_of w) (program_of world) grows x.body is) w.modules was.bodies)
+          (implied (λ x. AreStatements (program_of w) None x.body.statements) AreSound (λ x is. body_grows (program_of w) (program_of world) grows x.body.statements is) w.modules was.bodies)
           (own_body_here, tt)
 
       here : e.number < length world.modules

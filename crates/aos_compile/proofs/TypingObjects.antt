@@ -6,7 +6,7 @@ use Rattle.aos_types.specs.declared.row.TypeRow.{TypeRow}
 use Rattle.aos_types.specs.Table.{row_of, is_object}
 use Rattle.aos_typed.specs.declared.tree.TType.TheVariants.{Named}
 use Rattle.aos_typed.specs.Numbers.{id_of}
-use Rattle.aos_typed.specs.Program.{Stats, Procedure as TypedProcedure, Method, ObjectType, Program}
+use Rattle.aos_typed.specs.Program.{Body, Procedure as TypedProcedure, Method, ObjectType, Program}
 use Rattle.aos_typed.specs.Methods.{methods_of, on_base, base_type}
 use Rattle.aos_typed.specs.WellTyped.{AreStatements, IsProcedure, IsMethod, AreSlots, IsBeside as IsBesideRow, IsObjectType, AreObjectTypes}
 use Rattle.aos_symbols.specs.declared.env.Env.{Env}
@@ -28,7 +28,7 @@ IsMethodOf p k m = IsMethod p k m.procedure
 
 -- the body beside the type with this number
 abbrev pub IsShaped : List TypeRow → ℕ → ObjectType → Type 0
-IsShaped types k o = (body : Stats) × (o.body ≡ body_beside (row_of types (id_of (Named k))) k body)
+IsShaped types k o = (body : Body) × (o.body ≡ body_beside (row_of types (id_of (Named k))) k body)
 
 -- what stands beside the type with this number
 pub record IsBeside (p : Program) (k : ℕ) (o : ObjectType) : Type 0 where
@@ -39,7 +39,7 @@ pub record IsBeside (p : Program) (k : ℕ) (o : ObjectType) : Type 0 where
 
 -- what a module says beside it
 pub record IsSaidBeside (p : Program) (k : ℕ) (x : Beside) : Type 0 where
-  pub typed : AreStatements p (Some (object_procedure k x.body)) x.body
+  pub typed : AreStatements p (Some (object_procedure k x.body)) x.body.statements
   pub methods : Each (λ m. IsProcedure p (method_beside k m).procedure × (m.procedure.is_initializer ≡ true → m.procedure.result ≡ None)) x.methods
   pub others : (is_object (row_of p.types (id_of (Named k))) ≡ true) ⊎ ((x.has_body ≡ false) × (x.methods ≡ []))
 

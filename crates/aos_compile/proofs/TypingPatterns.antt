@@ -7,7 +7,7 @@ use Rattle.aos_types.specs.declared.row.TypeRow.TheVariants as row
 use Rattle.aos_types.specs.Table.{row_of, is_scalar}
 use Rattle.aos_typed.specs.declared.tree.TType.TheVariants.{Named}
 use Rattle.aos_typed.specs.Numbers.{id_of}
-use Rattle.aos_typed.specs.Program.{Stats, Variable, Parameter, Program}
+use Rattle.aos_typed.specs.Program.{Body, Variable, Parameter, Program}
 use Rattle.aos_typed.specs.WellTyped.{AreStatements, IsType, IsVariableType, IsResult, IsProcedure, IsPattern, IsBeside as IsBesideRow}
 use Rattle.aos_symbols.proofs.Each.{Each, all_of}
 use Rattle.aos_symbols.proofs.Told.{IsFormalType, IsResultType}
@@ -58,7 +58,7 @@ module _ (p : Program) (table : AreReady p.types) where
         body = tt;
       }
 
-  object_typed : (k : ℕ) (body : Stats) → AreStatements p (Some (object_procedure k body)) body → IsProcedure p (object_procedure k body)
+  object_typed : (k : ℕ) (body : Body) → AreStatements p (Some (object_procedure k body)) body.statements → IsProcedure p (object_procedure k body)
   object_typed k body typed = record {
     parameters = all_of (λ (a : Parameter). IsType p a.of) [] tt;
     locals = all_of (λ (v : Variable). IsVariableType p v.of) [] tt;
@@ -67,14 +67,14 @@ module _ (p : Program) (table : AreReady p.types) where
   }
 
   -- what stands beside the type with a number
-  pub beside_typed : (k : ℕ) (body : Stats) → AreStatements p (Some (object_procedure k body)) body → IsProcedure p (body_beside (row_of p.types (id_of (Named k))) k body)
+  pub beside_typed : (k : ℕ) (body : Body) → AreStatements p (Some (object_procedure k body)) body.statements → IsProcedure p (body_beside (row_of p.types (id_of (Named k))) k body)
   beside_typed k body typed = by (row_of p.types (id_of (Named k))) refl
     where
       by : (r : Option TypeRow) → row_of p.types (id_of (Named k)) ≡ r → IsProcedure p (body_beside r k body)
       by (Some (row.Procedure fs r)) is = pattern_typed (id_of (Named k)) fs r is
       by r is = object_typed k body typed
 
-  pub beside_is : (k : ℕ) (body : Stats) →
+  pub beside_is : (k : ℕ) (body : Body) →
       IsBesideRow k (body_beside (row_of p.types (id_of (Named k))) k body) (row_of p.types (id_of (Named k))) × ((body_beside (row_of p.types (id_of (Named k))) k body).locals ≡ [])
   beside_is k body = by (row_of p.types (id_of (Named k))) refl
     where

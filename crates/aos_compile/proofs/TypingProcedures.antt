@@ -300,5 +300,5 @@ module _ (p q : Program) (grows : Grows p q) where
     parameters = All-weaker (λ (a : Parameter). IsType p a.of) (λ (a : Parameter). IsType q a.of) (λ a is. type_grows a.of is) x.parameters h.parameters;
     locals = All-weaker (λ (v : Variable). IsVariableType p v.of) (λ (v : Variable). IsVariableType q v.of) (λ v is. variable_grows v.of is) x.locals h.locals;
     result = result_grows x.result h.result;
-    body = statements_grow p q grows (Some x) (λ y same. subst (λ (z : TypedProcedure). All (λ a. IsType p a.of) z.parameters) (same_Some x y same) h.parameters) x.body h.body;
+    body = statements_grow p q grows (Some x) (λ y same. subst (λ (z : TypedProcedure). All (λ a. IsType p a.of) z.parameters) (same_Some x y same) h.parameters) x.body.statements h.body;
   }

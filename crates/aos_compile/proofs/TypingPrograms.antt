@@ -443,7 +443,7 @@ module _ (p q : Program) (grows : Grows p q) where
       statement_grows (Loop at body) h = statements_grow body h
       statement_grows (Exit at) h = tt
       statement_grows (For at w x from to step body) h = (h.0, place_grows x (Integer w) h.1, value_grows from _ h.2, value_grows to _ h.3, h.4, statements_grow body h.5)
-      statement_grows (Block at body) h = statements_grow body h
+      statement_grows (Block at exclusive body) h = statements_grow body h
       statement_grows (Assert at e code) h = (value_grows e _ h.0, h.1)
       statement_grows (Halt at code) h = h
       statement_grows (Change at c x e) h = (place_grows x (changed_type c) h.0, value_grows e (amount_type c) h.1)

@@ -28,7 +28,7 @@ use Rattle.aos_check_expr.proofs.Whole.{IsWhole}
 use Rattle.aos_check_decl.specs.Methods.{defined_type}
 use Rattle.aos_check_decl.proofs.Typing.{IsHeading, HasHeading}
 use Rattle.aos_check_stat.specs.Bodies.{listed, body_of}
-use Rattle.aos_compile.specs.Modules.{Beside, spelling, object_body, has_active, bodies_from, first_scope, object_procedure, slotted, method_beside, methods_of, defined_object, beside_in}
+use Rattle.aos_compile.specs.Modules.{Beside, spelling, object_body, has_active, body_with, bodies_from, first_scope, object_procedure, slotted, method_beside, methods_of, defined_object, beside_in}
 use Rattle.aos_compile.proofs.ObjectScopes.{IsObject, is_object_or, scope_at, methods_before, method_at}
 use Rattle.aos_compile.proofs.TypingBodies.{body_within, around_object, AreMore, procedures_sound}
 use Rattle.aos_compile.proofs.TypingObjects.{IsSaidBeside}
@@ -110,14 +110,14 @@ module _ (program : Program) (e : Env) (m : Tree) (begins : RowsStay env.basic_r
             name = spelling e.here.text d.def.name;
             has_body = is_some (object_body d.value);
             is_active = has_active e.here.text (object_body d.value);
-            body = listed ss;
+            body = body_with e.here.text (object_body d.value) (listed ss);
             methods = methods_of e (first_scope m) o (methods_in d) bs;
           } in y) in
           let at = found j d there kind in
           let around = around_object program e m begins everywhere path_is self_is first_is headings below objects t o at in
           let itself = λ (u : TypeId) (is : Some t ≡ Some u). ap (λ i. Some i) (sym number_is) ∙ ap (λ (v : TypeId). Some (object_number v)) (same_Some t u is) in
           let More = AreMore program e m begins everywhere path_is self_is first_is headings below objects path (Some t) around (Some k) itself (first_scope m + first_method) (methods_in d) sigs [] in
-          holds_bind (λ ss. AreStatements program (Some (object_procedure k (listed ss))) (listed ss)) (IsSaidBeside program k) (body_of f true (object_body d.value))
+          holds_bind (λ ss. AreStatements program (Some (object_procedure k (body_with e.here.text (object_body d.value) (listed ss)))) (listed ss)) (IsSaidBeside program k) (body_of f true (object_body d.value))
           (λ ss. bind (bodies_from f (first_scope m + first_method) [] (methods_in d)) (λ bs. kept (x ss bs)))
           (body_within program e m begins everywhere path_is self_is first_is headings below objects t o at refl k number_is (object_body d.value))
           (λ ss typed. holds_bind More (IsSaidBeside program k) (bodies_from f (first_scope m + first_method) [] (methods_in d)) (λ bs. kept (x ss bs))

@@ -33,7 +33,7 @@ use Rattle.aos_compile.proofs.TypingTypes.{basic_ready}
 
 -- what is typed of it
 pub record AreTyped (w : World) : Type 0 where
-  pub bodies : Each (λ m. AreStatements (program_of w) None m.body) w.modules
+  pub bodies : Each (λ m. AreStatements (program_of w) None m.body.statements) w.modules
   pub objects : (k : ℕ) (o : ObjectType) → slice_get w.objects k ≡ Some o → IsBeside (program_of w) k o
   pub procedures : Each (λ m. All (λ q. IsProcedure (program_of w) q × (q.of ≡ None)) m.procedures) w.modules
 

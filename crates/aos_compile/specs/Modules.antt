@@ -18,7 +18,7 @@ use Rattle.aos_types.specs.Table.{row_of}
 use Rattle.aos_typed.specs.declared.tree.TType.{TType}
 use Rattle.aos_typed.specs.declared.tree.TType.TheVariants.{Named}
 use Rattle.aos_typed.specs.Numbers.{id_of}
-use Rattle.aos_typed.specs.Program.{Stat, Stats, Nothing, Variable, Parameter, Procedure as TypedProcedure, Method, ObjectType, Module, Program}
+use Rattle.aos_typed.specs.Program.{Stat, Stats, Nothing, Variable, Parameter, Procedure as TypedProcedure, Method, ObjectType, Module, Program, Body}
 use Rattle.aos_symbols.specs.declared.home.Parameter.{Parameter as Formal}
 use Rattle.aos_symbols.specs.declared.home.Gives.{Gives}
 use Rattle.aos_symbols.specs.declared.home.Gives.TheVariants as gives
@@ -36,7 +36,7 @@ use Rattle.aos_symbols.specs.Env as env
 use Rattle.aos_check_expr.specs.Known.{type_as, type_of}
 use Rattle.aos_check_decl.specs.Methods.{defined_type}
 use Rattle.aos_check_decl.specs.Pass.{declare}
-use Rattle.aos_check_stat.specs.Bodies.{listed, body_of}
+use Rattle.aos_check_stat.specs.Bodies.{listed, are_exclusive, body_of}
 
 -- the modules that are elaborated: what they declare, the types of all, and their programs
 pub record World : Type 0 where
@@ -64,7 +64,19 @@ abbrev pub has_active : List ℕ → Option Block → Bool
 has_active text None = false
 has_active text (Some b) = list_any (is_active text) b.modifiers
 
--- What a module says beside its types: a name, whether there is a body, whether that is active and its statements, and the methods, each
+-- a body has the modifier EXCLUSIVE
+abbrev pub has_exclusive : List ℕ → Option Block → Bool
+has_exclusive text None = false
+has_exclusive text (Some b) = are_exclusive text b.modifiers
+
+-- a body, whose statements these are
+abbrev pub body_with : List ℕ → Option Block → Stats → Body
+body_with text b ss = record { is_exclusive = has_exclusive text b; statements = ss }
+
+abbrev pub empty_body : Body
+empty_body = record { is_exclusive = false; statements = Nothing }
+
+-- What a module says beside its types: a name, whether there is a body, whether that is active and that body, and the methods, each
 -- with its slot. First stand those that the module's own declarations define; then those of its procedures and methods, and those that
 -- are written elsewhere.
 
@@ -72,15 +84,15 @@ pub record Beside : Type 0 where
   pub name : List ℕ
   pub has_body : Bool
   pub is_active : Bool
-  pub body : Stats
+  pub body : Body
   pub methods : List Method
 
 -- a type that isn't an object type with a name
 abbrev pub local_type : Env → TypeDef → Beside
-local_type e d = record { name = spelling e.here.text d.def.name; has_body = false; is_active = false; body = Nothing; methods = [] }
+local_type e d = record { name = spelling e.here.text d.def.name; has_body = false; is_active = false; body = empty_body; methods = [] }
 
 abbrev pub unnamed_type : Pos → Beside
-unnamed_type at = record { name = []; has_body = false; is_active = false; body = Nothing; methods = [] }
+unnamed_type at = record { name = []; has_body = false; is_active = false; body = empty_body; methods = [] }
 
 abbrev pub other_types : Env → Tree → List Beside
 other_types e m = map (local_type e) (local_types (all_procedures m.decls)) ++ map unnamed_type e.places
@@ -117,7 +129,7 @@ procedure_of text p s variables body =
       parameters = map (parameter_of text) (zip names s.parameters);
       locals = map (variable_of text) (zip (single_variables p.decls) (drop (length names) variables));
       result = result_of s.gives;
-      body = body;
+      body = body_with text p.body body;
     }
 
 -- the first of these procedures has the scope with the number k
@@ -154,7 +166,7 @@ beside_in e first d (Some x) =
       name = spelling e.here.text d.def.name;
       has_body = is_some (object_body d.value);
       is_active = has_active e.here.text (object_body d.value);
-      body = listed ss;
+      body = body_with e.here.text (object_body d.value) (listed ss);
       methods = methods_of e first x.1 (methods_in d) bs;
     })))
 
@@ -168,7 +180,7 @@ first_scope m = suc (length (type_defs m.decls))
 -- The types of a program have their numbers in load order. The body of an object type is that of a procedure with nothing of its own;
 -- beside a procedure type stands what has its formals, and nothing else.
 
-abbrev pub object_procedure : (type : ℕ) → Stats → TypedProcedure
+abbrev pub object_procedure : (type : ℕ) → Body → TypedProcedure
 object_procedure k body =
     record { name = []; of = Some k; is_initializer = false; parameters = []; locals = []; result = None; body = body }
 
@@ -184,10 +196,10 @@ pattern formals r =
       parameters = map formal_of formals;
       locals = [];
       result = option_map type_as r;
-      body = Nothing;
+      body = empty_body;
     }
 
-abbrev pub body_beside : Option TypeRow → (type : ℕ) → Stats → TypedProcedure
+abbrev pub body_beside : Option TypeRow → (type : ℕ) → Body → TypedProcedure
 body_beside (Some (row.Procedure formals r)) k body = pattern formals r
 body_beside r k body = object_procedure k body
 
@@ -230,7 +242,7 @@ module_of e m b =
       variables = map (variable_of text) (zip (single_variables m.decls) (variables_of (slice_get e.here.scopes 0)));
       texts = texts_of e.here;
       procedures = procedures_of text e.here.scopes (first_scope m) (procedures m.decls) e.here.signatures b.procedures;
-      body = listed b.own;
+      body = body_with text m.body (listed b.own);
     }
 
 -- a module more

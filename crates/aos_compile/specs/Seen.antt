@@ -1,7 +1,7 @@
 -- What the code's modules are seen as.
 use Rattle.std.specs.Prelude.{map}
 use Rattle.std.specs.String.{string_bytes}
-use Rattle.aos_typed.specs.Seen.{seen_stat, seen_stats, seen_method, seen_module, seen_object}
+use Rattle.aos_typed.specs.Seen.{seen_stat, seen_stats, seen_body, seen_method, seen_module, seen_object}
 use Rattle.aos_compile.specs.declared.modules.World.{World as CodeWorld}
 use Rattle.aos_compile.specs.declared.objects.Beside.{Beside as CodeBeside}
 use Rattle.aos_compile.specs.declared.objects.Bodies.{Bodies as CodeBodies}
@@ -22,7 +22,7 @@ seen_beside x =
       name = string_bytes x.name;
       has_body = x.has_body;
       is_active = x.is_active;
-      body = seen_stats x.body.items;
+      body = seen_body x.is_exclusive x.body.items;
       methods = map seen_method x.methods.items;
     }
 

@@ -3,7 +3,7 @@
 ghost use Rattle.std.specs.Prelude.{◌≡◌, ◌≤◌, ◌^◌, ◌+◌, ◌++◌, [], None, length, map, IfOk, IfErr, OnOk};
 ghost use Rattle.std.specs.Option.{option_copied};
 ghost use Rattle.aos_types.specs.declared.row.TypeRow.TheVariants as row;
-ghost use Rattle.aos_typed.specs.Seen.{seen_stat, seen_stats, seen_method, seen_module, seen_object, seen_parameter, seen_procedure, seen_program};
+ghost use Rattle.aos_typed.specs.Seen.{seen_stat, seen_stats, seen_body, seen_method, seen_module, seen_object, seen_parameter, seen_procedure, seen_program};
 ghost use Rattle.aos_symbols.specs.Breaches.{first};
 ghost use Rattle.aos_symbols.specs.Judged.{judged};
 ghost use Rattle.aos_symbols.specs.Outcome.{went, refused, passed, refusal_of};
@@ -16,7 +16,7 @@ ghost use Rattle.aos_compile.specs.Seen.{seen_world, seen_beside, seen_bodies};
 
 use crate::compile_err::CompileErr;
 use crate::objects::{Beside, Bodies, bodies_of, number_at, number_behind, spelling_of};
-use crate::procedures::{count_types, procedures_of};
+use crate::procedures::{count_types, is_exclusive_body, procedures_of};
 use crate::texts::texts_of;
 use crate::variables::variables_of;
 use aos_base::{NoMemory, Refusal};
@@ -172,13 +172,14 @@ fn module_of(
         variables,
         texts,
         procedures,
+        is_exclusive: is_exclusive_body(env.here.text(), &tree.body),
         body,
     })
 }
 
 /// The body of the object type with a number in the program.
-fn object_procedure(alloc: Global, number: u32, body: Vec<TStat>) -> TProcedure
-    ensures { seen_procedure result ≡ judge.object_procedure number (seen_stats body.items) }
+fn object_procedure(alloc: Global, number: u32, is_exclusive: bool, body: Vec<TStat>) -> TProcedure
+    ensures { seen_procedure result ≡ judge.object_procedure number (seen_body is_exclusive body.items) }
 {
     TProcedure {
         name: String::new(alloc),
@@ -187,6 +188,7 @@ fn object_procedure(alloc: Global, number: u32, body: Vec<TStat>) -> TProcedure
         parameters: Vec::new(alloc),
         locals: Vec::new(alloc),
         result: None,
+        is_exclusive,
         body,
     }
 }
@@ -231,6 +233,7 @@ fn pattern(
             Some(of) => Some(type_of(Some(of))),
             None => None,
         },
+        is_exclusive: false,
         body: Vec::new(alloc),
     })
 }
@@ -240,14 +243,15 @@ fn body_beside(
     alloc: Global,
     row: Option<&TypeRow>,
     number: u32,
+    is_exclusive: bool,
     body: Vec<TStat>,
 ) -> Result<TProcedure, AllocError>
     ensures { IfOk result (λ p. seen_procedure p ≡
-        judge.body_beside (option_copied row.entry) number (seen_stats body.items)) }
+        judge.body_beside (option_copied row.entry) number (seen_body is_exclusive body.items)) }
 {
     match row {
         Some(TypeRow::Procedure(formals, gives)) => pattern(alloc, formals.as_slice(), *gives),
-        _ => Ok(object_procedure(alloc, number, body)),
+        _ => Ok(object_procedure(alloc, number, is_exclusive, body)),
     }
 }
 
@@ -292,6 +296,7 @@ fn object_of(
         name,
         has_body,
         is_active,
+        is_exclusive,
         body,
         methods,
     } = beside;
@@ -301,7 +306,7 @@ fn object_of(
         home: env.number,
         has_body,
         is_active,
-        body: body_beside(alloc, row, number, body)?,
+        body: body_beside(alloc, row, number, is_exclusive, body)?,
         methods: methods_beside(alloc, number, methods)?,
     })
 }

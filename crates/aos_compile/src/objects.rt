@@ -13,7 +13,7 @@ ghost use Rattle.aos_check_stat.specs.Bodies.{body_of as body_of_env, listed};
 ghost use Rattle.aos_compile.specs.Modules as judge;
 ghost use Rattle.aos_compile.specs.Seen.{seen_beside, seen_bodies};
 
-use crate::procedures::{count_types, procedures_of};
+use crate::procedures::{count_types, is_exclusive_body, procedures_of};
 use aos_base::Pos;
 use aos_check_decl::defined_type;
 use aos_check_stat::body_of;
@@ -26,12 +26,13 @@ use aos_types::TypeId;
 use std::alloc::{AllocError, Global};
 
 /// What a module says beside one of its types: its name, which is empty where it has none, whether it has a body, whether that is
-/// active and its statements, and its methods.
+/// active, whether it is exclusive, its statements, and its methods.
 #[derive(Drop)]
 pub struct Beside {
     pub name: String,
     pub has_body: bool,
     pub is_active: bool,
+    pub is_exclusive: bool,
     pub body: Vec<TStat>,
     pub methods: Vec<TMethod>,
 }
@@ -240,6 +241,16 @@ fn has_active(text: &[u8], of: &TypeExpr) -> bool
     }
 }
 
+/// Whether a type has a body that is exclusive.
+fn has_exclusive(text: &[u8], of: &TypeExpr) -> bool
+    ensures { result ≡ judge.has_exclusive text.now (judge.object_body of.now) }
+{
+    match of {
+        TypeExpr::Object(_, _, _, body, _) => is_exclusive_body(text, body),
+        _ => false,
+    }
+}
+
 /// What stands beside the object type that a definition defines.
 fn object_beside(
     alloc: Global,
@@ -264,6 +275,7 @@ fn object_beside(
         name,
         has_body: has_body(&def.value),
         is_active: has_active(env.here.text(), &def.value),
+        is_exclusive: has_exclusive(env.here.text(), &def.value),
         body,
         methods,
     })
@@ -277,6 +289,7 @@ fn local_type(alloc: Global, env: &Env<'_>, def: &TypeDef) -> Result<Beside, All
         name: spelling_of(alloc, env.here.text(), def.def.name)?,
         has_body: false,
         is_active: false,
+        is_exclusive: false,
         body: Vec::new(alloc),
         methods: Vec::new(alloc),
     })
@@ -393,6 +406,7 @@ fn add_unnamed(alloc: Global, objects: &mut Vec<Beside>, places: &[Pos]) -> Resu
             name: String::new(alloc),
             has_body: false,
             is_active: false,
+            is_exclusive: false,
             body: Vec::new(alloc),
             methods: Vec::new(alloc),
         })?;

@@ -10,8 +10,9 @@ ghost use Rattle.aos_compile.specs.Modules as judge;
 use crate::objects::{number_behind, spelling_of};
 use crate::variables::variables_from;
 use aos_check_expr::type_of;
+use aos_check_stat::are_exclusive;
 use aos_symbols::{Env, Gives, Parameter, Scope, Signature};
-use aos_tree::{Decl, Formals, Name, Proc};
+use aos_tree::{Block, Decl, Formals, Name, Proc};
 use aos_typed::{TParameter, TProcedure, TStat, TType, TVariable};
 use std::alloc::{AllocError, Global};
 
@@ -105,6 +106,16 @@ fn locals_of(
     variables_from(alloc, text, scope, first, decls)
 }
 
+/// Whether a body is exclusive.
+pub fn is_exclusive_body(text: &[u8], body: &Option<Block>) -> bool
+    ensures { result ≡ judge.has_exclusive text.now body.now }
+{
+    match body {
+        Some(body) => are_exclusive(text, body.modifiers.as_slice()),
+        None => false,
+    }
+}
+
 /// A procedure of the typed program, whose signature, scope and statements these are.
 fn procedure_of(
     alloc: Global,
@@ -134,6 +145,7 @@ fn procedure_of(
         parameters,
         locals,
         result: result_of(signature.gives),
+        is_exclusive: is_exclusive_body(text, &proc.body),
         body,
     })
 }

@@ -22,6 +22,8 @@ MODULE M; TYPE T = OBJECT BEGIN {ACTIVE} END T; VAR p: T; BEGIN NEW(p); p := 1 E
 MODULE M; TYPE A = B; B = ARRAY 2, 3 OF CHAR; VAR a: A; p: ARRAY 2 OF T; TYPE T = OBJECT BEGIN {ACTIVE} END T; VAR o: T; PROCEDURE P(VAR x: A; y: ARRAY OF CHAR): SET; VAR z: B; END P; BEGIN NEW(o) END M. => kept, kept, kept: [New(Pos { line: 1, col: 191 }, ModuleVar(0, 2), 2, [])]
 MODULE M; VAR a: ARRAY 4 OF CHAR; BEGIN a := \"abc\"; COPY(a, a) END M. => kept, kept, kept: [PutText(Pos { line: 1, col: 41 }, true, Known(ModuleVar(0, 1), [4]), Known(ModuleVar(0, 0), [4])), PutText(Pos { line: 1, col: 53 }, false, Known(ModuleVar(0, 0), [4]), Known(ModuleVar(0, 0), [4]))]
 MODULE M; TYPE F = PROCEDURE (k: SET); A = OBJECT PROCEDURE &I(k: SET); END I; END A; VAR f: F; a: A; PROCEDURE P(k: SET); END P; BEGIN f := P; f({1}); NEW(a, {}); f := NIL END M. => kept, kept, kept: [Assign(Pos { line: 1, col: 137 }, Named(0), ModuleVar(0, 0), ProcedureOf(0, 0)), Perform(Pos { line: 1, col: 145 }, Through(Read(Named(0), ModuleVar(0, 0)), 0), [Scalar(Lit(Set(2)))]), New(Pos { line: 1, col: 153 }, ModuleVar(0, 1), 1, [Scalar(Lit(Set(0)))]), Assign(Pos { line: 1, col: 165 }, Named(0), ModuleVar(0, 0), Lit(NoProcedure))]
+MODULE M; VAR n: LONGINT; BEGIN {EXCLUSIVE} BEGIN {EXCLUSIVE} n := 1 END; BEGIN END END M. => kept, kept, kept: [Block(Pos { line: 1, col: 45 }, true, [Assign(Pos { line: 1, col: 63 }, Integer(W32), ModuleVar(0, 0), Lit(Int(1)))]), Block(Pos { line: 1, col: 75 }, false, [])]
+MODULE M; BEGIN {EXCLUSIVE, EXCLUSIVE} END M. => kept, kept, 45 at 29: []
 MODULE M; TYPE A = ARRAY 2, 0 OF CHAR; B = RECORD b: B END; END M. => kept, 20 at 29, kept: []";
 
 /// The types that stand first in each table.

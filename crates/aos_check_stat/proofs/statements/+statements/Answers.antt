@@ -21,8 +21,13 @@ use Rattle.aos_check_stat.proofs.statements.+statements.Goals as goal
 pub block_of-returns-clause-answer : goal.block_of-returns-clause-answer
 block_of-returns-clause-answer t c =
     let b = c.in_ok-body.body in
-    let body = c.in_ok-body.ensures.answer ∙ ap (λ l. (parts.listed_in c.args.env.now c.args.in_loop l).answer) c.as_slice-2.ensures in
-    ap (λ s. Some s) (block_seen c.args.block.now.pos b ∙ ap (λ l. Block c.args.block.now.pos l) (stats_seen b.items ∙ ap listed body))
+    let body = c.in_ok-body.ensures.answer ∙ ap (λ l. (parts.listed_in c.args.env.now c.args.in_loop l).answer) c.as_slice.ensures in
+    let at = c.args.block.now.pos in
+    let flag = c.are_exclusive-exclusive.ensures
+    ∙ ap (λ w. judge.are_exclusive w c.as_slice-modifiers.result.now) c.text-text.ensures
+    ∙ ap (judge.are_exclusive c.args.env.now.here.text) c.as_slice-modifiers.ensures in
+    ap (λ s. Some s) (block_seen at c.are_exclusive-exclusive.result b
+    ∙ (λ i. Block at (flag i) ((stats_seen b.items ∙ ap listed body) i)))
 
 pub cases_in-loop-arm-preserved : goal.cases_in-loop-arm-preserved
 cases_in-loop-arm-preserved t c =

@@ -2,7 +2,7 @@
 use Rattle.std.proofs.Common.{◌≡◌, ℕ, slice_get, suc, length, Vec, Global, map, ap, ◌∙◌}
 use Rattle.std.specs.List.{zip}
 use Rattle.aos_typed.specs.declared.tree.TStat.{TStat}
-use Rattle.aos_typed.specs.Seen.{seen_variable, seen_procedure, seen_stats}
+use Rattle.aos_typed.specs.Seen.{seen_variable, seen_procedure, seen_stats, seen_body}
 use Rattle.aos_symbols.specs.Declarations.{procedures, type_defs, single_variables}
 use Rattle.aos_symbols.specs.Home.{texts_of}
 use Rattle.aos_compile.specs.Modules as judge
@@ -25,7 +25,8 @@ returns c =
     let procedures = c.in_ok-procedures.ensures
     ∙ ap (λ ds. judge.procedures_of e.here.text e.here.scopes c.in_ok-first.first (procedures ds) e.here.signatures bodies) c.as_slice-decls.ensures
     ∙ ap (λ k. judge.procedures_of e.here.text e.here.scopes k (procedures tree.decls) e.here.signatures bodies) first in
-    let body = seen_stats c.args.body.items in
+    let body = seen_body c.is_exclusive_body.result c.args.body.items in
+    let exclusive = c.is_exclusive_body.ensures ∙ ap (λ t. judge.has_exclusive t tree.body) c.text-2.ensures in
     let told = map seen_procedure c.in_ok-procedures.procedures.items in
     let given = map (λ (t : Vec ℕ Global). t.items) c.in_ok-texts.texts.items in
     let texts = texts_of e.here in
@@ -33,4 +34,5 @@ returns c =
     ∙ ap (λ vs. record { name = spelled; variables = vs; texts = given; procedures = told; body = body }) declared
     ∙ ap (λ ts. record { name = spelled; variables = variables; texts = ts; procedures = told; body = body }) c.in_ok-texts.ensures
     ∙ ap (λ ps. record { name = spelled; variables = variables; texts = texts; procedures = ps; body = body }) procedures
-    ∙ ap (λ b. record { name = spelled; variables = variables; texts = texts; procedures = procs; body = b }) (stats_listed c.args.body.items)
+    ∙ ap (λ b. record { name = spelled; variables = variables; texts = texts; procedures = procs; body = seen_body b c.args.body.items }) exclusive
+    ∙ ap (λ b. record { name = spelled; variables = variables; texts = texts; procedures = procs; body = judge.body_with e.here.text tree.body b }) (stats_listed c.args.body.items)
