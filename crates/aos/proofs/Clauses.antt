@@ -11,7 +11,7 @@ use Rattle.aos_base.specs.Machine.{Choice, execution}
 use Rattle.aos_base.specs.Observation.{Observation, observation, status_of}
 use Rattle.aos_typed.specs.Program.{Program}
 use Rattle.aos_typed.specs.Source.{source, first_state}
-use Rattle.aos_sim.proofs.NeverDead.{never_dead}
+use Rattle.aos_sim.specs.Monitors.{HasMonitors}
 use Rattle.aos_dev.specs.Shelf.{Named}
 use Rattle.aos_report.specs.Texts.{refusal_text}
 use Rattle.aos_script.specs.declared.script.Script.{Script}
@@ -30,7 +30,7 @@ use Rattle.aos.specs.Fetched.{Fetched, Texts, NoFile, LongFile, Fetches}
 use Rattle.aos.specs.Report.{report, replay_report}
 use Rattle.aos.specs.Seen.{Seen, default_budget, seen_of, replay_of}
 use Rattle.aos.specs.Cause.{Runs, RunsBy, Takes, alone, by_script, Cause, wrong_words, unread, absent, too_long, bad_script, refused, ran, ran_by, Answered, PutInPart, out_failed, err_failed, AnsweredInPart}
-use Rattle.aos.specs.Promises.{IsRunStatus, IsReplayStatus, IsAbsentOrRefused, is_absent, is_refused, IsRunnable, IsReplayable, IsRefusable, ShowsTexts, ShowsReplay, ShowsRefusal, IsTooLong, IsNoScript, HasEnded, Promises}
+use Rattle.aos.specs.Promises.{IsRunStatus, IsReplayStatus, IsAbsentOrRefused, is_absent, is_refused, IsRunnable, IsReplayable, IsRefusable, ShowsTexts, ShowsReplay, ShowsRefusal, IsTooLong, IsNoScript, HasEnded, HasDied, in_run, in_replay, Promises}
 use Rattle.aos.specs.Shown.{Causes, IsWhole, IsStopped}
 
 -- Numbers that differ
@@ -44,32 +44,40 @@ differ m n apart same = absurd (never_both (m == n) (eq-eqb m n same) apart)
 
 -- The status of a run
 
-status_over : (o : Outcome) (traps : List TrapRow) → o ≢ Going → o ≢ Dead → IsRunStatus (status_of o traps)
-status_over Going traps over lively = absurd (over refl)
-status_over Dead traps over lively = absurd (lively refl)
-status_over Ended [] over lively = inl refl
-status_over Ended (t ∷ ts) over lively = inr (inl refl)
-status_over Spent traps over lively = inr (inr refl)
+status_over : (o : Outcome) (traps : List TrapRow) → o ≢ Going → IsRunStatus (status_of o traps)
+status_over Going traps over = absurd (over refl)
+status_over Ended [] over = inl refl
+status_over Ended (t ∷ ts) over = inr (inl refl)
+status_over Dead traps over = inr (inr (inl refl))
+status_over Spent traps over = inr (inr (inr refl))
 
-status_told : (o : Outcome) (traps : List TrapRow) → o ≢ Dead → IsRunStatus (status_of o traps) ⊎ ((status_of o traps ≡ 9) × (o ≡ Going))
-status_told Going traps lively = inr (refl, refl)
-status_told Dead traps lively = absurd (lively refl)
-status_told Ended [] lively = inl (inl refl)
-status_told Ended (t ∷ ts) lively = inl (inr (inl refl))
-status_told Spent traps lively = inl (inr (inr refl))
+status_told : (o : Outcome) (traps : List TrapRow) → IsRunStatus (status_of o traps) ⊎ ((status_of o traps ≡ 9) × (o ≡ Going))
+status_told Going traps = inr (refl, refl)
+status_told Ended [] = inl (inl refl)
+status_told Ended (t ∷ ts) = inl (inr (inl refl))
+status_told Dead traps = inl (inr (inr (inl refl)))
+status_told Spent traps = inl (inr (inr (inr refl)))
+
+-- of the outcomes only Dead has this status
+status_dead : (o : Outcome) (traps : List TrapRow) → status_of o traps ≡ 4 → o ≡ Dead
+status_dead Going traps e = differ 9 4 refl e
+status_dead Ended [] e = differ 0 4 refl e
+status_dead Ended (t ∷ ts) e = differ 3 4 refl e
+status_dead Dead traps e = refl
+status_dead Spent traps e = differ 5 4 refl e
 
 module _ (p : Program) (budget : ℕ) (schedule : List Choice) where
   over_status : (seen_of p budget schedule).outcome ≢ Going → IsRunStatus (seen_of p budget schedule).status
   unfolding seen_of observation
   over_status over =
       let st = execution (source p) schedule (first_state p budget) in
-      status_over (outcome st.book) st.book.traps over (never_dead p budget schedule)
+      status_over (outcome st.book) st.book.traps over
 
   seen_status : IsRunStatus (seen_of p budget schedule).status ⊎ (((seen_of p budget schedule).status ≡ 9) × ((seen_of p budget schedule).outcome ≡ Going))
   unfolding seen_of observation
   seen_status =
       let st = execution (source p) schedule (first_state p budget) in
-      status_told (outcome st.book) st.book.traps (never_dead p budget schedule)
+      status_told (outcome st.book) st.book.traps
 
   going_status : (seen_of p budget schedule).outcome ≡ Going → (seen_of p budget schedule).status ≡ 9
   unfolding seen_of observation
@@ -77,24 +85,46 @@ module _ (p : Program) (budget : ℕ) (schedule : List Choice) where
       let st = execution (source p) schedule (first_state p budget) in
       ap (λ o. status_of o st.book.traps) going
 
+  dead_status : (seen_of p budget schedule).outcome ≡ Dead → (seen_of p budget schedule).status ≡ 4
+  unfolding seen_of observation
+  dead_status dead =
+      let st = execution (source p) schedule (first_state p budget) in
+      ap (λ o. status_of o st.book.traps) dead
+
+  status_is_dead : (seen_of p budget schedule).status ≡ 4 → (seen_of p budget schedule).outcome ≡ Dead
+  unfolding seen_of observation
+  status_is_dead four =
+      let st = execution (source p) schedule (first_state p budget) in
+      status_dead (outcome st.book) st.book.traps four
+
 run_status : (p : Program) (o : Observation) → Seen p o → IsRunStatus o.status
 run_status p o s =
     subst (λ (x : Observation). IsRunStatus x.status) (sym s.seen)
     (over_status p default_budget s.schedule (λ h. s.over (ap (λ (x : Observation). x.outcome) s.seen ∙ h)))
 
+-- what was seen has the status 4 exactly where it is Dead
+dead_of : (p : Program) (o : Observation) → Seen p o → o.status ≡ 4 → o.outcome ≡ Dead
+dead_of p o s four =
+    ap (λ (x : Observation). x.outcome) s.seen ∙ status_is_dead p default_budget s.schedule (sym (ap (λ (x : Observation). x.status) s.seen) ∙ four)
+
+four_of : (p : Program) (o : Observation) → Seen p o → o.outcome ≡ Dead → o.status ≡ 4
+four_of p o s dead =
+    ap (λ (x : Observation). x.status) s.seen ∙ dead_status p default_budget s.schedule (sym (ap (λ (x : Observation). x.outcome) s.seen) ∙ dead)
+
 replay_status : (p : Program) (s : Script) → IsRunStatus (replay_of p s).status ⊎ (((replay_of p s).status ≡ 9) × ((replay_of p s).outcome ≡ Going))
 replay_status p s = seen_status p s.budget (choices_of s)
 
 -- a run's status is none of the others
-no_run : {A : Type 0} (status other : ℕ) → IsRunStatus status → (0 == other) ≡ false → (3 == other) ≡ false → (5 == other) ≡ false → status ≡ other → A
-no_run status other (inl h) zero three five e = differ 0 other zero (sym h ∙ e)
-no_run status other (inr (inl h)) zero three five e = differ 3 other three (sym h ∙ e)
-no_run status other (inr (inr h)) zero three five e = differ 5 other five (sym h ∙ e)
+no_run : {A : Type 0} (status other : ℕ) → IsRunStatus status → (0 == other) ≡ false → (3 == other) ≡ false → (4 == other) ≡ false → (5 == other) ≡ false → status ≡ other → A
+no_run status other (inl h) zero three four five e = differ 0 other zero (sym h ∙ e)
+no_run status other (inr (inl h)) zero three four five e = differ 3 other three (sym h ∙ e)
+no_run status other (inr (inr (inl h))) zero three four five e = differ 4 other four (sym h ∙ e)
+no_run status other (inr (inr (inr h))) zero three four five e = differ 5 other five (sym h ∙ e)
 
-no_replay : {A : Type 0} (p : Program) (s : Script) (other : ℕ) → (0 == other) ≡ false → (3 == other) ≡ false → (5 == other) ≡ false → (9 == other) ≡ false → (replay_of p s).status ≡ other → A
-no_replay p s other zero three five nine e =
+no_replay : {A : Type 0} (p : Program) (s : Script) (other : ℕ) → (0 == other) ≡ false → (3 == other) ≡ false → (4 == other) ≡ false → (5 == other) ≡ false → (9 == other) ≡ false → (replay_of p s).status ≡ other → A
+no_replay p s other zero three four five nine e =
     elim (replay_status p s) [
-      | inl r ↦ no_run (replay_of p s).status other r zero three five e
+      | inl r ↦ no_run (replay_of p s).status other r zero three four five e
       | inr r ↦ differ 9 other nine (sym r.0 ∙ e)
     ]
 
@@ -164,8 +194,8 @@ module _ (words : List (List ℕ)) (shelf : ShelfUse) where
   cause_status (too_long h w n) = (differ 6 7 refl, differ 6 8 refl)
   cause_status (bad_script e k n) = (differ 10 7 refl, differ 10 8 refl)
   cause_status (refused r k n) = (differ 1 7 refl, differ 1 8 refl)
-  cause_status (ran p o k e s) = (no_run o.status 7 (run_status p o s) refl refl refl, no_run o.status 8 (run_status p o s) refl refl refl)
-  cause_status (ran_by s p k r e) = (no_replay p s 7 refl refl refl refl, no_replay p s 8 refl refl refl refl)
+  cause_status (ran p o k e s) = (no_run o.status 7 (run_status p o s) refl refl refl refl, no_run o.status 8 (run_status p o s) refl refl refl refl)
+  cause_status (ran_by s p k r e) = (no_replay p s 7 refl refl refl refl refl, no_replay p s 8 refl refl refl refl refl)
 
   two_only : {status : ℕ} {out err : List ℕ} → Cause words shelf status out err → status ≡ 2 → command_of words ≡ None
   two_only (wrong_words h) e = h
@@ -174,8 +204,8 @@ module _ (words : List (List ℕ)) (shelf : ShelfUse) where
   two_only (too_long h w n) e = differ 6 2 refl e
   two_only (bad_script x k n) e = differ 10 2 refl e
   two_only (refused r k n) e = differ 1 2 refl e
-  two_only (ran p o k el s) e = no_run o.status 2 (run_status p o s) refl refl refl e
-  two_only (ran_by s p k r el) e = no_replay p s 2 refl refl refl refl e
+  two_only (ran p o k el s) e = no_run o.status 2 (run_status p o s) refl refl refl refl e
+  two_only (ran_by s p k r el) e = no_replay p s 2 refl refl refl refl refl e
 
   two_if : {status : ℕ} {out err : List ℕ} → Cause words shelf status out err → command_of words ≡ None → status ≡ 2
   two_if (wrong_words h) n = refl
@@ -199,8 +229,20 @@ module _ (call : Call) where
   one_only (too_long h w n) e = differ 6 1 refl e
   one_only (bad_script x k n) e = differ 10 1 refl e
   one_only (refused {files} {texts} r k n) e = is_refused k (never_accepted texts r n)
-  one_only (ran p o k el s) e = no_run o.status 1 (run_status p o s) refl refl refl e
-  one_only (ran_by s p k r el) e = no_replay p s 1 refl refl refl refl e
+  one_only (ran p o k el s) e = no_run o.status 1 (run_status p o s) refl refl refl refl e
+  one_only (ran_by s p k r el) e = no_replay p s 1 refl refl refl refl refl e
+
+  -- 4
+  four_only : {status : ℕ} {out err : List ℕ} → Of status out err → call.status ≡ status → GotWhole call.out out → GotWhole call.err err → status ≡ 4 → HasDied call
+  four_only (wrong_words h) same on_out on_err e = differ 2 4 refl e
+  four_only (unread h w b f) same on_out on_err e = differ 6 4 refl e
+  four_only (absent h w n) same on_out on_err e = differ 1 4 refl e
+  four_only (too_long h w n) same on_out on_err e = differ 6 4 refl e
+  four_only (bad_script x k n) same on_out on_err e = differ 10 4 refl e
+  four_only (refused r k n) same on_out on_err e = differ 1 4 refl e
+  four_only (ran p o k comes s) same on_out on_err e =
+      in_run k (record { program = p; comes = comes; observation = o; seen = s; status = same; on_out = on_out; on_err = on_err }) (dead_of p o s e)
+  four_only (ran_by s p k r comes) same on_out on_err e = in_replay s p k r comes (status_is_dead p s.budget (choices_of s) e)
 
   -- 6
   six_only : {status : ℕ} {out err : List ℕ} → Of status out err → status ≡ 6 → ShelfFailed call.shelf ⊎ IsTooLong call
@@ -210,8 +252,8 @@ module _ (call : Call) where
   six_only (too_long {c} {w} h v n) e = inr (record { command = c; file = w.file; most = w.most; asks = h; long = n })
   six_only (bad_script x k n) e = differ 10 6 refl e
   six_only (refused r k n) e = differ 1 6 refl e
-  six_only (ran p o k el s) e = no_run o.status 6 (run_status p o s) refl refl refl e
-  six_only (ran_by s p k r el) e = no_replay p s 6 refl refl refl refl e
+  six_only (ran p o k el s) e = no_run o.status 6 (run_status p o s) refl refl refl refl e
+  six_only (ran_by s p k r el) e = no_replay p s 6 refl refl refl refl refl e
 
   -- 9
   nine_only : {status : ℕ} {out err : List ℕ} → Of status out err → status ≡ 9 → HasEnded call
@@ -221,10 +263,10 @@ module _ (call : Call) where
   nine_only (too_long h w n) e = differ 6 9 refl e
   nine_only (bad_script x k n) e = differ 10 9 refl e
   nine_only (refused r k n) e = differ 1 9 refl e
-  nine_only (ran p o k el s) e = no_run o.status 9 (run_status p o s) refl refl refl e
+  nine_only (ran p o k el s) e = no_run o.status 9 (run_status p o s) refl refl refl refl e
   nine_only (ran_by {listing} {files} {texts} s p k r comes) e =
       elim (replay_status p s) [
-        | inl x ↦ no_run (replay_of p s).status 9 x refl refl refl e
+        | inl x ↦ no_run (replay_of p s).status 9 x refl refl refl refl e
         | inr x ↦ record { listing = listing; files = files; texts = texts; script = s; program = p; runs = k; read = r; comes = comes; going = x.1 }
       ]
 
@@ -236,8 +278,8 @@ module _ (call : Call) where
   ten_only (too_long h w n) e = differ 6 10 refl e
   ten_only (bad_script {listing} {files} {texts} x k n) e = record { listing = listing; files = files; texts = texts; error = x; runs = k; refused = n }
   ten_only (refused r k n) e = differ 1 10 refl e
-  ten_only (ran p o k el s) e = no_run o.status 10 (run_status p o s) refl refl refl e
-  ten_only (ran_by s p k r el) e = no_replay p s 10 refl refl refl refl e
+  ten_only (ran p o k el s) e = no_run o.status 10 (run_status p o s) refl refl refl refl e
+  ten_only (ran_by s p k r el) e = no_replay p s 10 refl refl refl refl refl e
 
 -- Where the shelf tells its texts and didn't fail
 
@@ -386,6 +428,17 @@ module _ (call : Call) (tells : Tells call.shelf) (calm : ¬ ShelfFailed call.sh
       (λ files' texts' p o l comes seen. absurd (never (record { program = p; comes = comes })))
       (λ listing' files' texts' s p l read comes. absurd (never (record { program = p; comes = comes })))
 
+  four_if : {status : ℕ} {out err : List ℕ} → Of call status out err → call.status ≡ status → HasDied call → status ≡ 4
+  four_if c same (in_run k shown dead) = sym same ∙ shown.status ∙ four_of shown.program shown.observation shown.seen dead
+  four_if c same (in_replay {listing} {files} {texts} s p k read comes dead) =
+      if_takes call.words call.shelf tells calm (λ n out err. n ≡ 4) c (by_script s k read)
+      (λ r refused'. absurd (never_accepted texts r refused' (record { program = p; comes = comes })))
+      (λ files' texts' q o l comes' seen. run_or_replay call.words call.shelf l k)
+      (λ listing' files' texts' z q l read' comes'.
+      subst (λ (x : Program). (replay_of x z).status ≡ 4) (sym (one_program texts q p comes' comes))
+      (subst (λ (x : Script). (replay_of p x).status ≡ 4) (sym (same_script call.words call.shelf tells s z k read l read'))
+      (dead_status p s.budget (choices_of s) dead)))
+
   six_if : {status : ℕ} {out err : List ℕ} → Of call status out err → ShelfFailed call.shelf ⊎ IsTooLong call → status ≡ 6
   six_if c (inl f) = absurd (calm f)
   six_if c (inr l) = if_long call.words call.shelf tells calm c (record { command = l.command; asks = l.asks; comes = l.long })
@@ -412,7 +465,7 @@ module _ (call : Call) (tells : Tells call.shelf) (calm : ¬ ShelfFailed call.sh
 
 -- The promises
 
-module _ (call : Call) (answered : IsUndisturbed call → Answered call) (in_part : call.status ≡ 7 → AnsweredInPart call) (nothing : call.status ≡ 8 → GotNothing call.out × GotNothing call.err) where
+module _ (call : Call) (answered : IsUndisturbed call → Answered call) (in_part : call.status ≡ 7 → AnsweredInPart call) (nothing : call.status ≡ 8 → GotNothing call.out × GotNothing call.err) (monitors : (p : Program) → HasMonitors p) where
   shows : (texts : List (List ℕ)) → IsRunnable call texts → IsUndisturbed call → ShowsTexts call texts
   shows texts k u =
       let a = answered u in
@@ -484,22 +537,24 @@ module _ (call : Call) (answered : IsUndisturbed call → Answered call) (in_par
     refuses = shows_refusal;
     absent_or_refused = record { only_where = λ u e. one_only call (answered u).cause e; wherever = λ tells u fact calm. one_if call tells calm (answered u).cause fact };
     wrong_words = λ u. ((λ e. two_only call.words call.shelf (answered u).cause e), (λ n. two_if call.words call.shelf (answered u).cause n));
+    dead = record { only_where = λ u e. let a = answered u in four_only call a.cause refl a.on_out a.on_err e; wherever = λ tells u fact calm. four_if call tells calm (answered u).cause refl fact };
     unread_or_too_long = record { only_where = λ u e. six_only call (answered u).cause e; wherever = λ tells u fact calm. six_if call tells calm (answered u).cause fact };
     script_ended = record { only_where = λ u e. nine_only call (answered u).cause e; wherever = λ tells u fact calm. nine_if call tells calm (answered u).cause fact };
     no_script = record { only_where = λ u e. ten_only call (answered u).cause e; wherever = λ tells u fact calm. ten_if call tells calm (answered u).cause fact };
     sink_failed = in_part;
     no_memory = nothing;
+    monitors = λ texts p comes. monitors p;
   }
 
 -- an answer with its cause keeps them
-pub of_answer : (call : Call) (a : Answer) → Causes call.words call.shelf a → (call.status ≢ 7 → IsWhole a call.status call.out call.err) → (call.status ≡ 7 → IsStopped a call.out call.err) → call.status ≢ 8 → Promises call
-of_answer call a cause whole stopped memory =
+pub of_answer : (call : Call) (a : Answer) → Causes call.words call.shelf a → (call.status ≢ 7 → IsWhole a call.status call.out call.err) → (call.status ≡ 7 → IsStopped a call.out call.err) → call.status ≢ 8 → ((p : Program) → HasMonitors p) → Promises call
+of_answer call a cause whole stopped memory monitors =
     promises call
     (λ u. let w = whole u.no_sink_failed in record { out = a.out.items; err = a.err.items; cause = subst (λ s. Cause call.words call.shelf s a.out.items a.err.items) (sym w.same) cause; on_out = w.on_out; on_err = w.on_err })
     (λ e. record { status = a.status; out = a.out.items; err = a.err.items; cause = cause; in_part = stopped e })
-    (λ e. absurd (memory e))
+    (λ e. absurd (memory e)) monitors
 
 -- so does want of memory before anything was put
-pub of_no_memory : (call : Call) → call.status ≡ 8 → GotNothing call.out → GotNothing call.err → Promises call
-of_no_memory call eight out err =
-    promises call (λ u. absurd (u.no_memory_wanted eight)) (λ e. differ 8 7 refl (sym eight ∙ e)) (λ e. (out, err))
+pub of_no_memory : (call : Call) → call.status ≡ 8 → GotNothing call.out → GotNothing call.err → ((p : Program) → HasMonitors p) → Promises call
+of_no_memory call eight out err monitors =
+    promises call (λ u. absurd (u.no_memory_wanted eight)) (λ e. differ 8 7 refl (sym eight ∙ e)) (λ e. (out, err)) monitors

@@ -1,25 +1,25 @@
 -- What a kernel tells of a run that is over is the image's observation.
-use Rattle.std.proofs.Common.{◌≡◌, ◌≢◌, ℕ, zero, suc, ◌<◌, List, [], ◌∷◌, ◌++◌, length, map, replicate, Option, refl, ap, ◌∙◌, subst, arith}
+use Rattle.std.proofs.Common.{◌≡◌, ◌≢◌, ℕ, zero, suc, ◌<◌, List, [], ◌∷◌, ◌++◌, length, map, replicate, Option, refl, sym, ap, ◌∙◌, subst, arith}
 use Rattle.std.specs.Prelude.{All}
 use Rattle.std.proofs.lemmas.List.Elements.{All-nil, All-cons, All-tail, All-append}
 use Rattle.aos_base.specs.declared.kernel.Outcome.{Outcome}
 use Rattle.aos_base.specs.declared.kernel.Outcome.TheVariants.{Going, Ended, Dead, Spent}
 use Rattle.aos_base.specs.Book.{TrapRow, outcome}
 use Rattle.aos_base.specs.Machine.{Step, Tick, execution}
-use Rattle.aos_base.specs.Observation.{Observation, observation, status_of, spent_if}
+use Rattle.aos_base.specs.Observation.{WaitRow, Observation, observation, status_of, waits_if, spent_if, waits_below}
 use Rattle.aos_code.specs.Machine.{machine, first_state}
 use Rattle.aos_base.specs.declared.kernel.Sched.{Sched}
 use Rattle.aos_base.specs.declared.kernel.Sched.TheVariants.{Steps, Tick as TickEntry}
 use Rattle.aos_base.specs.Schedule.{choices, entry_choices, IsEntry}
-use Rattle.aos_kernel.specs.Run.{Run, state_of, rec_of, traps_of, spent_of, if_spent}
-use Rattle.aos_report.specs.Texts.{row_text, rows_text}
+use Rattle.aos_kernel.specs.Run.{Run, state_of, rec_of, traps_of, wait_of, waits_of, spent_of, if_spent}
+use Rattle.aos_report.specs.Texts.{row_text, rows_text, waits_text}
 use Rattle.aos.specs.declared.answer.Answer.{Answer}
 use Rattle.aos_code.specs.declared.image.Image.{Image}
 use Rattle.aos_script.specs.declared.script.Script.{Script}
 use Rattle.aos_script.specs.Listing.{choices_of}
 use Rattle.aos.specs.Report.{report, spent_text, ended_text}
 use Rattle.aos.specs.Seen.{default_budget, worker_of, OfWorkers}
-use Rattle.aos.specs.Shown.{row_of, names_in, image_seen_of, image_replay_of, kernel_seen_of, ShowsRun, ShowsReplayOf, TellsOf}
+use Rattle.aos.specs.Shown.{row_of, wait_row_of, names_in, image_seen_of, image_replay_of, kernel_seen_of, ShowsRun, ShowsReplayOf, TellsOf}
 
 of_steps : (n w k : ℕ) → w < n → OfWorkers n (replicate k (Step w))
 of_steps n w zero lt = All-nil (λ c. worker_of c < n)
@@ -52,15 +52,42 @@ spent_told Ended a = refl
 spent_told Dead a = refl
 spent_told Spent a = refl
 
+-- the record of one who waits tells the whole row
+rows_back : (rows : List WaitRow) → map wait_row_of (map wait_of rows) ≡ rows
+rows_back [] = refl
+rows_back (row ∷ rows) = ap (λ rs. row ∷ rs) (rows_back rows)
+
+none_wait : (o : Outcome) (rows : List WaitRow) → o ≢ Dead → waits_if o rows ≡ []
+none_wait Going rows lively = refl
+none_wait Ended rows lively = refl
+none_wait Dead rows lively = absurd (lively refl)
+none_wait Spent rows lively = refl
+
+module _ (r : Run) where
+  -- those who wait are seen where the outcome is Dead, and else none is
+  pub dead_waits : outcome (state_of r).book ≡ Dead → map wait_row_of (waits_of r) ≡ (kernel_seen_of r).waits
+  unfolding kernel_seen_of image_seen_of observation
+  dead_waits dead =
+      let rows = waits_below (machine r.image) (state_of r).book.started (state_of r).book.line (state_of r).frames in
+      rows_back rows ∙ ap (λ o. waits_if o rows) (sym dead)
+
+  pub no_waits : outcome (state_of r).book ≢ Dead → (kernel_seen_of r).waits ≡ []
+  unfolding kernel_seen_of image_seen_of observation
+  no_waits lively = none_wait (outcome (state_of r).book) (waits_below (machine r.image) (state_of r).book.started (state_of r).book.line (state_of r).frames) lively
+
 -- what the kernel hands out is the observation of its state
-pub tells : (r : Run) (a : Answer) → a.status ≡ status_of (outcome (state_of r).book) (map row_of (traps_of r)) → a.out.items ≡ (state_of r).book.output → a.err.items ≡ rows_text (names_in r.image) (map row_of (traps_of r)) ++ spent_text (spent_of r) r.budget → TellsOf r a
+pub tells : (r : Run) (a : Answer) → a.status ≡ status_of (outcome (state_of r).book) (map row_of (traps_of r)) → a.out.items ≡ (state_of r).book.output → a.err.items ≡ rows_text (names_in r.image) (map row_of (traps_of r)) ++ waits_text (names_in r.image) (kernel_seen_of r).waits ++ spent_text (spent_of r) r.budget → TellsOf r a
 unfolding kernel_seen_of image_seen_of observation
 tells r a status out err =
     let st = state_of r in
+    let names = names_in r.image in
+    let waits = waits_text names (kernel_seen_of r).waits in
     record {
       status = status ∙ status_told (outcome st.book) st.book.traps;
       out = out;
-      err = err ∙ ap (λ l. l ++ spent_text (spent_of r) r.budget) (rows_told (names_in r.image) st.book.traps) ∙ ap (λ s. rows_text (names_in r.image) st.book.traps ++ spent_text s r.budget) (spent_told (outcome st.book) st.book.spent);
+      err =
+          err ∙ ap (λ l. l ++ waits ++ spent_text (spent_of r) r.budget) (rows_told names st.book.traps)
+          ∙ ap (λ s. rows_text names st.book.traps ++ waits ++ spent_text s r.budget) (spent_told (outcome st.book) st.book.spent);
     }
 
 pub shows_run : (r : Run) (a : Answer) → r.workers ≡ 1 → r.budget ≡ default_budget → outcome (state_of r).book ≢ Going → All (IsEntry r.workers) r.log → TellsOf r a → ShowsRun r.image a

@@ -6,24 +6,34 @@ use Rattle.std.proofs.lemmas.List.{take_more, map-append, take_min, take-append-
 use Rattle.aos_dev.specs.Sink.{appended, WrotePart}
 use Rattle.aos_dev.proofs.SinkLemmas.{appended-appended}
 use Rattle.aos_code.specs.declared.report.TrapRec.{TrapRec}
-use Rattle.aos.specs.Shown.{row_of}
-use Rattle.aos_base.specs.Book.{TrapRow}
-use Rattle.aos_report.specs.Texts.{row_text, rows_text}
+use Rattle.aos_code.specs.declared.report.WaitRec.{WaitRec}
+use Rattle.aos.specs.Shown.{row_of, wait_row_of}
+use Rattle.aos_report.specs.Texts.{row_text, rows_text, wait_text, waits_text}
 
-pub rows_text-append : (names : List (List ℕ)) (rows others : List TrapRow) → rows_text names (rows ++ others) ≡ rows_text names rows ++ rows_text names others
-rows_text-append names [] others = refl
-rows_text-append names (row ∷ rows) others =
-    ap (λ l. row_text names row ++ l) (rows_text-append names rows others)
-    ∙ sym (append_assoc (row_text names row) (rows_text names rows) (rows_text names others))
+-- A text that is made of a line for each of many rows.
+module _ {R : Type 0} (text : R → List ℕ) (all : List R → List ℕ) (none : all [] ≡ []) (more : (r : R) (rs : List R) → all (r ∷ rs) ≡ text r ++ all rs) where
+  all-append : (rows others : List R) → all (rows ++ others) ≡ all rows ++ all others
+  all-append [] others = ap (λ l. l ++ all others) (sym none)
+  all-append (r ∷ rs) others =
+      more r (rs ++ others) ∙ ap (λ l. text r ++ l) (all-append rs others)
+      ∙ sym (append_assoc (text r) (all rs) (all others)) ∙ ap (λ l. l ++ all others) (sym (more r rs))
 
--- the lines so far, and one more
-pub one_more_line : (names : List (List ℕ)) (ts : List TrapRec) (k : ℕ) (t : TrapRec) (lines lines' line : List ℕ) → k < length ts → t ≡ get_or ts k t → lines ≡ rows_text names (map row_of (take k ts)) → lines' ≡ lines ++ line → line ≡ row_text names (row_of t) → lines' ≡ rows_text names (map row_of (take (k + 1) ts))
-one_more_line names ts k t lines lines' line lt at h e e' =
-    let next : take (k + 1) ts ≡ take k ts ++ t ∷ [] = take_more ts k t lt ∙ ap (λ q. take k ts ++ q ∷ []) (sym at) in
-    e ∙ ap (λ l. l ++ line) h ∙ ap (λ l. rows_text names (map row_of (take k ts)) ++ l) (e' ∙ sym (append-nil (row_text names (row_of t))))
-    ∙ sym (rows_text-append names (map row_of (take k ts)) (row_of t ∷ []))
-    ∙ ap (rows_text names) (sym (map-append row_of (take k ts) (t ∷ [])))
-    ∙ ap (λ l. rows_text names (map row_of l)) (sym next)
+  -- the lines so far, and one more
+  one_more : {A : Type 0} (told : A → R) (ts : List A) (k : ℕ) (t : A) (lines lines' line : List ℕ) → k < length ts → t ≡ get_or ts k t → lines ≡ all (map told (take k ts)) → lines' ≡ lines ++ line → line ≡ text (told t) → lines' ≡ all (map told (take (k + 1) ts))
+  one_more told ts k t lines lines' line lt at h e e' =
+      let next : take (k + 1) ts ≡ take k ts ++ t ∷ [] = take_more ts k t lt ∙ ap (λ q. take k ts ++ q ∷ []) (sym at) in
+      let last : text (told t) ≡ all (told t ∷ []) = sym (append-nil (text (told t))) ∙ ap (λ l. text (told t) ++ l) (sym none) ∙ sym (more (told t) []) in
+      e ∙ ap (λ l. l ++ line) h ∙ ap (λ l. all (map told (take k ts)) ++ l) (e' ∙ last)
+      ∙ sym (all-append (map told (take k ts)) (told t ∷ []))
+      ∙ ap all (sym (map-append told (take k ts) (t ∷ [])))
+      ∙ ap (λ l. all (map told l)) (sym next)
+
+module _ (names : List (List ℕ)) where
+  pub one_more_trap : (ts : List TrapRec) (k : ℕ) (t : TrapRec) (lines lines' line : List ℕ) → k < length ts → t ≡ get_or ts k t → lines ≡ rows_text names (map row_of (take k ts)) → lines' ≡ lines ++ line → line ≡ row_text names (row_of t) → lines' ≡ rows_text names (map row_of (take (k + 1) ts))
+  one_more_trap = one_more (row_text names) (rows_text names) refl (λ r rs. refl) row_of
+
+  pub one_more_wait : (ws : List WaitRec) (k : ℕ) (w : WaitRec) (lines lines' line : List ℕ) → k < length ws → w ≡ get_or ws k w → lines ≡ waits_text names (map wait_row_of (take k ws)) → lines' ≡ lines ++ line → line ≡ wait_text names (wait_row_of w) → lines' ≡ waits_text names (map wait_row_of (take (k + 1) ws))
+  one_more_wait = one_more (wait_text names) (waits_text names) refl (λ r rs. refl) wait_row_of
 
 -- the first bytes, and then some of those behind them
 take_on : (a b : ℕ) (xs : List ℕ) → a ≤ length xs → take (a + b) xs ≡ take a xs ++ take b (drop a xs)

@@ -1,6 +1,6 @@
 -- What the program promises of every call.
 use Rattle.std.specs.Prelude.{◌≡◌, ℕ, ◌⊎◌, ◌↔◌, List, [], None}
-use Rattle.aos_base.specs.declared.kernel.Outcome.TheVariants.{Going}
+use Rattle.aos_base.specs.declared.kernel.Outcome.TheVariants.{Going, Dead}
 use Rattle.aos_base.specs.declared.text.Refusal.{Refusal}
 use Rattle.aos_base.specs.Observation.{Observation}
 use Rattle.aos_typed.specs.Program.{Program}
@@ -11,6 +11,7 @@ use Rattle.aos_script.specs.Refusals.{IsRefused as IsRefusedScript}
 use Rattle.aos_report.specs.Texts.{refusal_text}
 use Rattle.aos_symbols.specs.Outcome.{went, refused}
 use Rattle.aos_compile.specs.Elaborates.{ComesTo, IsAccepted, names_of}
+use Rattle.aos_sim.specs.Monitors.{HasMonitors}
 use Rattle.aos.specs.Call.{Call, Tells, ShelfFailed, GotWhole, GotNothing, SinksWorked}
 use Rattle.aos.specs.Call.{IsUndisturbed}
 use Rattle.aos.specs.Words.{Words, Command, command_of, Asks, wanted_files, name_of}
@@ -19,9 +20,9 @@ use Rattle.aos.specs.Report.{report, replay_report}
 use Rattle.aos.specs.Seen.{default_budget, Seen, replay_of}
 use Rattle.aos.specs.Cause.{Runs, RunsBy, Takes, Answered, AnsweredInPart}
 
--- the status of a run that is over: ended without a trap, ended with one, or spent
+-- the status of a run that is over: ended without a trap, ended with one, dead, or spent
 abbrev pub IsRunStatus : ℕ → Type 0
-IsRunStatus status = (status ≡ 0) ⊎ ((status ≡ 3) ⊎ (status ≡ 5))
+IsRunStatus status = (status ≡ 0) ⊎ ((status ≡ 3) ⊎ ((status ≡ 4) ⊎ (status ≡ 5)))
 
 -- or of one that was still going on as its script ended
 abbrev pub IsReplayStatus : ℕ → Type 0
@@ -117,6 +118,15 @@ module _ (call : Call) where
     pub comes : ComesTo texts (went program)
     pub going : (replay_of program script).outcome ≡ Going
 
+  -- The execution of the texts' program is Dead: none of its activities is ready or on a worker, and
+  -- some haven't ended. It is the one that the sinks show, or the one under the script.
+  pub data HasDied : Type 0 where
+    in_run : {files texts : List (List ℕ)} → Runs call.words call.shelf files texts
+        → (shown : ShowsTexts texts) → shown.observation.outcome ≡ Dead → HasDied
+    in_replay : {listing : List ℕ} {files texts : List (List ℕ)} (s : Script) (p : Program)
+        → RunsBy call.words call.shelf listing files texts → IsScript listing s
+        → ComesTo texts (went p) → (replay_of p s).outcome ≡ Dead → HasDied
+
   -- unless a sink or memory failed: the status is this only where the fact holds; and it is where
   -- the fact holds, the shelf tells its texts, and the shelf didn't fail
   pub record IsStatusWhere (status : ℕ) (fact : Type 0) : Type 0 where
@@ -150,6 +160,10 @@ module _ (call : Call) where
   abbrev pub WrongWords : Type 0
   WrongWords = IsUndisturbed call → ((call.status ≡ 2) ↔ (command_of call.words ≡ None))
 
+  abbrev pub KeepsMonitors : Type 0
+  KeepsMonitors =
+      (texts : List (List ℕ)) (p : Program) → ComesTo texts (went p) → HasMonitors p
+
   -- what `aos` promises
   pub record Promises : Type 0 where
     -- where neither a sink nor memory failed, the answer has a cause, and both sinks got its whole
@@ -170,6 +184,8 @@ module _ (call : Call) where
     pub absent_or_refused : IsStatusWhere 1 (IsAbsentOrRefused call)
     -- 2: the words are no command
     pub wrong_words : WrongWords
+    -- 4: the execution of the texts' program is Dead
+    pub dead : IsStatusWhere 4 HasDied
     -- 6: the shelf failed, or a file is too long
     pub unread_or_too_long : IsStatusWhere 6 (ShelfFailed call.shelf ⊎ IsTooLong)
     -- 9: the script leaves the execution going on
@@ -180,3 +196,6 @@ module _ (call : Call) where
     pub sink_failed : call.status ≡ 7 → AnsweredInPart call
     -- 8: nothing was put
     pub no_memory : call.status ≡ 8 → GotNothing call.out × GotNothing call.err
+    -- whatever the schedule and the budget are, the program of texts keeps the laws of its locks in
+    -- every state of its execution and at every entry of the schedule
+    pub monitors : KeepsMonitors

@@ -3,8 +3,8 @@ use Rattle.std.specs.Prelude.{ℕ, List, [], ◌++◌, length, Option, Some, Non
 use Rattle.aos_base.specs.declared.kernel.Outcome.{Outcome}
 use Rattle.aos_base.specs.declared.kernel.Outcome.TheVariants.{Going, Ended, Dead, Spent}
 use Rattle.aos_base.specs.Book.{TrapRow}
-use Rattle.aos_base.specs.Observation.{Observation}
-use Rattle.aos_report.specs.Texts.{rows_text, budget_text}
+use Rattle.aos_base.specs.Observation.{WaitRow, Observation}
+use Rattle.aos_report.specs.Texts.{rows_text, waits_text, budget_text}
 use Rattle.aos_report.specs.Texts.{script_ended_text, script_refused_text, no_worker_text}
 use Rattle.aos_script.specs.declared.script.Script.{Script}
 use Rattle.aos_script.specs.declared.error.ScriptErr.{ScriptErr}
@@ -15,12 +15,14 @@ abbrev pub spent_text : Option ℕ → ℕ → List ℕ
 spent_text None budget = []
 spent_text (Some a) budget = budget_text a budget
 
--- the lines of the traps, and then the line of the activity that used up the budget
-abbrev pub report_of : List (List ℕ) → ℕ → List TrapRow → Option ℕ → List ℕ
-report_of names budget traps spent = rows_text names traps ++ spent_text spent budget
+-- the lines of the traps, then those of who waits, and then the line of the activity that used up
+-- the budget
+abbrev pub report_of : List (List ℕ) → ℕ → List TrapRow → List WaitRow → Option ℕ → List ℕ
+report_of names budget traps waits spent =
+    rows_text names traps ++ waits_text names waits ++ spent_text spent budget
 
 abbrev pub report : List (List ℕ) → ℕ → Observation → List ℕ
-report names budget o = report_of names budget o.traps o.spent
+report names budget o = report_of names budget o.traps o.waits o.spent
 
 -- the line of a script that came to its end while the run was going on
 abbrev pub ended_text : Outcome → ℕ → List ℕ

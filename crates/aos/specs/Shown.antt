@@ -5,11 +5,12 @@ use Rattle.std.specs.declared.alloc.Global.{Global}
 use Rattle.aos_base.specs.declared.kernel.Outcome.TheVariants.{Going}
 use Rattle.aos_base.specs.Book.{TrapRow}
 use Rattle.aos_base.specs.Machine.{Choice, execution}
-use Rattle.aos_base.specs.Observation.{Observation, observation}
+use Rattle.aos_base.specs.Observation.{WaitRow, Observation, observation}
 use Rattle.aos_base.specs.Schedule.{IsEntry}
 use Rattle.aos_code.specs.declared.image.Image.{Image}
 use Rattle.aos_code.specs.declared.image.ModuleDesc.{ModuleDesc}
 use Rattle.aos_code.specs.declared.report.TrapRec.{TrapRec}
+use Rattle.aos_code.specs.declared.report.WaitRec.{WaitRec}
 use Rattle.aos_code.specs.Machine.{machine, first_state}
 use Rattle.aos_kernel.specs.Run.{Run as KernelRun, state_of}
 use Rattle.aos_report.specs.Texts.{refusal_text, unread_text, too_long_text}
@@ -70,6 +71,16 @@ row_of t =
       activity = t.activity;
       at = record { module_ = t.module; pos = t.pos };
       restart = 0;
+    }
+
+-- one who waits, as the kernel tells it
+abbrev pub wait_row_of : WaitRec → WaitRow
+wait_row_of w =
+    record {
+      activity = w.activity;
+      lock = w.lock;
+      awaits = w.awaits;
+      at = record { module_ = w.module; pos = w.pos };
     }
 
 -- a kernel's image, workers and budget stay

@@ -7,18 +7,18 @@ ghost use Rattle.aos_base.specs.Book.{outcome};
 ghost use Rattle.aos_base.specs.Observation.{Observation, status_of};
 ghost use Rattle.aos_code.specs.declared.image.Image.{Image};
 ghost use Rattle.aos_kernel.specs.Run.{state_of};
-ghost use Rattle.aos_report.specs.Texts.{rows_text};
+ghost use Rattle.aos_report.specs.Texts.{rows_text, waits_text};
 ghost use Rattle.aos.specs.Report.{spent_text, ended_text};
 ghost use Rattle.aos.specs.Seen.{default_budget};
-ghost use Rattle.aos.specs.Shown.{row_of, module_names, SameSetting, IsReady};
-ghost use Rattle.aos.specs.Shown.{ShowsRun, ShowsReplayOf, TellsOf};
+ghost use Rattle.aos.specs.Shown.{row_of, wait_row_of, module_names, names_in, kernel_seen_of};
+ghost use Rattle.aos.specs.Shown.{SameSetting, IsReady, ShowsRun, ShowsReplayOf, TellsOf};
 
 use crate::answer::Answer;
 use aos_base::{NoMemory, Outcome};
-use aos_code::{Image, ModuleDesc, TrapRec};
+use aos_code::{Image, ModuleDesc, TrapRec, WaitRec};
 use aos_kernel::{Kernel, Stepped};
 use aos_replay::replay;
-use aos_report::{budget_line, script_ended, trap_line};
+use aos_report::{budget_line, script_ended, trap_line, wait_line};
 use aos_script::Script;
 use std::alloc::Global;
 use std::sync::{Arc, Wait};
@@ -81,6 +81,30 @@ fn trap_lines(alloc: Global, traps: &[TrapRec], modules: &[ModuleDesc]) -> Resul
     Ok(lines)
 }
 
+// The lines of those who wait, in their order.
+fn wait_lines(alloc: Global, waits: &[WaitRec], modules: &[ModuleDesc]) -> Result<Vec<u8>, NoMemory>
+    ensures { IfOk result (λ lines.
+        lines.items ≡ waits_text (module_names modules.now) (map wait_row_of waits.now)) }
+{
+    let mut lines = Vec::new(alloc);
+    for wait in waits {
+        lines.extend_from_slice(&wait_line(alloc, wait, modules)?)?;
+    }
+    Ok(lines)
+}
+
+// The lines of those who wait, if the run is dead.
+fn dead_lines(alloc: Global, kernel: &Kernel) -> Result<Vec<u8>, NoMemory>
+    ensures { IfOk result (λ lines. lines.items ≡
+        waits_text (names_in kernel.now.image) (kernel_seen_of kernel.now).waits) }
+{
+    if kernel.outcome() == Outcome::Dead {
+        let waits = kernel.waits(alloc)?;
+        return wait_lines(alloc, &waits, kernel.image().modules.as_slice());
+    }
+    Ok(Vec::new(alloc))
+}
+
 // The status of a run with this outcome and these traps.
 fn status(outcome: Outcome, traps: &[TrapRec]) -> u8
     ensures { result ≡ status_of outcome (map row_of traps.now) }
@@ -120,6 +144,7 @@ fn answer_of(alloc: Global, kernel: &Kernel) -> Result<Answer, NoMemory>
     let modules = kernel.image().modules.as_slice();
     let traps = kernel.traps();
     let mut err = trap_lines(alloc, traps, modules)?;
+    err.extend_from_slice(&dead_lines(alloc, kernel)?)?;
     err.extend_from_slice(&spent_line(alloc, kernel.spent(), kernel.budget())?)?;
     Ok(Answer {
         status: status(kernel.outcome(), traps),

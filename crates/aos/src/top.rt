@@ -11,6 +11,7 @@ use crate::command::answer;
 use crate::write::put_text;
 use aos_base::NoMemory;
 use aos_dev::{Put, Shelf, Sink};
+use aos_sim::program_has_monitors;
 use std::alloc::Global;
 use std::sync::Wait;
 
@@ -43,11 +44,12 @@ fn put_answer<O: Sink, E: Sink>(answer: &Answer, out: &mut O, err: &mut E) -> u8
 /// `out`, and its reports to `err`. `replay --script S FILE ..`: the same, but the run goes by the
 /// script, with its workers and its budget.
 ///
-/// The status is 0 where the run ended, 3 where it ended with a trap, 5 where it used up the
-/// budget, 9 where the script ended first; 1 where a file is absent or the texts are refused, 2
-/// where the words are no command, 6 where the shelf failed or a file is too long, 10 where the
-/// script is none. Where a sink failed it is 7 in the place of any of these, and 8, with nothing
-/// put, where memory was wanted.
+/// The status is 0 where the run ended, 3 where it ended with a trap, 4 where activities are left
+/// that haven't ended and each of them waits for a lock, 5 where it used up the budget, 9 where the
+/// script ended first; 1 where a file is absent or the texts are refused, 2 where the words are no
+/// command, 6 where the shelf failed or a file is too long, 10 where the script is none. Where a
+/// sink failed it is 7 in the place of any of these, and 8, with nothing put, where memory was
+/// wanted.
 pub fn aos<R: Wait, F: Shelf, O: Sink, E: Sink>(
     rt: &R,
     alloc: Global,
@@ -65,6 +67,8 @@ pub fn aos<R: Wait, F: Shelf, O: Sink, E: Sink>(
       status = result;
     } in Promises call }
 {
+    // Called for the proof's sake: its clause is the laws on a program's locks.
+    program_has_monitors();
     match answer(rt, alloc, words, shelf) {
         Ok(answer) => put_answer(&answer, out, err),
         Err(NoMemory) => NO_MEMORY,

@@ -17,7 +17,7 @@ returns-in-Ok g c =
       err = sink_use g.E.Sink c.args.err.now c.put_answer.new.err;
       status = c.put_answer.result;
     } in
-    of_answer call c.in-Ok.answer c.in-Ok.ensures c.put_answer.ensures.whole c.put_answer.ensures.stopped c.put_answer.ensures.memory
+    of_answer call c.in-Ok.answer c.in-Ok.ensures c.put_answer.ensures.whole c.put_answer.ensures.stopped c.put_answer.ensures.memory c.program_has_monitors.ensures
 
 pub returns-in-Err : goal.returns-in-Err
-returns-in-Err g c = of_no_memory _ refl refl refl
+returns-in-Err g c = of_no_memory _ refl refl refl c.program_has_monitors.ensures
