@@ -84,11 +84,12 @@ TYPE A = OBJECT BEGIN {active} END A; => 24: rule 45: wrong modifier
 TYPE A = OBJECT BEGIN {ACTIVE, FAST} END A; => 32: rule 45: wrong modifier
 TYPE A = OBJECT BEGIN {SAFE, ACTIVE} END A; => 24: rule 99: not built yet
 TYPE A = OBJECT BEGIN {ACTIVE, PRIORITY(1)} END A; => 32: rule 99: not built yet
-TYPE A = OBJECT BEGIN {EXCLUSIVE} END A; => 24: rule 99: not built yet
+TYPE A = OBJECT BEGIN {EXCLUSIVE(1)} END A; => 24: rule 45: wrong modifier
+TYPE A = OBJECT BEGIN {ACTIVE, EXCLUSIVE, ACTIVE} END A; => 43: rule 45: wrong modifier
 TYPE A = OBJECT PROCEDURE P; BEGIN {ACTIVE} END P; END A; => 37: rule 45: wrong modifier
 TYPE A = OBJECT PROCEDURE &P; BEGIN {ACTIVE} END P; END A; => 38: rule 45: wrong modifier
 PROCEDURE P; BEGIN {ACTIVE} END P; => 21: rule 45: wrong modifier
-PROCEDURE P; BEGIN {EXCLUSIVE} END P; => 21: rule 99: not built yet
+PROCEDURE P; BEGIN {EXCLUSIVE, ACTIVE} END P; => 32: rule 45: wrong modifier
 BEGIN {ACTIVE} => 8: rule 45: wrong modifier
 BEGIN {FAST} => 8: rule 45: wrong modifier
 BEGIN BEGIN {ACTIVE} END => 14: rule 45: wrong modifier

@@ -1,7 +1,7 @@
 // Declarations: types with the numbers of their scalars, names for types, procedures with their parameters and locals. Each row is
 // a module's declarations, and the first rule that they break with its column, or what the module prints.
 use crate::expressions::{expect_outputs, expect_refusals};
-use crate::rows::{expect_answer, shelf_of};
+use crate::rows::expect_transcripts;
 use std::test::Fail;
 
 const LINES: &str = "MODULE M; IMPORT Out;\n";
@@ -88,33 +88,39 @@ VAR x: LONGINT; PROCEDURE P(); VAR y: LONGINT; BEGIN x := x + 1; WHILE x < 3 DO 
 PROCEDURE P; TYPE T = ARRAY 2 OF CHAR; VAR v: T; END P; PROCEDURE Q; TYPE U = RECORD END; T = U; VAR v: T; END Q; TYPE T = SET; VAR v: T; BEGIN v := {1} => ";
 
 // Types of another module, of which one isn't exported, and the variables of all modules together.
-const IMPORTS: [(&str, &str, &str); 5] = [
-    (
-        "TYPE T* = ARRAY 3 OF CHAR; U* = T; VAR a: T;",
-        "TYPE W = B.T; VAR v: B.T; w: W; x: ARRAY 2 OF B.U; PROCEDURE P(a: B.T; VAR b: W); END P;",
-        "",
-    ),
-    (
-        "TYPE T = ARRAY 3 OF CHAR;",
-        "VAR v: B.T;",
-        "A.Mod:1:30: rule 15: name not exported\n",
-    ),
-    (
-        "VAR a*: ARRAY 3 OF CHAR;",
-        "VAR v: B.a;",
-        "A.Mod:1:30: rule 16: name of another kind\n",
-    ),
-    (
-        "VAR a*: ARRAY 4096, 4095 OF CHAR;",
-        "VAR v: ARRAY 4096 OF SET;",
-        "",
-    ),
-    (
-        "VAR a*: ARRAY 4096, 4095 OF CHAR;",
-        "VAR v: ARRAY 4096 OF SET; w: LONGINT;",
-        "A.Mod:1:47: rule 19: too many scalars\n",
-    ),
-];
+const IMPORTS: &str = "\
+run
+= A.Mod
+MODULE A; IMPORT B; TYPE W = B.T; VAR v: B.T; w: W; x: ARRAY 2 OF B.U; PROCEDURE P(a: B.T; VAR b: W); END P; END A.
+= B.Mod
+MODULE B; TYPE T* = ARRAY 3 OF CHAR; U* = T; VAR a: T; END B.
+--
+run
+= A.Mod
+MODULE A; IMPORT B; VAR v: B.T; END A.
+= B.Mod
+MODULE B; TYPE T = ARRAY 3 OF CHAR; END B.
+! 1 A.Mod:1:30: rule 15: name not exported
+--
+run
+= A.Mod
+MODULE A; IMPORT B; VAR v: B.a; END A.
+= B.Mod
+MODULE B; VAR a*: ARRAY 3 OF CHAR; END B.
+! 1 A.Mod:1:30: rule 16: name of another kind
+--
+run
+= A.Mod
+MODULE A; IMPORT B; VAR v: ARRAY 4096 OF SET; END A.
+= B.Mod
+MODULE B; VAR a*: ARRAY 4096, 4095 OF CHAR; END B.
+--
+run
+= A.Mod
+MODULE A; IMPORT B; VAR v: ARRAY 4096 OF SET; w: LONGINT; END A.
+= B.Mod
+MODULE B; VAR a*: ARRAY 4096, 4095 OF CHAR; END B.
+! 1 A.Mod:1:47: rule 19: too many scalars";
 
 #[test]
 fn refuses_declarations(rt: HostRuntime) -> Result<(), Fail> {
@@ -130,20 +136,6 @@ fn accepts_declarations(rt: HostRuntime) -> Result<(), Fail> {
 
 #[test]
 fn declares_by_other_modules(rt: HostRuntime) -> Result<(), Fail> {
-    let alloc = rt.alloc();
-    for (before, own, err) in IMPORTS {
-        let b = format!(in alloc; "MODULE B; {before} END B.")?;
-        let a = format!(in alloc; "MODULE A; IMPORT B; {own} END A.")?;
-        let files = [("A.Mod", a.as_str()), ("B.Mod", b.as_str())];
-        let status = if err.is_empty() { 0 } else { 1 };
-        let shelf = shelf_of(alloc, &files, &[])?;
-        expect_answer(
-            &rt,
-            alloc,
-            &["run", "A.Mod", "B.Mod"],
-            shelf,
-            ("", err, status),
-        )?;
-    }
+    expect_transcripts(&rt, rt.alloc(), IMPORTS)?;
     Ok(())
 }

@@ -1,7 +1,7 @@
 // Designators: fields of records and elements of arrays, and whole records and arrays, which are copied. Each row is a module's
 // declarations and statements with what they print, a statement with its trap, or one with the first rule that it breaks.
 use crate::expressions::{expect_outputs, expect_refusals, expect_traps};
-use crate::rows::{expect_answer, expect_run, shelf_of};
+use crate::rows::{expect_rows, expect_run, expect_transcripts};
 use std::test::Fail;
 
 const LINES: &str = "MODULE M; IMPORT Out;\n";
@@ -147,45 +147,24 @@ VAR r*, q-: R; a*: ARRAY 2 OF R; b-: ARRAY 2 OF LONGINT; c: R;
 BEGIN r.y := 4; r.z := 1; r.v[1] := 5; q.x := 6; b[1] := 7; q.v := r.v";
 
 // What a module that imports it does, and the rule that it breaks.
-const IMPORTS: [(&str, &str); 16] = [
-    ("BEGIN B.r.y := 1", "A.Mod:1:32: rule 33: read only\n"),
-    ("BEGIN B.q := B.r", "A.Mod:1:32: rule 33: read only\n"),
-    ("BEGIN B.q.x := 1", "A.Mod:1:32: rule 33: read only\n"),
-    ("BEGIN B.b[0] := 1", "A.Mod:1:32: rule 33: read only\n"),
-    ("BEGIN B.r.v[0] := 1", "A.Mod:1:32: rule 33: read only\n"),
-    ("BEGIN B.r.v := B.q.v", "A.Mod:1:32: rule 33: read only\n"),
-    ("BEGIN B.a[0].y := 1", "A.Mod:1:32: rule 33: read only\n"),
-    (
-        "VAR s: B.R; BEGIN s.y := 1",
-        "A.Mod:1:44: rule 33: read only\n",
-    ),
-    (
-        "BEGIN B.r.z := 1",
-        "A.Mod:1:36: rule 15: name not exported\n",
-    ),
-    (
-        "BEGIN Out.Int(B.r.z, 0)",
-        "A.Mod:1:44: rule 15: name not exported\n",
-    ),
-    (
-        "VAR s: B.R; BEGIN s.z := 1",
-        "A.Mod:1:46: rule 15: name not exported\n",
-    ),
-    (
-        "BEGIN B.r.s.u := 1",
-        "A.Mod:1:38: rule 15: name not exported\n",
-    ),
-    ("BEGIN B.r.w := 1", "A.Mod:1:35: rule 42: wrong selector\n"),
-    ("BEGIN B.a.x := 1", "A.Mod:1:35: rule 42: wrong selector\n"),
-    (
-        "BEGIN B.c := B.q",
-        "A.Mod:1:34: rule 15: name not exported\n",
-    ),
-    (
-        "VAR s: RECORD x, y, z: LONGINT END; BEGIN s := B.r",
-        "A.Mod:1:70: rule 31: value doesn't fit\n",
-    ),
-];
+const IMPORTS: &str = "\
+BEGIN B.r.y := 1 =! 1 M.Mod:1:32: rule 33: read only
+BEGIN B.q := B.r =! 1 M.Mod:1:32: rule 33: read only
+BEGIN B.q.x := 1 =! 1 M.Mod:1:32: rule 33: read only
+BEGIN B.b[0] := 1 =! 1 M.Mod:1:32: rule 33: read only
+BEGIN B.r.v[0] := 1 =! 1 M.Mod:1:32: rule 33: read only
+BEGIN B.r.v := B.q.v =! 1 M.Mod:1:32: rule 33: read only
+BEGIN B.a[0].y := 1 =! 1 M.Mod:1:32: rule 33: read only
+VAR s: B.R; BEGIN s.y := 1 =! 1 M.Mod:1:44: rule 33: read only
+BEGIN B.r.z := 1 =! 1 M.Mod:1:36: rule 15: name not exported
+BEGIN Out.Int(B.r.z, 0) =! 1 M.Mod:1:44: rule 15: name not exported
+VAR s: B.R; BEGIN s.z := 1 =! 1 M.Mod:1:46: rule 15: name not exported
+BEGIN B.r.s.u := 1 =! 1 M.Mod:1:38: rule 15: name not exported
+BEGIN B.r.w := 1 =! 1 M.Mod:1:35: rule 42: wrong selector
+BEGIN B.a.x := 1 =! 1 M.Mod:1:35: rule 42: wrong selector
+BEGIN B.c := B.q =! 1 M.Mod:1:34: rule 15: name not exported
+VAR s: RECORD x, y, z: LONGINT END; BEGIN s := B.r =! 1 M.Mod:1:70: rule 31: value doesn't fit
+VAR s*: B.R; BEGIN B.r.x := 3; s := B.r; B.a[1] := s; B.a[0] := B.a[1]; B.a[1].s.t := 8; Out.Int(B.a[0].x, 0); Out.Int(s.y, 2); Out.Int(s.v[1], 2); Out.Int(B.q.x, 2); Out.Int(B.b[1], 2); Out.Int(B.a[1].s.t, 2); Out.Int(B.a[0].s.t, 2) => 3 4 5 6 7 8 0";
 
 #[test]
 fn names_parts_of_variables(rt: HostRuntime) -> Result<(), Fail> {
@@ -214,56 +193,42 @@ fn refuses_designators(rt: HostRuntime) -> Result<(), Fail> {
 fn names_parts_of_other_modules(rt: HostRuntime) -> Result<(), Fail> {
     let alloc = rt.alloc();
     let b = format!(in alloc; "MODULE B; {BEFORE} END B.")?;
-    let words = ["run", "A.Mod", "B.Mod"];
-    for (own, err) in IMPORTS {
-        let a = format!(in alloc; "MODULE A; IMPORT B, Out; {own} END A.")?;
-        let files = [("A.Mod", a.as_str()), ("B.Mod", b.as_str())];
-        expect_answer(
-            &rt,
-            alloc,
-            &words,
-            shelf_of(alloc, &files, &[])?,
-            ("", err, 1),
-        )?;
-    }
-    let a = "MODULE A; IMPORT B, Out; VAR s*: B.R; BEGIN \
-         B.r.x := 3; s := B.r; B.a[1] := s; B.a[0] := B.a[1]; B.a[1].s.t := 8; \
-         Out.Int(B.a[0].x, 0); Out.Int(s.y, 2); Out.Int(s.v[1], 2); Out.Int(B.q.x, 2); \
-         Out.Int(B.b[1], 2); Out.Int(B.a[1].s.t, 2); Out.Int(B.a[0].s.t, 2) END A.";
-    let files = [("A.Mod", a), ("B.Mod", b.as_str())];
-    expect_answer(
-        &rt,
-        alloc,
-        &words,
-        shelf_of(alloc, &files, &[])?,
-        ("3 4 5 6 7 8 0", "", 0),
-    )?;
+    let around = ("MODULE A; IMPORT B, Out; ", " END A.");
+    expect_rows(&rt, alloc, &[("B.Mod", b.as_str())], around, IMPORTS)?;
     Ok(())
 }
+
+const FIELDS: &str = "\
+run
+= C.Mod
+MODULE C; IMPORT A, Out; BEGIN A.s.x := 2; Out.Int(A.s.x, 0) END C.
+= B.Mod
+MODULE B; TYPE R* = RECORD x*, y-, z: LONGINT END; END B.
+= A.Mod
+MODULE A; IMPORT B; VAR s*: B.R; END A.
+> 2
+--
+run
+= C.Mod
+MODULE C; IMPORT A, Out; BEGIN A.s.y := 2 END C.
+= B.Mod
+MODULE B; TYPE R* = RECORD x*, y-, z: LONGINT END; END B.
+= A.Mod
+MODULE A; IMPORT B; VAR s*: B.R; END A.
+! 1 C.Mod:1:32: rule 33: read only
+--
+run
+= C.Mod
+MODULE C; IMPORT A, Out; BEGIN A.s.z := 2 END C.
+= B.Mod
+MODULE B; TYPE R* = RECORD x*, y-, z: LONGINT END; END B.
+= A.Mod
+MODULE A; IMPORT B; VAR s*: B.R; END A.
+! 1 C.Mod:1:36: rule 15: name not exported";
 
 // A type of a module that isn't imported, by a variable of one that is.
 #[test]
 fn names_fields_through_a_module(rt: HostRuntime) -> Result<(), Fail> {
-    let alloc = rt.alloc();
-    for (own, want) in [
-        ("A.s.x := 2; Out.Int(A.s.x, 0)", ("2", "", 0)),
-        ("A.s.y := 2", ("", "C.Mod:1:32: rule 33: read only\n", 1)),
-        (
-            "A.s.z := 2",
-            ("", "C.Mod:1:36: rule 15: name not exported\n", 1),
-        ),
-    ] {
-        let c = format!(in alloc; "MODULE C; IMPORT A, Out; BEGIN {own} END C.")?;
-        let files = [
-            (
-                "B.Mod",
-                "MODULE B; TYPE R* = RECORD x*, y-, z: LONGINT END; END B.",
-            ),
-            ("A.Mod", "MODULE A; IMPORT B; VAR s*: B.R; END A."),
-            ("C.Mod", c.as_str()),
-        ];
-        let words = ["run", "C.Mod", "B.Mod", "A.Mod"];
-        expect_answer(&rt, alloc, &words, shelf_of(alloc, &files, &[])?, want)?;
-    }
+    expect_transcripts(&rt, rt.alloc(), FIELDS)?;
     Ok(())
 }

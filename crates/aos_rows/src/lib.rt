@@ -20,6 +20,8 @@ mod procedures;
 #[cfg(test)]
 mod refusals;
 #[cfg(test)]
+mod regions;
+#[cfg(test)]
 mod replays;
 #[cfg(test)]
 mod rows;

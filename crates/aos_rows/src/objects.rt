@@ -1,8 +1,10 @@
 // Object types with fields and methods, bases and SELF. Each row is what stands between a module's imports and its end and what it
 // prints, or where it traps or which rule it breaks.
 use crate::expressions::{expect_outputs, expect_refusals, expect_traps, parted};
-use crate::rows::{expect_answer, expect_replay, expect_run, shelf_of};
+use crate::rows::{expect_rows, expect_run, expect_steps, expect_transcripts};
 use std::test::Fail;
+
+const OTHERS: &[(&str, &str)] = &[("B.Mod", SECOND), ("A.Mod", FIRST)];
 
 const HEAD: &str = "MODULE M; IMPORT Out; ";
 
@@ -496,7 +498,7 @@ TYPE A = OBJECT CONST k = 1; TYPE T = SET; VAR x: T; END A; => 30: rule 99: not 
 PROCEDURE &P; END P; => 11: rule 24: wrong initializer
 TYPE A = POINTER TO B; B = OBJECT END B; => 21: rule 25: type not allowed
 TYPE A = OBJECT END A; PROCEDURE F(): A; BEGIN RETURN NIL END F; VAR x: ARRAY 2 OF OBJECT (A) END; => 84: rule 99: not built yet
-TYPE A = OBJECT PROCEDURE P; BEGIN {EXCLUSIVE} END P; END A; => 37: rule 99: not built yet
+TYPE A = OBJECT PROCEDURE P; BEGIN {EXCLUSIVE, EXCLUSIVE} END P; END A; => 48: rule 45: wrong modifier
 TYPE A = OBJECT PROCEDURE P; BEGIN AWAIT(TRUE) END P; END A; => 36: rule 99: not built yet
 TYPE A = OBJECT PROCEDURE P(): R; END P; END A; R = RECORD END; => 32: rule 25: type not allowed
 TYPE A = OBJECT VAR p: POINTER TO SET; END A; => 35: rule 25: type not allowed
@@ -556,20 +558,6 @@ TYPE A = OBJECT PROCEDURE P; END P; PROCEDURE Q; BEGIN R^ END Q; END A; PROCEDUR
 TYPE A = OBJECT PROCEDURE P; END P; END A; PROCEDURE G(): A; BEGIN RETURN NIL END G; BEGIN G().Q => 95: rule 42: wrong selector
 TYPE A = OBJECT PROCEDURE P; END P; END A; PROCEDURE G(): A; BEGIN RETURN NIL END G; BEGIN G() => 92: rule 36: wrong call";
 
-// What stands before each row, the rows, and their line.
-const REFUSALS: [(&str, &str, u32); 10] = [
-    ("MODULE M; IMPORT Out;\n", BASES, 2),
-    (BASED, OVERRIDES, 3),
-    (STATEMENTS, VALUES, 3),
-    (GIVING, GIVEN, 3),
-    (CALLED, UNCALLED, 3),
-    (TYPED_OBJECTS, UNFIT, 3),
-    (METHODS, INSIDE, 3),
-    (SELVES, ITSELF, 3),
-    (RAISING, RAISED, 3),
-    ("MODULE M; IMPORT Out;\n", PLACES, 2),
-];
-
 // A base with names for all, names that may only be read, and names of its own.
 const FIRST: &str =
     "MODULE A; IMPORT Out; CONST k = 5; VAR n: LONGINT; TYPE R* = RECORD x*: LONGINT END; P* = POINTER TO R; U = OBJECT VAR u*: LONGINT; PROCEDURE Up*; BEGIN INC(u) END Up; END U; T* = OBJECT CONST c* = 3; VAR x*, y-, z: LONGINT; s-: SET; a-: ARRAY 2 OF LONGINT; r-: R; p-: P; o-: T; PROCEDURE Say*; BEGIN Out.Char(\"A\"); INC(n, k); y := n; Own END Say; PROCEDURE Own; BEGIN INC(z); Out.Int(z, 0) END Own; PROCEDURE Total-(): LONGINT; BEGIN RETURN x + y + z END Total; PROCEDURE Make*; BEGIN NEW(p); NEW(o) END Make; END T; VAR t*, s-: T; w: T; u*: U; PROCEDURE Call*(x: T); BEGIN x.Say; x.Own END Call; PROCEDURE New*(VAR x: T); BEGIN NEW(x) END New; BEGIN n := 100; NEW(t); NEW(s); NEW(u) END A.";
@@ -586,59 +574,59 @@ PROCEDURE Inc(VAR k: LONGINT); BEGIN INC(k) END Inc; BEGIN A.t.Make; A.t.p.x := 
 PROCEDURE Is(t: A.T): CHAR; BEGIN IF t IS B.T THEN RETURN \"B\" ELSIF t IS B.H THEN RETURN \"H\" END; RETURN \"A\" END Is; VAR v: ANY; BEGIN v := B.Make(); Out.Char(Is(v(A.T))); WITH v: B.T DO v.v := 8; Out.Int(v.v + v.Add(3), 3) END; Out.Char(Is(A.t)); Out.Char(Is(B.h)); A.t := B.Make(); WITH A.t: B.T DO A.t.v := 4; Out.Int(A.t.v, 0) END => B 11AH4";
 
 const REFUSED_OUTSIDE: &str = "\
-VAR i: LONGINT; PROCEDURE Inc(VAR k: LONGINT); END Inc; BEGIN A.t.z := 1 => 67: rule 15: name not exported
-VAR i: LONGINT; PROCEDURE Inc(VAR k: LONGINT); END Inc; BEGIN A.t.Own => 67: rule 15: name not exported
-VAR i: LONGINT; PROCEDURE Inc(VAR k: LONGINT); END Inc; BEGIN A.t.zz := 1 => 66: rule 42: wrong selector
-VAR i: LONGINT; PROCEDURE Inc(VAR k: LONGINT); END Inc; BEGIN A.t.y := 1 => 63: rule 33: read only
-VAR i: LONGINT; PROCEDURE Inc(VAR k: LONGINT); END Inc; BEGIN A.t.a[0] := 1 => 63: rule 33: read only
-VAR i: LONGINT; PROCEDURE Inc(VAR k: LONGINT); END Inc; BEGIN A.t.r.x := 1 => 63: rule 33: read only
-VAR i: LONGINT; PROCEDURE Inc(VAR k: LONGINT); END Inc; BEGIN A.w.x := 1 => 65: rule 15: name not exported
-VAR i: LONGINT; PROCEDURE Inc(VAR k: LONGINT); END Inc; BEGIN A.s := NIL => 63: rule 33: read only
-VAR i: LONGINT; PROCEDURE Inc(VAR k: LONGINT); END Inc; BEGIN NEW(A.s) => 67: rule 33: read only
-VAR i: LONGINT; PROCEDURE Inc(VAR k: LONGINT); END Inc; BEGIN NEW(A.t.o) => 67: rule 33: read only
-VAR i: LONGINT; PROCEDURE Inc(VAR k: LONGINT); END Inc; BEGIN INC(A.t.y) => 67: rule 33: read only
-VAR i: LONGINT; PROCEDURE Inc(VAR k: LONGINT); END Inc; BEGIN A.New(A.s) => 69: rule 33: read only
-VAR i: LONGINT; PROCEDURE Inc(VAR k: LONGINT); END Inc; BEGIN A.New(A.t.o) => 69: rule 33: read only
-VAR i: LONGINT; PROCEDURE Inc(VAR k: LONGINT); END Inc; BEGIN Inc(A.t.y) => 67: rule 33: read only
-VAR i: LONGINT; PROCEDURE Inc(VAR k: LONGINT); END Inc; BEGIN Inc(A.t.a[1]) => 67: rule 33: read only
-VAR i: LONGINT; PROCEDURE Inc(VAR k: LONGINT); END Inc; BEGIN i := A.t.z => 72: rule 15: name not exported
-VAR i: LONGINT; PROCEDURE Inc(VAR k: LONGINT); END Inc; BEGIN i := A.t.Total => 65: rule 31: value doesn't fit
-VAR i: LONGINT; PROCEDURE Inc(VAR k: LONGINT); END Inc; BEGIN A.t.Total() => 63: rule 36: wrong call
-VAR i: LONGINT; PROCEDURE Inc(VAR k: LONGINT); END Inc; BEGIN i := A.t.c => 71: rule 42: wrong selector
-VAR i: LONGINT; PROCEDURE Inc(VAR k: LONGINT); END Inc; BEGIN i := A.u.v => 71: rule 42: wrong selector
-VAR i: LONGINT; PROCEDURE Inc(VAR k: LONGINT); END Inc; BEGIN i := A.t => 65: rule 31: value doesn't fit
-VAR i: LONGINT; PROCEDURE Inc(VAR k: LONGINT); END Inc; BEGIN B.h.Say => 67: rule 15: name not exported
-TYPE T = OBJECT (A.T) PROCEDURE Q; BEGIN z := 1 END Q; END T; VAR z: LONGINT; PROCEDURE Inc(VAR k: LONGINT); END Inc; PROCEDURE Own; END Own; BEGIN => 42: rule 15: name not exported
-TYPE T = OBJECT (A.T) PROCEDURE Q; BEGIN Own END Q; END T; VAR z: LONGINT; PROCEDURE Inc(VAR k: LONGINT); END Inc; PROCEDURE Own; END Own; BEGIN => 42: rule 15: name not exported
-TYPE T = OBJECT (A.T) PROCEDURE Q; BEGIN SELF.z := 1 END Q; END T; VAR z: LONGINT; PROCEDURE Inc(VAR k: LONGINT); END Inc; PROCEDURE Own; END Own; BEGIN => 47: rule 15: name not exported
-TYPE T = OBJECT (A.T) PROCEDURE Q; BEGIN SELF.Own END Q; END T; VAR z: LONGINT; PROCEDURE Inc(VAR k: LONGINT); END Inc; PROCEDURE Own; END Own; BEGIN => 47: rule 15: name not exported
-TYPE T = OBJECT (A.T) PROCEDURE Q; BEGIN y := 1 END Q; END T; VAR z: LONGINT; PROCEDURE Inc(VAR k: LONGINT); END Inc; PROCEDURE Own; END Own; BEGIN => 42: rule 33: read only
-TYPE T = OBJECT (A.T) PROCEDURE Q; BEGIN SELF.y := 1 END Q; END T; VAR z: LONGINT; PROCEDURE Inc(VAR k: LONGINT); END Inc; PROCEDURE Own; END Own; BEGIN => 42: rule 33: read only
-TYPE T = OBJECT (A.T) PROCEDURE Q; BEGIN a[0] := 1 END Q; END T; VAR z: LONGINT; PROCEDURE Inc(VAR k: LONGINT); END Inc; PROCEDURE Own; END Own; BEGIN => 42: rule 33: read only
-TYPE T = OBJECT (A.T) PROCEDURE Q; BEGIN r.x := 1 END Q; END T; VAR z: LONGINT; PROCEDURE Inc(VAR k: LONGINT); END Inc; PROCEDURE Own; END Own; BEGIN => 42: rule 33: read only
-TYPE T = OBJECT (A.T) PROCEDURE Q; BEGIN FOR y := 1 TO 2 DO END END Q; END T; VAR z: LONGINT; PROCEDURE Inc(VAR k: LONGINT); END Inc; PROCEDURE Own; END Own; BEGIN => 46: rule 33: read only
-TYPE T = OBJECT (A.T) PROCEDURE Q; BEGIN FOR s := 1 TO 2 DO END END Q; END T; VAR z: LONGINT; PROCEDURE Inc(VAR k: LONGINT); END Inc; PROCEDURE Own; END Own; BEGIN => 46: rule 33: read only
-TYPE T = OBJECT (A.T) PROCEDURE Q; BEGIN FOR z := 1 TO 2 DO END END Q; END T; VAR z: LONGINT; PROCEDURE Inc(VAR k: LONGINT); END Inc; PROCEDURE Own; END Own; BEGIN => 46: rule 15: name not exported
-TYPE T = OBJECT (A.T) PROCEDURE Q; BEGIN WITH z: T DO END END Q; END T; VAR z: LONGINT; PROCEDURE Inc(VAR k: LONGINT); END Inc; PROCEDURE Own; END Own; BEGIN => 47: rule 15: name not exported
-TYPE T = OBJECT (A.T) PROCEDURE Q; BEGIN NEW(o) END Q; END T; VAR z: LONGINT; PROCEDURE Inc(VAR k: LONGINT); END Inc; PROCEDURE Own; END Own; BEGIN => 46: rule 33: read only
-TYPE T = OBJECT (A.T) PROCEDURE Q; BEGIN Inc(y) END Q; END T; VAR z: LONGINT; PROCEDURE Inc(VAR k: LONGINT); END Inc; PROCEDURE Own; END Own; BEGIN => 46: rule 33: read only
-TYPE T = OBJECT (A.T) PROCEDURE Q; BEGIN INC(y) END Q; END T; VAR z: LONGINT; PROCEDURE Inc(VAR k: LONGINT); END Inc; PROCEDURE Own; END Own; BEGIN => 46: rule 33: read only
-TYPE T = OBJECT (A.T) PROCEDURE Q; BEGIN Own^ END Q; END T; VAR z: LONGINT; PROCEDURE Inc(VAR k: LONGINT); END Inc; PROCEDURE Own; END Own; BEGIN => 42: rule 15: name not exported
-TYPE T = OBJECT (A.T) PROCEDURE Q; BEGIN o.z := 1 END Q; END T; VAR z: LONGINT; PROCEDURE Inc(VAR k: LONGINT); END Inc; PROCEDURE Own; END Own; BEGIN => 44: rule 15: name not exported
-TYPE T = OBJECT (A.T) PROCEDURE Q; BEGIN o.Own END Q; END T; VAR z: LONGINT; PROCEDURE Inc(VAR k: LONGINT); END Inc; PROCEDURE Own; END Own; BEGIN => 44: rule 15: name not exported
-TYPE T = OBJECT (A.T) PROCEDURE Q; BEGIN o := SELF END Q; END T; VAR z: LONGINT; PROCEDURE Inc(VAR k: LONGINT); END Inc; PROCEDURE Own; END Own; BEGIN => 42: rule 33: read only
-TYPE T = OBJECT (B.T) VAR z: SET; END T; BEGIN => 27: rule 23: name stands in the base type
-TYPE T = OBJECT (A.T) VAR Own: SET; END T; BEGIN => 27: rule 23: name stands in the base type
-TYPE T = OBJECT (B.T) PROCEDURE z; END z; END T; BEGIN => 33: rule 23: name stands in the base type
-TYPE T = OBJECT (B.T) PROCEDURE Own(k: SET); END Own; END T; BEGIN => 33: rule 22: override differs
-TYPE T = OBJECT (A.T) PROCEDURE Total; END Total; END T; BEGIN => 33: rule 22: override differs
-TYPE T = OBJECT (B.T) VAR y: SET; END T; BEGIN => 27: rule 23: name stands in the base type
-TYPE T = OBJECT (A.T) VAR v: ARRAY c OF SET; END T; BEGIN => 36: rule 14: unknown name
-TYPE T = OBJECT (A.U) END T; BEGIN => 20: rule 15: name not exported
-TYPE T = OBJECT (B.Z) END T; BEGIN => 20: rule 14: unknown name
-TYPE T = OBJECT (A.R) END T; BEGIN => 18: rule 17: wrong base type
-TYPE T = OBJECT (A) END T; BEGIN => 18: rule 16: name of another kind
-TYPE T = OBJECT (A.t) END T; BEGIN => 20: rule 16: name of another kind";
+VAR i: LONGINT; PROCEDURE Inc(VAR k: LONGINT); END Inc; BEGIN A.t.z := 1 =! 1 M.Mod:2:67: rule 15: name not exported
+VAR i: LONGINT; PROCEDURE Inc(VAR k: LONGINT); END Inc; BEGIN A.t.Own =! 1 M.Mod:2:67: rule 15: name not exported
+VAR i: LONGINT; PROCEDURE Inc(VAR k: LONGINT); END Inc; BEGIN A.t.zz := 1 =! 1 M.Mod:2:66: rule 42: wrong selector
+VAR i: LONGINT; PROCEDURE Inc(VAR k: LONGINT); END Inc; BEGIN A.t.y := 1 =! 1 M.Mod:2:63: rule 33: read only
+VAR i: LONGINT; PROCEDURE Inc(VAR k: LONGINT); END Inc; BEGIN A.t.a[0] := 1 =! 1 M.Mod:2:63: rule 33: read only
+VAR i: LONGINT; PROCEDURE Inc(VAR k: LONGINT); END Inc; BEGIN A.t.r.x := 1 =! 1 M.Mod:2:63: rule 33: read only
+VAR i: LONGINT; PROCEDURE Inc(VAR k: LONGINT); END Inc; BEGIN A.w.x := 1 =! 1 M.Mod:2:65: rule 15: name not exported
+VAR i: LONGINT; PROCEDURE Inc(VAR k: LONGINT); END Inc; BEGIN A.s := NIL =! 1 M.Mod:2:63: rule 33: read only
+VAR i: LONGINT; PROCEDURE Inc(VAR k: LONGINT); END Inc; BEGIN NEW(A.s) =! 1 M.Mod:2:67: rule 33: read only
+VAR i: LONGINT; PROCEDURE Inc(VAR k: LONGINT); END Inc; BEGIN NEW(A.t.o) =! 1 M.Mod:2:67: rule 33: read only
+VAR i: LONGINT; PROCEDURE Inc(VAR k: LONGINT); END Inc; BEGIN INC(A.t.y) =! 1 M.Mod:2:67: rule 33: read only
+VAR i: LONGINT; PROCEDURE Inc(VAR k: LONGINT); END Inc; BEGIN A.New(A.s) =! 1 M.Mod:2:69: rule 33: read only
+VAR i: LONGINT; PROCEDURE Inc(VAR k: LONGINT); END Inc; BEGIN A.New(A.t.o) =! 1 M.Mod:2:69: rule 33: read only
+VAR i: LONGINT; PROCEDURE Inc(VAR k: LONGINT); END Inc; BEGIN Inc(A.t.y) =! 1 M.Mod:2:67: rule 33: read only
+VAR i: LONGINT; PROCEDURE Inc(VAR k: LONGINT); END Inc; BEGIN Inc(A.t.a[1]) =! 1 M.Mod:2:67: rule 33: read only
+VAR i: LONGINT; PROCEDURE Inc(VAR k: LONGINT); END Inc; BEGIN i := A.t.z =! 1 M.Mod:2:72: rule 15: name not exported
+VAR i: LONGINT; PROCEDURE Inc(VAR k: LONGINT); END Inc; BEGIN i := A.t.Total =! 1 M.Mod:2:65: rule 31: value doesn't fit
+VAR i: LONGINT; PROCEDURE Inc(VAR k: LONGINT); END Inc; BEGIN A.t.Total() =! 1 M.Mod:2:63: rule 36: wrong call
+VAR i: LONGINT; PROCEDURE Inc(VAR k: LONGINT); END Inc; BEGIN i := A.t.c =! 1 M.Mod:2:71: rule 42: wrong selector
+VAR i: LONGINT; PROCEDURE Inc(VAR k: LONGINT); END Inc; BEGIN i := A.u.v =! 1 M.Mod:2:71: rule 42: wrong selector
+VAR i: LONGINT; PROCEDURE Inc(VAR k: LONGINT); END Inc; BEGIN i := A.t =! 1 M.Mod:2:65: rule 31: value doesn't fit
+VAR i: LONGINT; PROCEDURE Inc(VAR k: LONGINT); END Inc; BEGIN B.h.Say =! 1 M.Mod:2:67: rule 15: name not exported
+TYPE T = OBJECT (A.T) PROCEDURE Q; BEGIN z := 1 END Q; END T; VAR z: LONGINT; PROCEDURE Inc(VAR k: LONGINT); END Inc; PROCEDURE Own; END Own; BEGIN =! 1 M.Mod:2:42: rule 15: name not exported
+TYPE T = OBJECT (A.T) PROCEDURE Q; BEGIN Own END Q; END T; VAR z: LONGINT; PROCEDURE Inc(VAR k: LONGINT); END Inc; PROCEDURE Own; END Own; BEGIN =! 1 M.Mod:2:42: rule 15: name not exported
+TYPE T = OBJECT (A.T) PROCEDURE Q; BEGIN SELF.z := 1 END Q; END T; VAR z: LONGINT; PROCEDURE Inc(VAR k: LONGINT); END Inc; PROCEDURE Own; END Own; BEGIN =! 1 M.Mod:2:47: rule 15: name not exported
+TYPE T = OBJECT (A.T) PROCEDURE Q; BEGIN SELF.Own END Q; END T; VAR z: LONGINT; PROCEDURE Inc(VAR k: LONGINT); END Inc; PROCEDURE Own; END Own; BEGIN =! 1 M.Mod:2:47: rule 15: name not exported
+TYPE T = OBJECT (A.T) PROCEDURE Q; BEGIN y := 1 END Q; END T; VAR z: LONGINT; PROCEDURE Inc(VAR k: LONGINT); END Inc; PROCEDURE Own; END Own; BEGIN =! 1 M.Mod:2:42: rule 33: read only
+TYPE T = OBJECT (A.T) PROCEDURE Q; BEGIN SELF.y := 1 END Q; END T; VAR z: LONGINT; PROCEDURE Inc(VAR k: LONGINT); END Inc; PROCEDURE Own; END Own; BEGIN =! 1 M.Mod:2:42: rule 33: read only
+TYPE T = OBJECT (A.T) PROCEDURE Q; BEGIN a[0] := 1 END Q; END T; VAR z: LONGINT; PROCEDURE Inc(VAR k: LONGINT); END Inc; PROCEDURE Own; END Own; BEGIN =! 1 M.Mod:2:42: rule 33: read only
+TYPE T = OBJECT (A.T) PROCEDURE Q; BEGIN r.x := 1 END Q; END T; VAR z: LONGINT; PROCEDURE Inc(VAR k: LONGINT); END Inc; PROCEDURE Own; END Own; BEGIN =! 1 M.Mod:2:42: rule 33: read only
+TYPE T = OBJECT (A.T) PROCEDURE Q; BEGIN FOR y := 1 TO 2 DO END END Q; END T; VAR z: LONGINT; PROCEDURE Inc(VAR k: LONGINT); END Inc; PROCEDURE Own; END Own; BEGIN =! 1 M.Mod:2:46: rule 33: read only
+TYPE T = OBJECT (A.T) PROCEDURE Q; BEGIN FOR s := 1 TO 2 DO END END Q; END T; VAR z: LONGINT; PROCEDURE Inc(VAR k: LONGINT); END Inc; PROCEDURE Own; END Own; BEGIN =! 1 M.Mod:2:46: rule 33: read only
+TYPE T = OBJECT (A.T) PROCEDURE Q; BEGIN FOR z := 1 TO 2 DO END END Q; END T; VAR z: LONGINT; PROCEDURE Inc(VAR k: LONGINT); END Inc; PROCEDURE Own; END Own; BEGIN =! 1 M.Mod:2:46: rule 15: name not exported
+TYPE T = OBJECT (A.T) PROCEDURE Q; BEGIN WITH z: T DO END END Q; END T; VAR z: LONGINT; PROCEDURE Inc(VAR k: LONGINT); END Inc; PROCEDURE Own; END Own; BEGIN =! 1 M.Mod:2:47: rule 15: name not exported
+TYPE T = OBJECT (A.T) PROCEDURE Q; BEGIN NEW(o) END Q; END T; VAR z: LONGINT; PROCEDURE Inc(VAR k: LONGINT); END Inc; PROCEDURE Own; END Own; BEGIN =! 1 M.Mod:2:46: rule 33: read only
+TYPE T = OBJECT (A.T) PROCEDURE Q; BEGIN Inc(y) END Q; END T; VAR z: LONGINT; PROCEDURE Inc(VAR k: LONGINT); END Inc; PROCEDURE Own; END Own; BEGIN =! 1 M.Mod:2:46: rule 33: read only
+TYPE T = OBJECT (A.T) PROCEDURE Q; BEGIN INC(y) END Q; END T; VAR z: LONGINT; PROCEDURE Inc(VAR k: LONGINT); END Inc; PROCEDURE Own; END Own; BEGIN =! 1 M.Mod:2:46: rule 33: read only
+TYPE T = OBJECT (A.T) PROCEDURE Q; BEGIN Own^ END Q; END T; VAR z: LONGINT; PROCEDURE Inc(VAR k: LONGINT); END Inc; PROCEDURE Own; END Own; BEGIN =! 1 M.Mod:2:42: rule 15: name not exported
+TYPE T = OBJECT (A.T) PROCEDURE Q; BEGIN o.z := 1 END Q; END T; VAR z: LONGINT; PROCEDURE Inc(VAR k: LONGINT); END Inc; PROCEDURE Own; END Own; BEGIN =! 1 M.Mod:2:44: rule 15: name not exported
+TYPE T = OBJECT (A.T) PROCEDURE Q; BEGIN o.Own END Q; END T; VAR z: LONGINT; PROCEDURE Inc(VAR k: LONGINT); END Inc; PROCEDURE Own; END Own; BEGIN =! 1 M.Mod:2:44: rule 15: name not exported
+TYPE T = OBJECT (A.T) PROCEDURE Q; BEGIN o := SELF END Q; END T; VAR z: LONGINT; PROCEDURE Inc(VAR k: LONGINT); END Inc; PROCEDURE Own; END Own; BEGIN =! 1 M.Mod:2:42: rule 33: read only
+TYPE T = OBJECT (B.T) VAR z: SET; END T; BEGIN =! 1 M.Mod:2:27: rule 23: name stands in the base type
+TYPE T = OBJECT (A.T) VAR Own: SET; END T; BEGIN =! 1 M.Mod:2:27: rule 23: name stands in the base type
+TYPE T = OBJECT (B.T) PROCEDURE z; END z; END T; BEGIN =! 1 M.Mod:2:33: rule 23: name stands in the base type
+TYPE T = OBJECT (B.T) PROCEDURE Own(k: SET); END Own; END T; BEGIN =! 1 M.Mod:2:33: rule 22: override differs
+TYPE T = OBJECT (A.T) PROCEDURE Total; END Total; END T; BEGIN =! 1 M.Mod:2:33: rule 22: override differs
+TYPE T = OBJECT (B.T) VAR y: SET; END T; BEGIN =! 1 M.Mod:2:27: rule 23: name stands in the base type
+TYPE T = OBJECT (A.T) VAR v: ARRAY c OF SET; END T; BEGIN =! 1 M.Mod:2:36: rule 14: unknown name
+TYPE T = OBJECT (A.U) END T; BEGIN =! 1 M.Mod:2:20: rule 15: name not exported
+TYPE T = OBJECT (B.Z) END T; BEGIN =! 1 M.Mod:2:20: rule 14: unknown name
+TYPE T = OBJECT (A.R) END T; BEGIN =! 1 M.Mod:2:18: rule 17: wrong base type
+TYPE T = OBJECT (A) END T; BEGIN =! 1 M.Mod:2:18: rule 16: name of another kind
+TYPE T = OBJECT (A.t) END T; BEGIN =! 1 M.Mod:2:20: rule 16: name of another kind";
 
 // What stands before a statement whose turns are counted.
 const STEPPED: &str =
@@ -683,8 +671,16 @@ NEW(c.o) => 23 | 24
 NEW(j, 3) => 33 | 34";
 
 // Two activities add 1 by a method of one object.
-const LOST: &str =
-    "MODULE M; IMPORT Out; TYPE C = OBJECT VAR n: LONGINT; PROCEDURE Add(k: LONGINT); BEGIN n := n + k END Add; END C; A = OBJECT BEGIN {ACTIVE} c.Add(1) END A; VAR c: C; a, b: A; BEGIN NEW(c); NEW(a); NEW(b); Out.Int(c.n, 0) END M.";
+const LOST: &str = "\
+workers 3;budget 100;s 0 12;s 1 11;s 2 11;s 0 6
+= M.Mod
+MODULE M; IMPORT Out; TYPE C = OBJECT VAR n: LONGINT; PROCEDURE Add(k: LONGINT); BEGIN n := n + k END Add; END C; A = OBJECT BEGIN {ACTIVE} c.Add(1) END A; VAR c: C; a, b: A; BEGIN NEW(c); NEW(a); NEW(b); Out.Int(c.n, 0) END M.
+> 2
+--
+workers 3;budget 100;s 0 12;s 1 6;s 2 11;s 1 5;s 0 6
+= M.Mod
+MODULE M; IMPORT Out; TYPE C = OBJECT VAR n: LONGINT; PROCEDURE Add(k: LONGINT); BEGIN n := n + k END Add; END C; A = OBJECT BEGIN {ACTIVE} c.Add(1) END A; VAR c: C; a, b: A; BEGIN NEW(c); NEW(a); NEW(b); Out.Int(c.n, 0) END M.
+> 1";
 
 // What stands before a bar, and behind it.
 fn barred(row: &str) -> (&str, &str) {
@@ -714,9 +710,17 @@ fn traps_at_objects(rt: HostRuntime) -> Result<(), Fail> {
 
 #[test]
 fn refuses_objects(rt: HostRuntime) -> Result<(), Fail> {
-    for (lines, table, line) in REFUSALS {
-        expect_refusals(&rt, rt.alloc(), lines, table, line)?;
-    }
+    let alloc = rt.alloc();
+    expect_refusals(&rt, alloc, "MODULE M; IMPORT Out;\n", BASES, 2)?;
+    expect_refusals(&rt, alloc, BASED, OVERRIDES, 3)?;
+    expect_refusals(&rt, alloc, STATEMENTS, VALUES, 3)?;
+    expect_refusals(&rt, alloc, GIVING, GIVEN, 3)?;
+    expect_refusals(&rt, alloc, CALLED, UNCALLED, 3)?;
+    expect_refusals(&rt, alloc, TYPED_OBJECTS, UNFIT, 3)?;
+    expect_refusals(&rt, alloc, METHODS, INSIDE, 3)?;
+    expect_refusals(&rt, alloc, SELVES, ITSELF, 3)?;
+    expect_refusals(&rt, alloc, RAISING, RAISED, 3)?;
+    expect_refusals(&rt, alloc, "MODULE M; IMPORT Out;\n", PLACES, 2)?;
     Ok(())
 }
 
@@ -724,25 +728,9 @@ fn refuses_objects(rt: HostRuntime) -> Result<(), Fail> {
 #[test]
 fn extends_through_modules(rt: HostRuntime) -> Result<(), Fail> {
     let alloc = rt.alloc();
-    let words = ["run", "M.Mod", "B.Mod", "A.Mod"];
-    for (table, status) in [(THIRD, 0), (REFUSED_OUTSIDE, 1)] {
-        for row in table.lines() {
-            let (part, want) = parted(row);
-            let text = format!(in alloc; "MODULE M; IMPORT A, B, Out;\n{part} END M.")?;
-            let files = [
-                ("M.Mod", text.as_str()),
-                ("A.Mod", FIRST),
-                ("B.Mod", SECOND),
-            ];
-            let shelf = shelf_of(alloc, &files, &[])?;
-            if status == 0 {
-                expect_answer(&rt, alloc, &words, shelf, (want, "", 0))?;
-            } else {
-                let err = format!(in alloc; "M.Mod:2:{want}\n")?;
-                expect_answer(&rt, alloc, &words, shelf, ("", err.as_str(), 1))?;
-            }
-        }
-    }
+    let around = ("MODULE M; IMPORT A, B, Out;\n", " END M.");
+    expect_rows(&rt, alloc, OTHERS, around, THIRD)?;
+    expect_rows(&rt, alloc, OTHERS, around, REFUSED_OUTSIDE)?;
     Ok(())
 }
 
@@ -751,27 +739,7 @@ fn extends_through_modules(rt: HostRuntime) -> Result<(), Fail> {
 #[test]
 fn counts_steps_of_methods(rt: HostRuntime) -> Result<(), Fail> {
     let alloc = rt.alloc();
-    for row in STEPS.lines() {
-        let (statement, steps) = parted(row);
-        let (less, enough) = barred(steps);
-        let text = format!(in alloc; "{STEPPED}{statement} END M.")?;
-        let script = format!(in alloc; "aos-script 1\nworkers 1\nbudget 100\ns 0 {less}\nend\n")?;
-        let err = format!(in alloc; "script ended after {less} steps\n")?;
-        expect_replay(
-            &rt,
-            alloc,
-            (script.as_str(), text.as_str()),
-            ("", err.as_str(), 9),
-        )?;
-        let script = format!(in alloc; "aos-script 1\nworkers 1\nbudget 100\ns 0 {enough}\nend\n")?;
-        expect_replay(&rt, alloc, (script.as_str(), text.as_str()), ("", "", 0))?;
-    }
-    for (runs, out) in [
-        ("s 0 12\ns 1 11\ns 2 11\ns 0 6", "2"),
-        ("s 0 12\ns 1 6\ns 2 11\ns 1 5\ns 0 6", "1"),
-    ] {
-        let script = format!(in alloc; "aos-script 1\nworkers 3\nbudget 100\n{runs}\nend\n")?;
-        expect_replay(&rt, alloc, (script.as_str(), LOST), (out, "", 0))?;
-    }
+    expect_steps(&rt, alloc, STEPPED, STEPS)?;
+    expect_transcripts(&rt, alloc, LOST)?;
     Ok(())
 }

@@ -1,7 +1,7 @@
 // Pointers to records and arrays, ANY, NIL, type tests, guards, WITH and record extension. Each row is what stands between a module's
 // imports and its end and what it prints, or where it traps or which rule it breaks.
-use crate::expressions::{expect_outputs, expect_refusals, expect_traps, parted};
-use crate::rows::{expect_answer, expect_replay, expect_run, shelf_of};
+use crate::expressions::{expect_outputs, expect_refusals, expect_traps};
+use crate::rows::{expect_rows, expect_transcripts};
 use std::test::Fail;
 
 const HEAD: &str = "MODULE M; IMPORT Out; ";
@@ -329,24 +329,24 @@ const SECOND: &str =
     "MODULE M; IMPORT A, Out; TYPE S = RECORD (A.R) y: LONGINT END; Q = POINTER TO S; VAR q: Q; s: S; i: LONGINT;";
 
 const OTHER: &str = "\
-A.n := NIL => 1: rule 33: read only
-NEW(A.n) => 5: rule 33: read only
-A.n.r := 1 => 1: rule 33: read only
-q.r := 1 => 1: rule 33: read only
-i := q.h => 8: rule 15: name not exported
-i := A.n.h => 10: rule 15: name not exported
-q := A.p => 3: rule 31: value doesn't fit
-i := q.z => 7: rule 42: wrong selector
-WITH A.Get: Q DO END => 6: rule 49: wrong WITH
-WITH A.n: A.R DO END => 9: rule 41: wrong type test
-WITH A.m: Q DO END => 8: rule 14: unknown name";
+A.n := NIL =! 1 M.Mod:2:1: rule 33: read only
+NEW(A.n) =! 1 M.Mod:2:5: rule 33: read only
+A.n.r := 1 =! 1 M.Mod:2:1: rule 33: read only
+q.r := 1 =! 1 M.Mod:2:1: rule 33: read only
+i := q.h =! 1 M.Mod:2:8: rule 15: name not exported
+i := A.n.h =! 1 M.Mod:2:10: rule 15: name not exported
+q := A.p =! 1 M.Mod:2:3: rule 31: value doesn't fit
+i := q.z =! 1 M.Mod:2:7: rule 42: wrong selector
+WITH A.Get: Q DO END =! 1 M.Mod:2:6: rule 49: wrong WITH
+WITH A.n: A.R DO END =! 1 M.Mod:2:9: rule 41: wrong type test
+WITH A.m: Q DO END =! 1 M.Mod:2:8: rule 14: unknown name";
 
 const OTHER_TYPES: &str = "\
-TYPE S = RECORD (A.R) h: LONGINT END; => 23: rule 23: name stands in the base type
-TYPE S = RECORD (A.R) y, x: LONGINT END; => 26: rule 23: name stands in the base type
-TYPE S = RECORD (A.n) END; => 20: rule 16: name of another kind
-TYPE S = RECORD (A.Z) END; => 20: rule 14: unknown name
-TYPE S = RECORD (A.P) END; => 18: rule 17: wrong base type";
+TYPE S = RECORD (A.R) h: LONGINT END; =! 1 M.Mod:2:23: rule 23: name stands in the base type
+TYPE S = RECORD (A.R) y, x: LONGINT END; =! 1 M.Mod:2:26: rule 23: name stands in the base type
+TYPE S = RECORD (A.n) END; =! 1 M.Mod:2:20: rule 16: name of another kind
+TYPE S = RECORD (A.Z) END; =! 1 M.Mod:2:20: rule 14: unknown name
+TYPE S = RECORD (A.P) END; =! 1 M.Mod:2:18: rule 17: wrong base type";
 
 #[test]
 fn leads_to_what_is_made(rt: HostRuntime) -> Result<(), Fail> {
@@ -369,85 +369,65 @@ fn refuses_pointers(rt: HostRuntime) -> Result<(), Fail> {
 }
 
 // 2^24 scalars stand in the heap, and no more.
+const HEAPS: &str = "\
+NEW(p, 16777216)
+NEW(p, 16777216); NEW(q, 1) =! 3 trap 12 0 activity 0 at M:1:87
+NEW(p, 16777217) =! 3 trap 12 0 activity 0 at M:1:69";
+
 #[test]
 fn limits_the_heap(rt: HostRuntime) -> Result<(), Fail> {
-    for (body, want) in [
-        ("NEW(p, 16777216)", ("", "", 0)),
-        (
-            "NEW(p, 16777216); NEW(q, 1)",
-            ("", "trap 12 0 activity 0 at M:1:87\n", 3),
-        ),
-        (
-            "NEW(p, 16777217)",
-            ("", "trap 12 0 activity 0 at M:1:69\n", 3),
-        ),
-    ] {
-        let text = format!(in rt.alloc();
-            "MODULE M; IMPORT Out; VAR p, q: POINTER TO ARRAY OF SHORTINT; BEGIN {body} END M."
-        )?;
-        expect_run(&rt, rt.alloc(), text.as_str(), want)?;
-    }
+    let head = "MODULE M; IMPORT Out; VAR p, q: POINTER TO ARRAY OF SHORTINT; BEGIN ";
+    expect_rows(&rt, rt.alloc(), &[], (head, " END M."), HEAPS)?;
     Ok(())
 }
 
 // Types, pointers and variables of another module.
+const OTHERS: &[(&str, &str)] = &[("A.Mod", FIRST)];
+
+const LED: &str = "\
+NEW(q); q.x := 2; q.y := 5; A.p := q; Out.Int(A.p.x, 0); Out.Int(A.p(Q).y, 2); Out.Int(A.Get(q^) + A.Get(s) + A.Get(q^), 2) => 2 5 4
+A.n.x := 4; Out.Int(A.n.x + A.n.r, 0); IF (A.p = NIL) & ~(A.n IS Q) & (A.n IS A.P) THEN Out.Char(\"y\") END => 4y
+NEW(q); A.p := q; WITH A.p: Q DO A.p.y := 7 END; Out.Int(q.y, 0) => 7
+WITH A.n: Q DO END =! 3 trap 3 0 activity 0 at M:2:1
+A.p.x := 1 =! 3 trap 1 0 activity 0 at M:2:1";
+
 #[test]
 fn leads_through_modules(rt: HostRuntime) -> Result<(), Fail> {
     let alloc = rt.alloc();
-    let words = ["run", "M.Mod", "A.Mod"];
-    for (body, want) in [
-        (
-            "NEW(q); q.x := 2; q.y := 5; A.p := q; Out.Int(A.p.x, 0); Out.Int(A.p(Q).y, 2); Out.Int(A.Get(q^) + A.Get(s) + A.Get(q^), 2)",
-            ("2 5 4", "", 0),
-        ),
-        (
-            "A.n.x := 4; Out.Int(A.n.x + A.n.r, 0); IF (A.p = NIL) & ~(A.n IS Q) & (A.n IS A.P) THEN Out.Char(\"y\") END",
-            ("4y", "", 0),
-        ),
-        (
-            "NEW(q); A.p := q; WITH A.p: Q DO A.p.y := 7 END; Out.Int(q.y, 0)",
-            ("7", "", 0),
-        ),
-        (
-            "WITH A.n: Q DO END",
-            ("", "trap 3 0 activity 0 at M:2:1\n", 3),
-        ),
-        ("A.p.x := 1", ("", "trap 1 0 activity 0 at M:2:1\n", 3)),
-    ] {
-        let text = format!(in alloc; "{SECOND} BEGIN\n{body} END M.")?;
-        let shelf = shelf_of(alloc, &[("M.Mod", text.as_str()), ("A.Mod", FIRST)], &[])?;
-        expect_answer(&rt, alloc, &words, shelf, want)?;
-    }
-    for (before, table) in [("", OTHER_TYPES), (SECOND, OTHER)] {
-        for row in table.lines() {
-            let (part, rule) = parted(row);
-            let text = if before.is_empty() {
-                format!(in alloc; "MODULE M; IMPORT A;\n{part} END M.")?
-            } else {
-                format!(in alloc; "{before} BEGIN\n{part} END M.")?
-            };
-            let err = format!(in alloc; "M.Mod:2:{rule}\n")?;
-            let shelf = shelf_of(alloc, &[("M.Mod", text.as_str()), ("A.Mod", FIRST)], &[])?;
-            expect_answer(&rt, alloc, &words, shelf, ("", err.as_str(), 1))?;
-        }
-    }
+    let head = format!(in alloc; "{SECOND} BEGIN\n")?;
+    expect_rows(&rt, alloc, OTHERS, (head.as_str(), " END M."), LED)?;
+    expect_rows(&rt, alloc, OTHERS, (head.as_str(), " END M."), OTHER)?;
+    expect_rows(
+        &rt,
+        alloc,
+        OTHERS,
+        ("MODULE M; IMPORT A;\n", " END M."),
+        OTHER_TYPES,
+    )?;
     Ok(())
 }
 
 // Of NEW, its beginning, the making and the storing; of `p.x := 3` its beginning, the read of `p` and the storing; and of Out.Int,
 // behind the reads of `p` and of what it leads to, the call, which is the eleventh step with that which takes the activity.
+const STEPS: &str = "\
+workers 1;budget 100;s 0 10
+= M.Mod
+MODULE M; IMPORT Out; VAR p: POINTER TO RECORD x: LONGINT END; BEGIN NEW(p); p.x := 3; Out.Int(p.x, 0) END M.
+! 9 script ended after 10 steps
+--
+workers 1;budget 100;s 0 11
+= M.Mod
+MODULE M; IMPORT Out; VAR p: POINTER TO RECORD x: LONGINT END; BEGIN NEW(p); p.x := 3; Out.Int(p.x, 0) END M.
+> 3
+! 9 script ended after 11 steps
+--
+workers 1;budget 100;s 0 13
+= M.Mod
+MODULE M; IMPORT Out; VAR p: POINTER TO RECORD x: LONGINT END; BEGIN NEW(p); p.x := 3; Out.Int(p.x, 0) END M.
+> 3";
+
 #[test]
 fn counts_steps_of_pointers(rt: HostRuntime) -> Result<(), Fail> {
-    let alloc = rt.alloc();
-    let text =
-        "MODULE M; IMPORT Out; VAR p: POINTER TO RECORD x: LONGINT END; BEGIN NEW(p); p.x := 3; Out.Int(p.x, 0) END M.";
-    for (steps, want) in [
-        (10, ("", "script ended after 10 steps\n", 9)),
-        (11, ("3", "script ended after 11 steps\n", 9)),
-        (13, ("3", "", 0)),
-    ] {
-        let script = format!(in alloc; "aos-script 1\nworkers 1\nbudget 100\ns 0 {steps}\nend\n")?;
-        expect_replay(&rt, alloc, (script.as_str(), text), want)?;
-    }
+    expect_transcripts(&rt, rt.alloc(), STEPS)?;
     Ok(())
 }

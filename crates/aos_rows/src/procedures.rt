@@ -1,7 +1,7 @@
 // Procedures and functions: calls, parameters of each kind, RETURN, recursion. Each row is what stands between a module's imports and
 // its end and what it prints, or where it traps or which rule it breaks.
-use crate::expressions::{expect_outputs, expect_refusals, expect_traps};
-use crate::rows::{expect_answer, expect_run, shelf_of};
+use crate::expressions::{expect_outputs, expect_refusals};
+use crate::rows::expect_rows;
 use std::test::Fail;
 
 const HEAD: &str = "MODULE M; IMPORT Out; ";
@@ -125,98 +125,75 @@ fn carries_calls_out(rt: HostRuntime) -> Result<(), Fail> {
 }
 
 // A called procedure's trap has the place of its own statement; that of an argument has the place of the call.
+const TRAPS: &str = "\
+i := F(1) =! 3 trap 10 0 activity 0 at M:3:7
+i := D(0) =! 3 trap 6 0 activity 0 at M:4:41
+i := O(a, 3) =! 3 trap 2 0 activity 0 at M:5:62
+i := F(D(0)) =! 3 trap 6 0 activity 0 at M:4:41
+V(a[F(0) + 2], 1) =! 3 trap 2 0 activity 0 at M:8:1
+V(a[2], 1 DIV a[0]) =! 3 trap 6 0 activity 0 at M:8:1
+V(a[3], 1 DIV a[0]) =! 3 trap 2 0 activity 0 at M:8:1
+T(t) =! 3 trap 15 0 activity 0 at M:6:103
+i := I(m, 2) + I(m, 3) =! 3 trap 2 0 activity 0 at M:6:195
+i := J(n, 2) + J(n, 3) =! 3 trap 2 0 activity 0 at M:6:195
+i := J(s, 2) =! 3 trap 2 0 activity 0 at M:6:195
+i := F(0) + F(0) * F(1 - 1); ASSERT(i = 3) =! 3 trap 7 0 activity 0 at M:8:30";
+
 #[test]
 fn traps_in_procedures(rt: HostRuntime) -> Result<(), Fail> {
-    let alloc = rt.alloc();
-    for (statement, err) in [
-        ("i := F(1)", "trap 10 0 activity 0 at M:3:7\n"),
-        ("i := D(0)", "trap 6 0 activity 0 at M:4:41\n"),
-        ("i := O(a, 3)", "trap 2 0 activity 0 at M:5:62\n"),
-        ("i := F(D(0))", "trap 6 0 activity 0 at M:4:41\n"),
-        ("V(a[F(0) + 2], 1)", "trap 2 0 activity 0 at M:8:1\n"),
-        ("V(a[2], 1 DIV a[0])", "trap 6 0 activity 0 at M:8:1\n"),
-        ("V(a[3], 1 DIV a[0])", "trap 2 0 activity 0 at M:8:1\n"),
-        ("T(t)", "trap 15 0 activity 0 at M:6:103\n"),
-        ("i := I(m, 2) + I(m, 3)", "trap 2 0 activity 0 at M:6:195\n"),
-        ("i := J(n, 2) + J(n, 3)", "trap 2 0 activity 0 at M:6:195\n"),
-        ("i := J(s, 2)", "trap 2 0 activity 0 at M:6:195\n"),
-        (
-            "i := F(0) + F(0) * F(1 - 1); ASSERT(i = 3)",
-            "trap 7 0 activity 0 at M:8:30\n",
-        ),
-    ] {
-        let text = format!(in alloc; "{DECLARED}{statement} END M.")?;
-        expect_run(&rt, alloc, text.as_str(), ("", err, 3))?;
-    }
+    expect_rows(&rt, rt.alloc(), &[], (DECLARED, " END M."), TRAPS)?;
     Ok(())
 }
 
 // 512 frames and no more, and 65,536 scalars in them and no more.
+const DEPTHS: &str = "\
+510
+511 =! 3 trap 11 0 activity 0 at M:3:15";
+
+const COPIES: &str = "\
+65534
+65535 =! 3 trap 11 0 activity 0 at M:3:1";
+
+const LOCALS: &str = "\
+65536
+65537 =! 3 trap 11 0 activity 0 at M:3:33";
+
 #[test]
 fn limits_frames(rt: HostRuntime) -> Result<(), Fail> {
     let alloc = rt.alloc();
-    for (depth, want) in [
-        (510, ("", "", 0)),
-        (511, ("", "trap 11 0 activity 0 at M:3:15\n", 3)),
-    ] {
-        let text = format!(in alloc;
-            "MODULE M;\nPROCEDURE P(n: LONGINT); BEGIN\nIF n > 0 THEN P(n - 1) END END P; BEGIN P({depth}) END M."
-        )?;
-        expect_run(&rt, alloc, text.as_str(), want)?;
-    }
-    for (length, want) in [
-        (65_534, ("", "", 0)),
-        (65_535, ("", "trap 11 0 activity 0 at M:3:1\n", 3)),
-    ] {
-        let text = format!(in alloc;
-            "MODULE M; VAR a: ARRAY {length} OF CHAR; PROCEDURE P(b: ARRAY OF CHAR); BEGIN END P; BEGIN\n\nP(a) END M."
-        )?;
-        expect_run(&rt, alloc, text.as_str(), want)?;
-    }
-    for (length, want) in [
-        (65_536, ("", "", 0)),
-        (65_537, ("", "trap 11 0 activity 0 at M:3:33\n", 3)),
-    ] {
-        let text = format!(in alloc;
-            "MODULE M; PROCEDURE P; VAR a: ARRAY {length} OF CHAR; BEGIN END P; VAR i: LONGINT; BEGIN\n\nFOR i := 1 TO 3 DO IF TRUE THEN P END END END M."
-        )?;
-        expect_run(&rt, alloc, text.as_str(), want)?;
-    }
+    let head =
+        "MODULE M;\nPROCEDURE P(n: LONGINT); BEGIN\nIF n > 0 THEN P(n - 1) END END P; BEGIN P(";
+    let end = ") END M.";
+    expect_rows(&rt, alloc, &[], (head, end), DEPTHS)?;
+    let head = "MODULE M; VAR a: ARRAY ";
+    let end = " OF CHAR; PROCEDURE P(b: ARRAY OF CHAR); BEGIN END P; BEGIN\n\nP(a) END M.";
+    expect_rows(&rt, alloc, &[], (head, end), COPIES)?;
+    let head = "MODULE M; PROCEDURE P; VAR a: ARRAY ";
+    let end =
+        " OF CHAR; BEGIN END P; VAR i: LONGINT; BEGIN\n\nFOR i := 1 TO 3 DO IF TRUE THEN P END END END M.";
+    expect_rows(&rt, alloc, &[], (head, end), LOCALS)?;
     Ok(())
 }
 
 // Procedures of another module, from its body too.
+const FIRST: &str =
+    "MODULE A; IMPORT Out; VAR n: LONGINT; PROCEDURE Add*(VAR x: LONGINT; y: LONGINT): LONGINT; BEGIN INC(n); x := x + y; RETURN n END Add; PROCEDURE Ends*(): LONGINT; BEGIN n := 9 END Ends; PROCEDURE Hidden; BEGIN END Hidden; PROCEDURE Show*; BEGIN Out.Int(n, 2) END Show; BEGIN Show END A.";
+
+const CALLS: &str = "\
+i := A.Add(i, 5) + A.Add(i, 1); Out.Int(i, 2); A.Show =>  0 3 2
+i := A.Ends() =>  0 =! 3 trap 10 0 activity 0 at A:1:170
+A.Show(1) =! 1 M.Mod:2:1: rule 34: number of arguments
+A.Add(i, 1) =! 1 M.Mod:2:1: rule 36: wrong call
+i := A.Show() =! 1 M.Mod:2:6: rule 36: wrong call
+A.Hidden =! 1 M.Mod:2:3: rule 15: name not exported";
+
 #[test]
 fn calls_procedures_of_other_modules(rt: HostRuntime) -> Result<(), Fail> {
-    let alloc = rt.alloc();
-    const FIRST: &str =
-        "MODULE A; IMPORT Out; VAR n: LONGINT; PROCEDURE Add*(VAR x: LONGINT; y: LONGINT): LONGINT; BEGIN INC(n); x := x + y; RETURN n END Add; PROCEDURE Ends*(): LONGINT; BEGIN n := 9 END Ends; PROCEDURE Hidden; BEGIN END Hidden; PROCEDURE Show*; BEGIN Out.Int(n, 2) END Show; BEGIN Show END A.";
-    for (body, want) in [
-        (
-            "i := A.Add(i, 5) + A.Add(i, 1); Out.Int(i, 2); A.Show",
-            (" 0 3 2", "", 0),
-        ),
-        (
-            "i := A.Ends()",
-            (" 0", "trap 10 0 activity 0 at A:1:170\n", 3),
-        ),
-        (
-            "A.Show(1)",
-            ("", "M.Mod:2:1: rule 34: number of arguments\n", 1),
-        ),
-        ("A.Add(i, 1)", ("", "M.Mod:2:1: rule 36: wrong call\n", 1)),
-        ("i := A.Show()", ("", "M.Mod:2:6: rule 36: wrong call\n", 1)),
-        (
-            "A.Hidden",
-            ("", "M.Mod:2:3: rule 15: name not exported\n", 1),
-        ),
-    ] {
-        let text = format!(in alloc;
-            "MODULE M; IMPORT A, Out; VAR i: LONGINT; BEGIN\n{body} END M."
-        )?;
-        let shelf = shelf_of(alloc, &[("M.Mod", text.as_str()), ("A.Mod", FIRST)], &[])?;
-        expect_answer(&rt, alloc, &["run", "M.Mod", "A.Mod"], shelf, want)?;
-    }
+    let around = (
+        "MODULE M; IMPORT A, Out; VAR i: LONGINT; BEGIN\n",
+        " END M.",
+    );
+    expect_rows(&rt, rt.alloc(), &[("A.Mod", FIRST)], around, CALLS)?;
     Ok(())
 }
 

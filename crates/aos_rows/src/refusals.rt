@@ -1,81 +1,37 @@
 // Each row is a text with the first rule that it breaks, and where.
-use crate::rows::expect_run;
+use crate::rows::{expect_rows, expect_run};
 use std::test::Fail;
+
+const REFUSED: &str = "\
+MODULE M; BEGIN ? END M. =! 1 M.Mod:1:17: rule 2: character not allowed
+MODULE M; (* a (* b *) END M. =! 1 M.Mod:1:11: rule 3: comment not closed
+MODULE M; BEGIN Out.String(\"ab =! 1 M.Mod:1:28: rule 4: string not closed
+MODULE M; CONST c = 9223372036854775808; END M. =! 1 M.Mod:1:21: rule 5: number too large
+MODULE M; BEGIN =! 1 M.Mod:1:16: rule 6: syntax
+MODULE M; IMPORT Out; BEGIN IF =! 1 M.Mod:1:31: rule 6: syntax
+MODULE M; END M. M =! 1 M.Mod:1:18: rule 6: syntax
+MODULE Out; END Out. =! 1 M.Mod:1:8: rule 11: module named Out
+MODULE M; IMPORT Out; BEGIN Out.Ln END N. =! 1 M.Mod:1:40: rule 12: end name differs
+MODULE M; VAR a, a: LONGINT; END M. =! 1 M.Mod:1:18: rule 13: name declared twice
+MODULE M; BEGIN a := 1 END M. =! 1 M.Mod:1:17: rule 14: unknown name
+MODULE M; VAR a: T; END M. =! 1 M.Mod:1:18: rule 14: unknown name
+MODULE M; VAR x: SET; PROCEDURE P; END P; BEGIN x := P END M. =! 1 M.Mod:1:51: rule 31: value doesn't fit
+MODULE M; BEGIN AWAIT(TRUE) END M. =! 1 M.Mod:1:17: rule 99: not built yet
+MODULE M; VAR a: LONGINT; BEGIN a := LEN(a) END M. =! 1 M.Mod:1:42: rule 35: argument type
+MODULE M; VAR a: LONGINT; BEGIN a[1] := 2 END M. =! 1 M.Mod:1:34: rule 42: wrong selector
+MODULE M; CONST c = 1; END N. =! 1 M.Mod:1:28: rule 12: end name differs";
 
 #[test]
 fn refuses_texts(rt: HostRuntime) -> Result<(), Fail> {
     let alloc = rt.alloc();
-    for (text, err) in [
-        (
-            "MODULE M; BEGIN ? END M.",
-            "M.Mod:1:17: rule 2: character not allowed\n",
-        ),
-        (
-            "MODULE M; (* a (* b *) END M.",
-            "M.Mod:1:11: rule 3: comment not closed\n",
-        ),
-        (
-            "MODULE M; BEGIN Out.String(\"ab",
-            "M.Mod:1:28: rule 4: string not closed\n",
-        ),
-        (
-            "MODULE M; CONST c = 9223372036854775808; END M.",
-            "M.Mod:1:21: rule 5: number too large\n",
-        ),
-        ("MODULE M; BEGIN", "M.Mod:1:16: rule 6: syntax\n"),
-        (
-            "MODULE M; IMPORT Out; BEGIN IF",
-            "M.Mod:1:31: rule 6: syntax\n",
-        ),
-        ("MODULE M; END M. M", "M.Mod:1:18: rule 6: syntax\n"),
-        (
-            "MODULE Out; END Out.",
-            "M.Mod:1:8: rule 11: module named Out\n",
-        ),
-        (
-            "MODULE M; IMPORT Out; BEGIN Out.Ln END N.",
-            "M.Mod:1:40: rule 12: end name differs\n",
-        ),
-        (
-            "MODULE M; VAR a, a: LONGINT; END M.",
-            "M.Mod:1:18: rule 13: name declared twice\n",
-        ),
-        (
-            "MODULE M; BEGIN a := 1 END M.",
-            "M.Mod:1:17: rule 14: unknown name\n",
-        ),
-        (
-            "MODULE M; VAR a: T; END M.",
-            "M.Mod:1:18: rule 14: unknown name\n",
-        ),
-        (
-            "MODULE M; VAR x: SET; PROCEDURE P; END P; BEGIN x := P END M.",
-            "M.Mod:1:51: rule 31: value doesn't fit\n",
-        ),
-        (
-            "MODULE M; BEGIN AWAIT(TRUE) END M.",
-            "M.Mod:1:17: rule 99: not built yet\n",
-        ),
-        (
-            "MODULE M; VAR a: LONGINT; BEGIN a := LEN(a) END M.",
-            "M.Mod:1:42: rule 35: argument type\n",
-        ),
-        (
-            "MODULE M; VAR a: LONGINT; BEGIN a[1] := 2 END M.",
-            "M.Mod:1:34: rule 42: wrong selector\n",
-        ),
-        (
-            "MODULE M;\nVAR a: OBJECT END;\nEND M.",
-            "M.Mod:2:8: rule 99: not built yet\n",
-        ),
-        (
-            "MODULE M; CONST c = 1; END N.",
-            "M.Mod:1:28: rule 12: end name differs\n",
-        ),
-    ] {
-        expect_run(&rt, alloc, text, ("", err, 1))?;
-    }
-
+    expect_rows(&rt, alloc, &[], ("", ""), REFUSED)?;
+    let text = "MODULE M;\nVAR a: OBJECT END;\nEND M.";
+    expect_run(
+        &rt,
+        alloc,
+        text,
+        ("", "M.Mod:2:8: rule 99: not built yet\n", 1),
+    )?;
     // The number inside 99 brackets stands in 201 productions: a Stat, and 100 times Expr and Factor.
     let mut deep = String::from_str(alloc, "MODULE M; VAR x: LONGINT; BEGIN x := ")?;
     for _ in 0..99 {

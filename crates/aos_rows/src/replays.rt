@@ -1,71 +1,79 @@
 // Each row is a script and a text, with what replaying the text by the script writes, and the
 // status.
-use crate::rows::{SEVEN, expect_replay};
+use crate::rows::{SEVEN, expect_replay, expect_transcripts};
 use std::alloc::{AllocError, Global};
 use std::test::Fail;
 
-// Two activities add 1 to one variable.
-const LOST: &str = "MODULE L;\nIMPORT Out;\nTYPE A = OBJECT BEGIN {ACTIVE} x := x + 1 END A;\n\
-    VAR x: LONGINT; a, b: A;\nBEGIN\n  NEW(a); NEW(b); Out.Int(x, 0); Out.Ln\nEND L.\n";
-
 const LINE: &str = "MODULE M; IMPORT Out; BEGIN Out.Ln END M.";
+
+// Dispatch, the statement begins, output, the body ends, the activity ends. None of two additions is lost, and then one is. Idle steps
+// change nothing, however many they are. At last a smaller budget.
+const REPLAYS: &str = "\
+workers 1;budget 1000000;s 0 5
+= M.Mod
+MODULE M; IMPORT Out; BEGIN Out.Ln END M.
+> 
+
+--
+workers 1;budget 1000000;s 0 4
+= M.Mod
+MODULE M; IMPORT Out; BEGIN Out.Ln END M.
+> 
+
+! 9 script ended after 4 steps
+--
+workers 1;budget 1000000;s 0 3
+= M.Mod
+MODULE M; END M.
+--
+workers 1;budget 1000000;s 0 2
+= M.Mod
+MODULE M; END M.
+! 9 script ended after 2 steps
+--
+workers 3;budget 1000000;s 0 9;s 1 6;s 2 6;s 0 7
+= M.Mod
+MODULE L;
+IMPORT Out;
+TYPE A = OBJECT BEGIN {ACTIVE} x := x + 1 END A;
+VAR x: LONGINT; a, b: A;
+BEGIN
+  NEW(a); NEW(b); Out.Int(x, 0); Out.Ln
+END L.
+> 2
+
+--
+workers 3;budget 1000000;s 0 9;s 1 3;s 2 6;s 1 3;s 0 7
+= M.Mod
+MODULE L;
+IMPORT Out;
+TYPE A = OBJECT BEGIN {ACTIVE} x := x + 1 END A;
+VAR x: LONGINT; a, b: A;
+BEGIN
+  NEW(a); NEW(b); Out.Int(x, 0); Out.Ln
+END L.
+> 1
+
+--
+workers 2;budget 1000000;s 0 1;s 1 1000000000;s 0 100
+= M.Mod
+MODULE M; IMPORT Out; BEGIN Out.Int(7, 3); Out.Ln END M.
+>   7
+
+--
+workers 1;budget 2;s 0 100
+= M.Mod
+MODULE M; IMPORT Out; BEGIN Out.Int(7, 3); Out.Ln END M.
+>   7
+! 5 activity 0 began 2 statements";
 
 #[test]
 fn replays(rt: HostRuntime) -> Result<(), Fail> {
-    for (script, text, want) in [
-        // dispatch, the statement begins, output, the body ends, the activity ends
-        (
-            "aos-script 1\nworkers 1\nbudget 1000000\ns 0 5\nend\n",
-            LINE,
-            ("\n", "", 0),
-        ),
-        (
-            "aos-script 1\nworkers 1\nbudget 1000000\ns 0 4\nend\n",
-            LINE,
-            ("\n", "script ended after 4 steps\n", 9),
-        ),
-        (
-            "aos-script 1\nworkers 1\nbudget 1000000\ns 0 3\nend\n",
-            "MODULE M; END M.",
-            ("", "", 0),
-        ),
-        (
-            "aos-script 1\nworkers 1\nbudget 1000000\ns 0 2\nend\n",
-            "MODULE M; END M.",
-            ("", "script ended after 2 steps\n", 9),
-        ),
-        // none lost, and one lost
-        (
-            "aos-script 1\nworkers 3\nbudget 1000000\ns 0 9\ns 1 6\ns 2 6\ns 0 7\nend\n",
-            LOST,
-            ("2\n", "", 0),
-        ),
-        (
-            "aos-script 1\nworkers 3\nbudget 1000000\ns 0 9\ns 1 3\ns 2 6\ns 1 3\ns 0 7\nend\n",
-            LOST,
-            ("1\n", "", 0),
-        ),
-        // idle steps, which change nothing, however many
-        (
-            "aos-script 1\nworkers 2\nbudget 1000000\ns 0 1\ns 1 1000000000\ns 0 100\nend\n",
-            SEVEN,
-            ("  7\n", "", 0),
-        ),
-        // a smaller budget
-        (
-            "aos-script 1\nworkers 1\nbudget 2\ns 0 100\nend\n",
-            SEVEN,
-            ("  7", "activity 0 began 2 statements\n", 5),
-        ),
-        // the last line may lack its end
-        (
-            "aos-script 1\nworkers 1\nbudget 1000000\ns 0 5\nend",
-            LINE,
-            ("\n", "", 0),
-        ),
-    ] {
-        expect_replay(&rt, rt.alloc(), (script, text), want)?;
-    }
+    let alloc = rt.alloc();
+    expect_transcripts(&rt, alloc, REPLAYS)?;
+    // the last line may lack its end
+    let script = "aos-script 1\nworkers 1\nbudget 1000000\ns 0 5\nend";
+    expect_replay(&rt, alloc, (script, LINE), ("\n", "", 0))?;
     Ok(())
 }
 

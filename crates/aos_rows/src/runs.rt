@@ -1,56 +1,68 @@
 // Each row is a command line over one file in memory, with what the two sinks get and the status.
-use crate::rows::{REPLAY, ROOM, SEVEN, expect_answer, expect_run, owned, shelf_of};
+use crate::rows::{
+    REPLAY, ROOM, SEVEN, expect_answer, expect_run, expect_transcripts, owned, shelf_of,
+};
 use aos::aos;
 use aos_dev::{MemShelf, MemSink};
 use std::alloc::{AllocError, Global};
 use std::test::Fail;
 
+// A variable that was never assigned is 0; three loops, one in the other; the smallest value; one more than the greatest value, and one
+// less than the smallest.
+const RUNS: &str = "\
+run
+= M.Mod
+MODULE M; IMPORT Out; BEGIN Out.Int(7, 3); Out.Ln END M.
+>   7
+
+--
+run
+= M.Mod
+MODULE M; IMPORT Out; VAR i, s: LONGINT; BEGIN i := 1; WHILE i < 11 DO s := s + i; i := i + 1 END; Out.Int(s, 4); Out.Ln END M.
+>   55
+
+--
+run
+= M.Mod
+MODULE M; IMPORT Out; VAR a, b: LONGINT; BEGIN a := 40; a := a + 1 + 1; Out.Int(a, 0); Out.Int(b, 2) END M.
+> 42 0
+--
+run
+= M.Mod
+MODULE M; IMPORT Out; VAR i, j, k, n: LONGINT; BEGIN WHILE i < 2 DO j := 0; WHILE j < 2 DO k := 0; WHILE k < 2 DO n := n + 1; k := k + 1 END; j := j + 1 END; i := i + 1 END; Out.Int(n, 0); Out.Ln END M.
+> 8
+
+--
+run
+= M.Mod
+MODULE M; IMPORT Out; VAR i: LONGINT; BEGIN i := i - 2147483647; i := i - 1; Out.Int(i, 0) END M.
+> -2147483648
+--
+run
+= M.Mod
+MODULE M;
+IMPORT Out;
+VAR i: LONGINT;
+BEGIN
+  i := 2147483647;
+  i := i + 1
+END M.
+! 3 trap 5 0 activity 0 at M:6:3
+--
+run
+= M.Mod
+MODULE M;
+IMPORT Out;
+VAR i: LONGINT;
+BEGIN
+  i := i - 2147483647;
+  i := i - 2
+END M.
+! 3 trap 5 0 activity 0 at M:6:3";
+
 #[test]
 fn runs(rt: HostRuntime) -> Result<(), Fail> {
-    for (text, want) in [
-        (SEVEN, ("  7\n", "", 0)),
-        (
-            "MODULE M; IMPORT Out; VAR i, s: LONGINT; BEGIN i := 1; \
-             WHILE i < 11 DO s := s + i; i := i + 1 END; Out.Int(s, 4); Out.Ln END M.",
-            ("  55\n", "", 0),
-        ),
-        // a variable that was never assigned is 0
-        (
-            "MODULE M; IMPORT Out; VAR a, b: LONGINT; BEGIN a := 40; a := a + 1 + 1; \
-             Out.Int(a, 0); Out.Int(b, 2) END M.",
-            ("42 0", "", 0),
-        ),
-        // three loops, one in the other
-        (
-            "MODULE M; IMPORT Out; VAR i, j, k, n: LONGINT; BEGIN \
-             WHILE i < 2 DO j := 0; \
-             WHILE j < 2 DO k := 0; \
-             WHILE k < 2 DO n := n + 1; k := k + 1 END; \
-             j := j + 1 END; \
-             i := i + 1 END; \
-             Out.Int(n, 0); Out.Ln END M.",
-            ("8\n", "", 0),
-        ),
-        // the smallest value
-        (
-            "MODULE M; IMPORT Out; VAR i: LONGINT; BEGIN \
-             i := i - 2147483647; i := i - 1; Out.Int(i, 0) END M.",
-            ("-2147483648", "", 0),
-        ),
-        // one more than the greatest value, and one less than the smallest
-        (
-            "MODULE M;\nIMPORT Out;\nVAR i: LONGINT;\n\
-             BEGIN\n  i := 2147483647;\n  i := i + 1\nEND M.\n",
-            ("", "trap 5 0 activity 0 at M:6:3\n", 3),
-        ),
-        (
-            "MODULE M;\nIMPORT Out;\nVAR i: LONGINT;\n\
-             BEGIN\n  i := i - 2147483647;\n  i := i - 2\nEND M.\n",
-            ("", "trap 5 0 activity 0 at M:6:3\n", 3),
-        ),
-    ] {
-        expect_run(&rt, rt.alloc(), text, want)?;
-    }
+    expect_transcripts(&rt, rt.alloc(), RUNS)?;
     Ok(())
 }
 

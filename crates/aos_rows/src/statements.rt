@@ -1,7 +1,7 @@
 // Statements: IF, CASE, the loops, blocks, ASSERT and HALT, and INC, DEC, INCL and EXCL. Each row is what a module does and what it
 // prints, how many statements it begins, a statement with its trap, or one with the first rule that it breaks.
-use crate::expressions::{expect_outputs, expect_refusals, expect_traps};
-use crate::rows::{expect_replay, expect_run};
+use crate::expressions::{expect_outputs, expect_refusals, expect_traps, parted};
+use crate::rows::{expect_replay, expect_rows, expect_run};
 use aos_base::NoMemory;
 use std::alloc::{AllocError, Global};
 use std::process::Abort;
@@ -48,30 +48,29 @@ INC(i); INC(i, 5); DEC(i); DEC(i, -2); Out.Int(i, 0); INC(a[2], i); DEC(a[i - 5]
 INCL(s, 3); INCL(s, 31); EXCL(s, 3); EXCL(s, 0); n := 0; WHILE n < 32 DO IF n IN s THEN Out.Int(n, 3) END; INC(n) END =>  31";
 
 // Programs, and how many statements they begin.
-const BEGUN: [(&str, u32); 22] = [
-    ("IF b THEN i := 1 END", 1),
-    ("IF ~b THEN i := 1 END", 2),
-    ("IF b THEN ELSIF ~b THEN i := 1; i := 2 ELSE END", 3),
-    ("WHILE i < 3 DO i := i + 1 END", 7),
-    ("REPEAT i := i + 1 UNTIL i = 3", 6),
-    ("REPEAT UNTIL TRUE", 1),
-    ("LOOP i := i + 1; IF i = 3 THEN EXIT END END", 10),
-    ("LOOP EXIT END", 2),
-    ("FOR i := 1 TO 3 DO END", 9),
-    ("FOR i := 1 TO 3 DO n := i END", 12),
-    ("FOR i := 3 TO 1 DO n := i END", 3),
-    ("FOR i := 1 TO 2 DO FOR n := 1 TO 1 DO END END", 17),
-    ("CASE i OF 0: i := 5 | 5: i := 6 END", 2),
-    ("CASE i OF 1: ELSE i := 5; i := 6 END", 3),
-    ("BEGIN i := 1 END", 2),
-    ("BEGIN END", 1),
-    ("ASSERT(TRUE)", 1),
-    ("INC(i); DEC(i, 2)", 2),
-    ("INCL(s, 3); EXCL(s, 3)", 2),
-    (";;", 0),
-    ("i := 1;", 1),
-    ("LOOP LOOP EXIT END; EXIT END", 4),
-];
+const BEGUN: &str = "\
+IF b THEN i := 1 END => 1
+IF ~b THEN i := 1 END => 2
+IF b THEN ELSIF ~b THEN i := 1; i := 2 ELSE END => 3
+WHILE i < 3 DO i := i + 1 END => 7
+REPEAT i := i + 1 UNTIL i = 3 => 6
+REPEAT UNTIL TRUE => 1
+LOOP i := i + 1; IF i = 3 THEN EXIT END END => 10
+LOOP EXIT END => 2
+FOR i := 1 TO 3 DO END => 9
+FOR i := 1 TO 3 DO n := i END => 12
+FOR i := 3 TO 1 DO n := i END => 3
+FOR i := 1 TO 2 DO FOR n := 1 TO 1 DO END END => 17
+CASE i OF 0: i := 5 | 5: i := 6 END => 2
+CASE i OF 1: ELSE i := 5; i := 6 END => 3
+BEGIN i := 1 END => 2
+BEGIN END => 1
+ASSERT(TRUE) => 1
+INC(i); DEC(i, 2) => 2
+INCL(s, 3); EXCL(s, 3) => 2
+;; => 0
+i := 1; => 1
+LOOP LOOP EXIT END; EXIT END => 4";
 
 const DECLARED: &str = "\
 MODULE M; IMPORT Out;
@@ -172,7 +171,7 @@ INCL(i, 1) => 6: rule 35: argument type
 EXCL(s, b) => 9: rule 35: argument type
 EXCL({1}, 1) => 6: rule 32: not a variable
 i := INC(i) => 6: rule 36: wrong call
-BEGIN {EXCLUSIVE} END => 8: rule 99: not built yet
+BEGIN {EXCLUSIVE, SAFE} END => 19: rule 99: not built yet
 RETURN 1 => 1: rule 40: wrong RETURN";
 
 #[test]
@@ -184,7 +183,9 @@ fn carries_statements_out(rt: HostRuntime) -> Result<(), Fail> {
 #[test]
 fn counts_statements(rt: HostRuntime) -> Result<(), Fail> {
     let alloc = rt.alloc();
-    for (body, begun) in BEGUN {
+    for row in BEGUN.lines() {
+        let (body, begun) = parted(row);
+        let begun = begun.parse::<u32>().unwrap_or(0);
         let text = format!(in alloc;
             "MODULE M; VAR i, n: LONGINT; b: BOOLEAN; s: SET; BEGIN {body} END M."
         )?;
@@ -205,32 +206,27 @@ fn counts_statements(rt: HostRuntime) -> Result<(), Fail> {
     Ok(())
 }
 
+const CODES: &str = "\
+ASSERT(i = 1) =! 3 trap 7 0 activity 0 at M:2:1
+ASSERT(i = 1, 200) =! 3 trap 7 200 activity 0 at M:2:1
+HALT(0) =! 3 trap 8 0 activity 0 at M:2:1
+HALT(255) =! 3 trap 8 255 activity 0 at M:2:1
+FOR k := 126 TO MAX(SHORTINT) DO Out.Int(k, 4) END =>  126 127 =! 3 trap 5 0 activity 0 at M:2:1";
+
 #[test]
 fn traps_in_statements(rt: HostRuntime) -> Result<(), Fail> {
     let alloc = rt.alloc();
     expect_traps(&rt, alloc, DECLARED, TRAPS, 5)?;
-    for (body, want) in [
-        ("ASSERT(i = 1)", ("", "trap 7 0 activity 0 at M:2:1\n", 3)),
-        (
-            "ASSERT(i = 1, 200)",
-            ("", "trap 7 200 activity 0 at M:2:1\n", 3),
-        ),
-        ("HALT(0)", ("", "trap 8 0 activity 0 at M:2:1\n", 3)),
-        ("HALT(255)", ("", "trap 8 255 activity 0 at M:2:1\n", 3)),
-        (
-            "FOR k := 126 TO MAX(SHORTINT) DO Out.Int(k, 4) END",
-            (" 126 127", "trap 5 0 activity 0 at M:2:1\n", 3),
-        ),
-        (
-            "REPEAT i := i + 1;\n Out.Int(i, 2)\nUNTIL 6 DIV (3 - i) = 7",
-            (" 1 2 3", "trap 6 0 activity 0 at M:3:2\n", 3),
-        ),
-    ] {
-        let text = format!(in alloc;
-            "MODULE M; IMPORT Out; VAR i: LONGINT; k: SHORTINT; BEGIN\n{body} END M."
-        )?;
-        expect_run(&rt, alloc, text.as_str(), want)?;
-    }
+    let head = "MODULE M; IMPORT Out; VAR i: LONGINT; k: SHORTINT; BEGIN\n";
+    expect_rows(&rt, alloc, &[], (head, " END M."), CODES)?;
+    let text =
+        "MODULE M; IMPORT Out; VAR i: LONGINT; k: SHORTINT; BEGIN\nREPEAT i := i + 1;\n Out.Int(i, 2)\nUNTIL 6 DIV (3 - i) = 7 END M.";
+    expect_run(
+        &rt,
+        alloc,
+        text,
+        (" 1 2 3", "trap 6 0 activity 0 at M:3:2\n", 3),
+    )?;
     Ok(())
 }
 

@@ -2,7 +2,7 @@
 // module's declarations and statements with what they print, a relation that holds, a statement with its trap, or one with the
 // first rule that it breaks.
 use crate::expressions::{expect_outputs, expect_refusals, expect_traps};
-use crate::rows::{expect_answer, expect_replay, shelf_of};
+use crate::rows::{expect_rows, expect_steps};
 use std::test::Fail;
 
 const LINES: &str = "MODULE M; IMPORT Out;\n";
@@ -185,43 +185,24 @@ const BEFORE: &str = "CONST s* = \"text\"; c* = \"q\"; h = \"no\"; less* = s < \
     VAR own: LONGINT; a*: ARRAY 6 OF CHAR; b-: ARRAY 6 OF CHAR; BEGIN b := \"fixed\"; own := 1";
 
 // What a module that imports it does, and what comes of it.
-const IMPORTS: [(&str, (&str, &str, u8)); 5] = [
-    (
-        "BEGIN B.a := B.s; Out.String(B.a); Out.String(B.b); Out.String(B.s); Out.Char(B.c); \
-         Out.String(B.c); Out.Int(LEN(B.b), 2)",
-        ("textfixedtextqq 6", "", 0),
-    ),
-    (
-        "CONST t = B.s; VAR a: ARRAY 9 OF CHAR; BEGIN COPY(t, a); a[0] := CAP(a[0]); Out.String(a); \
-         WHILE (a # B.s) & (t = \"text\") & ~B.less DO Out.String(\"!\"); a := t END",
-        ("Text!", "", 0),
-    ),
-    (
-        "BEGIN B.b := \"x\"",
-        ("", "A.Mod:1:32: rule 33: read only\n", 1),
-    ),
-    (
-        "BEGIN COPY(\"x\", B.b)",
-        ("", "A.Mod:1:42: rule 33: read only\n", 1),
-    ),
-    (
-        "BEGIN Out.String(B.h)",
-        ("", "A.Mod:1:45: rule 15: name not exported\n", 1),
-    ),
-];
+const IMPORTS: &str = "\
+BEGIN B.a := B.s; Out.String(B.a); Out.String(B.b); Out.String(B.s); Out.Char(B.c); Out.String(B.c); Out.Int(LEN(B.b), 2) => textfixedtextqq 6
+CONST t = B.s; VAR a: ARRAY 9 OF CHAR; BEGIN COPY(t, a); a[0] := CAP(a[0]); Out.String(a); WHILE (a # B.s) & (t = \"text\") & ~B.less DO Out.String(\"!\"); a := t END => Text!
+BEGIN B.b := \"x\" =! 1 M.Mod:1:32: rule 33: read only
+BEGIN COPY(\"x\", B.b) =! 1 M.Mod:1:42: rule 33: read only
+BEGIN Out.String(B.h) =! 1 M.Mod:1:45: rule 15: name not exported";
 
-// Each statement with the number of steps that its module takes: dispatch, the statement begins, its other visible work, the
+// Each statement with one step too few, and the number of steps that its module takes: dispatch, the statement begins, its other visible work, the
 // body ends, the activity ends.
-const STEPS: [(&str, u32); 8] = [
-    ("a := \"abc\"", 5),
-    ("COPY(\"abcdefgh\", a)", 5),
-    ("COPY(b, a)", 5),
-    ("p := a = \"abc\"", 6),
-    ("p := a < b", 6),
-    ("p := \"abc\" < \"abd\"", 5),
-    ("i := LEN(a)", 5),
-    ("i := LEN(m[i])", 6),
-];
+const STEPS: &str = "\
+a := \"abc\" => 4 | 5
+COPY(\"abcdefgh\", a) => 4 | 5
+COPY(b, a) => 4 | 5
+p := a = \"abc\" => 5 | 6
+p := a < b => 5 | 6
+p := \"abc\" < \"abd\" => 4 | 5
+i := LEN(a) => 4 | 5
+i := LEN(m[i]) => 5 | 6";
 
 #[test]
 fn writes_and_stores_texts(rt: HostRuntime) -> Result<(), Fail> {
@@ -252,34 +233,15 @@ fn refuses_texts(rt: HostRuntime) -> Result<(), Fail> {
 fn names_texts_of_other_modules(rt: HostRuntime) -> Result<(), Fail> {
     let alloc = rt.alloc();
     let b = format!(in alloc; "MODULE B; {BEFORE} END B.")?;
-    for (own, want) in IMPORTS {
-        let a = format!(in alloc; "MODULE A; IMPORT B, Out; {own} END A.")?;
-        let files = [("A.Mod", a.as_str()), ("B.Mod", b.as_str())];
-        let words = ["run", "A.Mod", "B.Mod"];
-        expect_answer(&rt, alloc, &words, shelf_of(alloc, &files, &[])?, want)?;
-    }
+    let around = ("MODULE A; IMPORT B, Out; ", " END A.");
+    expect_rows(&rt, alloc, &[("B.Mod", b.as_str())], around, IMPORTS)?;
     Ok(())
 }
 
 #[test]
 fn takes_one_turn_for_a_text(rt: HostRuntime) -> Result<(), Fail> {
-    let alloc = rt.alloc();
-    for (statement, steps) in STEPS {
-        let text = format!(in alloc;
-            "MODULE M; VAR a, b: ARRAY 4 OF CHAR; m: ARRAY 1, 2 OF CHAR; i: LONGINT; p: BOOLEAN; \
-             BEGIN {statement} END M."
-        )?;
-        let most = steps - 1;
-        let script = format!(in alloc; "aos-script 1\nworkers 1\nbudget 9\ns 0 {steps}\nend\n")?;
-        expect_replay(&rt, alloc, (script.as_str(), text.as_str()), ("", "", 0))?;
-        let script = format!(in alloc; "aos-script 1\nworkers 1\nbudget 9\ns 0 {most}\nend\n")?;
-        let err = format!(in alloc; "script ended after {most} steps\n")?;
-        expect_replay(
-            &rt,
-            alloc,
-            (script.as_str(), text.as_str()),
-            ("", err.as_str(), 9),
-        )?;
-    }
+    let lines =
+        "MODULE M; VAR a, b: ARRAY 4 OF CHAR; m: ARRAY 1, 2 OF CHAR; i: LONGINT; p: BOOLEAN; BEGIN ";
+    expect_steps(&rt, rt.alloc(), lines, STEPS)?;
     Ok(())
 }

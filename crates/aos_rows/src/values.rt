@@ -1,8 +1,10 @@
 // Procedure types, and procedures and methods as values. Each row is what stands between a module's imports and its end and what it
 // prints, or where it traps or which rule it breaks.
-use crate::expressions::{expect_outputs, expect_refusals, expect_traps, parted};
-use crate::rows::{expect_answer, shelf_of};
+use crate::expressions::{expect_outputs, expect_refusals, expect_traps};
+use crate::rows::expect_rows;
 use std::test::Fail;
+
+const OTHERS: &[(&str, &str)] = &[("A.Mod", FIRST)];
 
 // Values that are called, compared and handed on.
 const OUTPUTS: &str = "\
@@ -202,16 +204,16 @@ TYPE U = OBJECT (A.T) END U; G = PROCEDURE (x: LONGINT): LONGINT; VAR t: A.T; u:
 
 // What it may not do.
 const OUTSIDE: &str = "\
-VAR t: A.T; BEGIN t.Init(1, NIL) => 21: rule 15: name not exported
-VAR t: A.T; g: A.F; BEGIN g := t.Own => 34: rule 15: name not exported
-BEGIN A.w := NIL => 7: rule 33: read only
-BEGIN A.w(1) => 7: rule 36: wrong call
-BEGIN A.Two := NIL => 7: rule 32: not a variable
-VAR t: A.T; BEGIN NEW(t, 1) => 19: rule 34: number of arguments
-VAR t: A.T; BEGIN NEW(t, 1, A.p) => 29: rule 35: argument type
-VAR i: LONGINT; BEGIN i := A.Two => 25: rule 31: value doesn't fit
-BEGIN A.Two => 7: rule 36: wrong call
-BEGIN A.p := A.Two => 11: rule 31: value doesn't fit";
+VAR t: A.T; BEGIN t.Init(1, NIL) =! 1 M.Mod:2:21: rule 15: name not exported
+VAR t: A.T; g: A.F; BEGIN g := t.Own =! 1 M.Mod:2:34: rule 15: name not exported
+BEGIN A.w := NIL =! 1 M.Mod:2:7: rule 33: read only
+BEGIN A.w(1) =! 1 M.Mod:2:7: rule 36: wrong call
+BEGIN A.Two := NIL =! 1 M.Mod:2:7: rule 32: not a variable
+VAR t: A.T; BEGIN NEW(t, 1) =! 1 M.Mod:2:19: rule 34: number of arguments
+VAR t: A.T; BEGIN NEW(t, 1, A.p) =! 1 M.Mod:2:29: rule 35: argument type
+VAR i: LONGINT; BEGIN i := A.Two =! 1 M.Mod:2:25: rule 31: value doesn't fit
+BEGIN A.Two =! 1 M.Mod:2:7: rule 36: wrong call
+BEGIN A.p := A.Two =! 1 M.Mod:2:11: rule 31: value doesn't fit";
 
 #[test]
 fn carries_procedures_as_values(rt: HostRuntime) -> Result<(), Fail> {
@@ -226,19 +228,8 @@ fn carries_procedures_as_values(rt: HostRuntime) -> Result<(), Fail> {
 #[test]
 fn hands_procedures_to_other_modules(rt: HostRuntime) -> Result<(), Fail> {
     let alloc = rt.alloc();
-    let words = ["run", "M.Mod", "A.Mod"];
-    for (table, status) in [(SECOND, 0), (OUTSIDE, 1)] {
-        for row in table.lines() {
-            let (part, want) = parted(row);
-            let text = format!(in alloc; "MODULE M; IMPORT A, Out;\n{part} END M.")?;
-            let shelf = shelf_of(alloc, &[("M.Mod", text.as_str()), ("A.Mod", FIRST)], &[])?;
-            if status == 0 {
-                expect_answer(&rt, alloc, &words, shelf, (want, "", 0))?;
-            } else {
-                let err = format!(in alloc; "M.Mod:2:{want}\n")?;
-                expect_answer(&rt, alloc, &words, shelf, ("", err.as_str(), 1))?;
-            }
-        }
-    }
+    let around = ("MODULE M; IMPORT A, Out;\n", " END M.");
+    expect_rows(&rt, alloc, OTHERS, around, SECOND)?;
+    expect_rows(&rt, alloc, OTHERS, around, OUTSIDE)?;
     Ok(())
 }
