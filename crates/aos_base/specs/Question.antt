@@ -50,6 +50,7 @@ pub data Ask (P V K C : Type 0) : Type 0 where
   Starts : (object : V) → Ask P V K C  -- the activity of an object
   Enters : Ask P V K C  -- the region of the frame's lock, that of the object or of the module in which its text stands
   Leaves : Ask P V K C  -- the end of that region
+  Awaits : (condition : ℕ) → Ask P V K C  -- a condition of the program, by its number
   PutsInt : (value places : V) → Ask P V K C
   PutsChar : (code : V) → Ask P V K C
   PutsString : (from : P) → (length : V) → Ask P V K C

@@ -1,6 +1,6 @@
 -- An image as a machine: its memory, its frames, and the turns of an activity.
-use Rattle.std.specs.Prelude.{ℕ, zero, suc, ℤ, pos, negsuc, ◌+◌, List, [], ◌∷◌, ◌++◌, length, take, drop, Bool, true, false, Option, Some, None, map, sum_by, nat_lt, nat_eq, if◌then◌else◌, is_some, option_and_then, option_map}
-use Rattle.std.specs.List.{flat_map}
+use Rattle.std.specs.Prelude.{ℕ, zero, suc, ℤ, pos, negsuc, ◌+◌, List, [], ◌∷◌, ◌++◌, length, take, drop, Bool, true, false, Option, Some, None, map, sum_by, nat_lt, nat_eq, if◌then◌else◌, is_some, option_and_then, option_map, slice_get}
+use Rattle.std.specs.List.{flat_map, list_all}
 use Rattle.aos_base.specs.declared.text.Pos.{Pos}
 use Rattle.aos_base.specs.declared.number.Relation.{Relation}
 use Rattle.aos_base.specs.declared.place.Root.{Root}
@@ -9,19 +9,21 @@ use Rattle.aos_base.specs.declared.kernel.Did.{Did}
 use Rattle.aos_base.specs.declared.kernel.Did.TheVariants.{Went, Ended as NoFrame, Enter, Leave, Await, Start, Trapped}
 use Rattle.aos_base.specs.declared.kernel.LockName.{LockName}
 use Rattle.aos_base.specs.declared.kernel.LockName.TheVariants.{Module as ModuleLock, Object as ObjectLock}
-use Rattle.aos_base.specs.declared.kernel.Verdict.TheVariants.{Fails as NeverHolds}
+use Rattle.aos_base.specs.declared.kernel.Verdict.{Verdict}
+use Rattle.aos_base.specs.declared.kernel.Verdict.TheVariants.{Holds, Fails as HoldsNot, Traps}
 use Rattle.aos_base.specs.Number.{places_of, justified, holds, array_lengths}
 use Rattle.aos_base.specs.Operators.{natural, flag}
 use Rattle.aos_base.specs.Text.{order, ended_within, cut_within}
 use Rattle.aos_base.specs.Book.{Where}
 use Rattle.aos_base.specs.Machine.{Turn, Machine, State, start_of}
 use Rattle.aos_base.specs.Rooted.{Made, Rooted, by_number, change_from_last, change_at, change_by_number, load, load_all, spliced}
-use Rattle.aos_base.specs.Question.{Reads, Stores, Copies, PutsText, ComparesTexts, Calls, Ends, Makes, Starts, Enters, Leaves, PutsInt, PutsChar, PutsString, PutsNothing, PutsLn, Places, Lengths, Opens, Sizes, Tests}
+use Rattle.aos_base.specs.Question.{Reads, Stores, Copies, PutsText, ComparesTexts, Calls, Ends, Makes, Starts, Enters, Leaves, Awaits, PutsInt, PutsChar, PutsString, PutsNothing, PutsLn, Places, Lengths, Opens, Sizes, Tests}
 use Rattle.aos_code.specs.declared.instr.Cell.{Cell}
 use Rattle.aos_code.specs.declared.instr.Cell.TheVariants.{Num, Ref, Call as CallCell, Place}
 use Rattle.aos_code.specs.declared.instr.Kind.{Kind}
 use Rattle.aos_code.specs.declared.instr.Kind.TheVariants.{N, R, C, A}
 use Rattle.aos_code.specs.declared.instr.Instr.{Instr}
+use Rattle.aos_code.specs.declared.instr.Instr.TheVariants as instr
 use Rattle.aos_code.specs.declared.image.ParamKind.{ParamKind}
 use Rattle.aos_code.specs.declared.image.ParamKind.TheVariants as param
 use Rattle.aos_code.specs.declared.image.Body.{Body}
@@ -30,7 +32,7 @@ use Rattle.aos_code.specs.declared.image.TypeDesc.{TypeDesc}
 use Rattle.aos_code.specs.declared.image.Image.{Image}
 use Rattle.aos_code.specs.Numbered.{numbered}
 use Rattle.aos_code.specs.Memory.{Addr, Memory, type_of_object, with_object, new_number, has_room}
-use Rattle.aos_code.specs.Silent.{Here, Stack, Keeps, Question, Begins, Fails, Stop, Work, Ended, is_of, cells_of, silent}
+use Rattle.aos_code.specs.Silent.{Here, Stack, Keeps, Question, Begins, Fails, Decides, Stop, Work, Ended, is_of, cells_of, silent}
 
 -- a frame: its procedure, the object whose method or body it is, 0 for none, the place of the next instruction, the statement last
 -- begun, its cells and how many of them count as scalars, what it keeps, and its operands
@@ -205,6 +207,11 @@ module _ (following : List ℕ) where
   starts (Ref (suc o)) at k s f fs mem = leaves (Start (suc o)) (before at k (Ref (suc o) ∷ s) f ∷ fs) mem
   starts v at k s f fs mem = leaves (Trapped 16 0) (f ∷ fs) mem
 
+  -- a frame whose region is open leaves it to the kernel whether it goes on
+  abbrev pub awaits : (is_open : Bool) → LockName → (condition : ℕ) → ℕ → Keeps → Stack → Frame → List Frame → Memory → Turned
+  awaits true l c at k s f fs mem = leaves (Await l c) (before at k s f ∷ fs) mem
+  awaits false l c at k s f fs mem = goes_on (behind at k s f ∷ fs) mem
+
   -- Texts: the characters before the first 0X, or all where there is none.
 
   abbrev pub character_then : Option ℕ → Option (List ℕ) → Option (List ℕ)
@@ -351,6 +358,7 @@ module _ (following : List ℕ) where
     answer (Starts v) at k s f fs mem = starts v at k s f fs mem
     answer Enters at k s f fs mem = leaves (Enter (lock_in (numbered shapes f.procedure) f)) (before at k s f ∷ fs) mem
     answer Leaves at k s f fs mem = leaves (Leave (lock_in (numbered shapes f.procedure) f)) (before at k s f ∷ fs) mem
+    answer (Awaits c) at k s f fs mem = awaits f.is_open (lock_in (numbered shapes f.procedure) f) c at k s f fs mem
     answer (PutsInt v n) at k s f fs mem = prints (written v n) at k s f fs mem
     answer (PutsChar v) at k s f fs mem = writes_out (option_map (λ c. c ∷ []) (code_in v)) at k s f fs mem
     answer (PutsString a n) at k s f fs mem = writes_out (text_at a n (rooted (f ∷ fs) mem)) at k s f fs mem
@@ -374,6 +382,8 @@ module _ (following : List ℕ) where
           left = Went;
         }
     goes (Ended (Fails n c) k) f fs mem = leaves (Trapped n c) (f ∷ fs) mem
+    -- no condition ends here
+    goes (Ended (Decides a) k) f fs mem = leaves (Trapped 16 0) (f ∷ fs) mem
 
 -- a frame at the beginning of a body, which has no variables
 abbrev pub body_frame : (object procedure : ℕ) → Frame
@@ -425,15 +435,74 @@ abbrev pub past_stop : Stop → Frame → Frame
 past_stop (Work q at k s) f = record f { next = at + 1; is_open = opens q f.is_open; keeps = k; stack = s }
 past_stop (Ended end k) f = f
 
--- work behind which the frame goes on, once the kernel has done it; no instruction awaits a condition
+-- work behind which the frame goes on, once the kernel has done it
 abbrev pub is_passed : Did → Bool
 is_passed Went = false
 is_passed NoFrame = false
 is_passed (Enter l) = true
 is_passed (Leave l) = true
-is_passed (Await l c) = false
+is_passed (Await l c) = true
 is_passed (Start o) = true
 is_passed (Trapped n c) = false
+
+-- Conditions. One is evaluated over the frame that awaits it, from no operands, and changes nothing.
+
+-- what may stand in one: no visible work but reading a scalar and comparing texts, and nothing that keeps a value, asserts or halts
+abbrev pub may_evaluate : Instr → Bool
+may_evaluate (instr.Keep c k) = false
+may_evaluate (instr.Assert c) = false
+may_evaluate (instr.Halt c) = false
+may_evaluate (instr.Begin line col) = false
+may_evaluate (instr.Store k) = false
+may_evaluate (instr.Copy n) = false
+may_evaluate (instr.PutText strict) = false
+may_evaluate (instr.Call p) = false
+may_evaluate (instr.Virtual k p) = false
+may_evaluate (instr.CallValue p) = false
+may_evaluate (instr.NewObject t) = false
+may_evaluate (instr.NewArray t j) = false
+may_evaluate instr.Start = false
+may_evaluate instr.Enter = false
+may_evaluate instr.Leave = false
+may_evaluate (instr.Await c) = false
+may_evaluate instr.Return = false
+may_evaluate instr.OutChar = false
+may_evaluate instr.OutInt = false
+may_evaluate instr.OutString = false
+may_evaluate instr.OutLn = false
+may_evaluate instr.OutOpen = false
+may_evaluate i = true
+
+-- none, where something else stands there
+abbrev pub condition_in : Option Body → List Instr
+condition_in None = []
+condition_in (Some b) = if list_all may_evaluate b.code.items then b.code.items else []
+
+abbrev pub decided : ℤ → Verdict
+decided (pos zero) = HoldsNot
+decided (pos (suc n)) = Holds
+decided (negsuc n) = Holds
+
+-- it goes on with what a cell holds, or traps
+abbrev pub goes_on_with : Kind → Option Cell → (Cell → Verdict) → Verdict
+goes_on_with kind None next = Traps 16
+goes_on_with kind (Some v) next = if is_of kind v then next v else Traps 16
+
+-- or with what the order of two texts is
+abbrev pub goes_on_by : Relation → Option (List ℕ) → Option (List ℕ) → (Cell → Verdict) → Verdict
+goes_on_by r (Some a) (Some b) next = next (Num (flag (holds r (order a b) (pos 0))))
+goes_on_by r (Some a) None next = Traps 16
+goes_on_by r None b next = Traps 16
+
+-- where silent work has come to this over these cells; behind a cell that is read, and texts that are compared, it goes on so
+abbrev pub judged : Rooted (List Cell) → (ℕ → Keeps → Stack → Verdict) → Stop → Verdict
+judged x next (Work (Reads kind a) at k s) = goes_on_with kind (load a.root a.cell x) (λ v. next (at + 1) k (v ∷ s))
+judged x next (Work (ComparesTexts r a n b m) at k s) =
+    goes_on_by r (text_at [] a n x) (text_at [] b m x) (λ v. next (at + 1) k (v ∷ s))
+judged x next (Work q at k s) = HoldsNot
+judged x next (Ended (Begins at p s) k) = HoldsNot
+judged x next (Ended (Fails n c) k) = Traps n
+judged x next (Ended (Decides a) k) = decided a
 
 module _ (image : Image) where
   abbrev pub code_of : ℕ → List Instr
@@ -493,13 +562,33 @@ module _ (image : Image) where
   abbrev pub position : Frames → Where
   position fs = position_in (opened fs).frames
 
+  -- the code of a condition
+  abbrev pub condition_of : ℕ → List Instr
+  condition_of c = condition_in (slice_get image.conds.items c)
+
+  -- a condition of this code over the topmost of these frames, from a place on, through silent work so many times at most: no jump leads
+  -- back, so it comes to an end before
+  abbrev pub verdict_from : Memory → Frame → List Frame → List Instr → ℕ → ℕ → Keeps → Stack → Verdict
+  verdict_from mem f fs code zero at k s = HoldsNot
+  verdict_from mem f fs code (suc n) at k s =
+      judged (rooted (f ∷ fs) mem) (verdict_from mem f fs code n)
+      (silent image.shapes.items image.types.items (made_in mem) f.procedure (here_of f fs) f.cells code at k s)
+
+  abbrev pub verdict_over : Memory → List Frame → List Instr → Verdict
+  verdict_over mem [] code = HoldsNot
+  verdict_over mem (f ∷ fs) code = verdict_from mem f fs code (suc (length code)) 0 f.keeps []
+
+  -- what the condition of this number comes to over the topmost frame
+  abbrev pub verdict : Memory → Frames → ℕ → Verdict
+  verdict mem fs c = verdict_over mem fs.frames (condition_of c)
+
   -- an image as a machine under the kernel
   abbrev pub machine : Machine Memory Frames
   machine =
       record {
         turn = turn;
         past = past;
-        verdict = λ mem fs c. NeverHolds;
+        verdict = verdict;
         regions = λ fs. regions_of fs.frames;
         position = position;
         body = body_of;

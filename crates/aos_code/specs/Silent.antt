@@ -5,7 +5,7 @@ use Rattle.aos_base.specs.declared.place.Root.{Root}
 use Rattle.aos_base.specs.declared.place.Root.TheVariants.{Frame as FrameRoot, Module as ModuleRoot, Object as ObjectRoot}
 use Rattle.aos_base.specs.declared.operator.Given.{Given}
 use Rattle.aos_base.specs.declared.operator.Given.TheVariants.{Number, Trap, Undefined}
-use Rattle.aos_base.specs.Question.{Ask, ByName, Reads, Stores, Copies, PutsText, ComparesTexts, Calls, Ends, Makes, Starts, Enters, Leaves, PutsInt, PutsChar, PutsString, PutsNothing, PutsLn, Places, Lengths}
+use Rattle.aos_base.specs.Question.{Ask, ByName, Reads, Stores, Copies, PutsText, ComparesTexts, Calls, Ends, Makes, Starts, Enters, Leaves, Awaits, PutsInt, PutsChar, PutsString, PutsNothing, PutsLn, Places, Lengths}
 use Rattle.aos_base.specs.Rooted.{Made}
 use Rattle.aos_base.specs.Operators.{unary, binary, natural, flag}
 use Rattle.aos_code.specs.declared.instr.Cell.{Cell}
@@ -33,10 +33,12 @@ Keeps = ℕ → Cell
 abbrev pub Question : Type 0
 Question = Ask Addr Cell Kind ℕ
 
--- where silent work ends without a question: at a Begin, with its place in the code and the text, or with a trap
+-- where silent work ends without a question: at a Begin, with its place in the code and the text, with a trap, or at the end of a
+-- condition, with the number that says whether it holds
 pub data End : Type 0 where
   Begins : (at : ℕ) → (pos : Pos) → (stack : Stack) → End
   Fails : (number code : ℕ) → End
+  Decides : (value : ℤ) → End
 
 -- where silent work ends: at a question, with the place of its instruction and the operands below its own, or at an end
 pub data Stop : Type 0 where
@@ -418,6 +420,8 @@ module _ (shapes : List ProcShape) (types : List TypeDesc) (own : ℕ) (here : H
   act instr.Start code at s = on_kind R (λ o s'. Sees (Starts o) s') s
   act instr.Enter code at s = Sees Enters s
   act instr.Leave code at s = Sees Leaves s
+  act (instr.Await c) code at s = Sees (Awaits c) s
+  act instr.Verdict code at s = on_number (λ a s'. Stops (Decides a)) s
   act instr.Return code at s = ends (numbered shapes own) s
   act instr.OutChar code at s = on_kind N (λ c s'. Sees (PutsChar c) s') s
   act instr.OutInt code at s = on_kind N (λ n s1. on_kind N (λ v s2. Sees (PutsInt v n) s2) s1) s

@@ -65,11 +65,13 @@ pub struct TypeDesc {
 }
 
 /// A program in code. Procedures are numbered from 1, and procedure p has shape and body p - 1; so are types. The
-/// number 0 names no procedure and no type: a module or type whose body is 0 has nothing to run.
+/// number 0 names no procedure and no type: a module or type whose body is 0 has nothing to run. Conditions are numbered
+/// from 0; one that is awaited is evaluated over the frame that awaits it.
 #[derive(Drop, Debug)]
 pub struct Image {
     pub modules: Vec<ModuleDesc>,
     pub types: Vec<TypeDesc>,
     pub shapes: Vec<ProcShape>,
     pub bodies: Vec<Body>,
+    pub conds: Vec<Body>,
 }

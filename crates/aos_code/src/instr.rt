@@ -135,6 +135,11 @@ pub enum Instr {
     Enter,
     /// Closes the frame's region, and releases its lock.
     Leave,
+    /// Waits in the frame's region for the condition of this number, from 0, while its lock is free for others; goes on where the region
+    /// isn't open.
+    Await(u32),
+    /// Takes a number and ends a condition, which holds unless that is 0; trap 16 in a body that is no condition.
+    Verdict,
     /// Ends the frame, with the result on the stack where there is one.
     Return,
     /// Takes the code of a character and writes it.

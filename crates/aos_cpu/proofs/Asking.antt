@@ -4,7 +4,7 @@ use Rattle.std.specs.Prelude.{Option, Some, None, Bool, true, false, nat_lt, sli
 use Rattle.aos_base.specs.declared.place.Root.{Root}
 use Rattle.aos_base.specs.declared.operator.Given.{Given}
 use Rattle.aos_base.specs.declared.operator.Given.TheVariants.{Number, Trap, Undefined}
-use Rattle.aos_base.specs.Question.{Reads, Stores, Copies, PutsText, ComparesTexts, Calls, ByName, Starts, Enters, Leaves, PutsString}
+use Rattle.aos_base.specs.Question.{Reads, Stores, Copies, PutsText, ComparesTexts, Calls, ByName, Starts, Enters, Leaves, Awaits, PutsString}
 use Rattle.aos_base.specs.Rooted.{Made}
 use Rattle.aos_base.specs.Operators.{unary, binary, natural, flag}
 use Rattle.aos_code.specs.declared.instr.Cell.{Cell}
@@ -92,6 +92,7 @@ abbrev pub is_left : Question → Bool
 is_left (Starts v) = true
 is_left Enters = true
 is_left Leaves = true
+is_left (Awaits c) = true
 is_left q = false
 
 -- their operands, above others
@@ -106,6 +107,7 @@ visible_left : (cells : List Cell) (q : Question) → is_left q ≡ true → not
 visible_left cells (Starts v) m = refl
 visible_left cells Enters m = refl
 visible_left cells Leaves m = refl
+visible_left cells (Awaits c) m = refl
 visible_left cells q m = absurd (cc m)
 
 abbrev mark : Act → Bool
@@ -340,6 +342,8 @@ act_asks shapes types own here (instr.NewArray t j) code at s q s' m e = marked 
 act_asks shapes types own here instr.Start code at s q s' m e = start_on_top s q s' e
 act_asks shapes types own here instr.Enter code at s q s' m e = asked_top Enters q s s' e
 act_asks shapes types own here instr.Leave code at s q s' m e = asked_top Leaves q s s' e
+act_asks shapes types own here (instr.Await c) code at s q s' m e = asked_top (Awaits c) q s s' e
+act_asks shapes types own here instr.Verdict code at s q s' m e = marked _ q s s' m (calm_number _ s (λ z r. refl)) e
 act_asks shapes types own here instr.Return code at s q s' m e = marked _ q s s' m (calm_ends (numbered shapes own) s) e
 act_asks shapes types own here instr.OutChar code at s q s' m e = marked _ q s s' m (calm_kind N _ s (λ w r. refl)) e
 act_asks shapes types own here instr.OutInt code at s q s' m e = marked _ q s s' m (calm_kind N _ s (λ w r. calm_kind N _ r (λ x y. refl))) e

@@ -27,12 +27,12 @@ use Rattle.aos_store.specs.declared.cells.Change.TheVariants.{Sets}
 use Rattle.aos_store.specs.Store.{frame_in, list_in, frames_in, fits, fits_in, changed, with_cells}
 use Rattle.aos_store.proofs.Lists.{there_is}
 use Rattle.aos_silent.specs.declared.act.Act.{Act as KeptAct}
-use Rattle.aos_silent.specs.declared.act.Act.TheVariants.{Goes as GoesOn, Sees as Asks, Begins as BeginsAt, Fails as FailsWith}
+use Rattle.aos_silent.specs.declared.act.Act.TheVariants.{Goes as GoesOn, Sees as Asks, Begins as BeginsAt, Fails as FailsWith, Decides as DecidesWith}
 use Rattle.aos_silent.specs.declared.act.Spot.{Spot}
 use Rattle.aos_silent.specs.Acts.{spot_in, kind_in, addr_in, WhereStays}
 use Rattle.aos_silent.specs.Known.{Knows}
 use Rattle.aos_silent.specs.Steps.{IsStepOf, after}
-use Rattle.aos_silent.specs.Silent.{Seen, here_at, silent_at, seen_at}
+use Rattle.aos_silent.specs.Silent.{Seen, here_at, silent_at, seen_at, seen_with}
 use Rattle.aos_silent.proofs.Walks.{acts, seen_on}
 use Rattle.aos_cpu.specs.Turns.{SeenFrames, Alike, seen_frames, counted, Shown, IsTurned, Rests, WhereLeft}
 use Rattle.aos_cpu.specs.Private.{no_memory, made_by, is_of_frame, is_own_stop, alone, IsPrivate, after_turns, begun_after, IsMadePrivately, turns_since}
@@ -237,10 +237,13 @@ module _ (image : Image) (here : ℕ) (mem : Memory) (f g : Frame) (code : List 
   pub silent_top : (over m : ℕ) → did ≡ GoesOn over → m ≡ min (at + 1 + over) (2 ^ 64 - 1) → length code < 2 ^ 64 → HasWorked image here mem mem f (record g { next = m })
   silent_top over m e is small =
       let there = subst (λ n. IsStepOf image.shapes.items image.types.items (made_in image mem) (act image.shapes.items image.types.items f.procedure (here_at here f) (get_or code n (Num (pos 0))) code n f.stack) did f g) at_is step in
+      let own : code ≡ code_of image g.procedure = code_is ∙ ap (λ (x : Frame). code_of image x.procedure) (sym there.same) in
       record {
         seen = λ all knows.
-            seen_on image all here f g code did code_is (subst (λ n. n < length code) at_is within) (there.more all knows) there.same over m e
-            (subst (λ n. m ≡ min (n + 1 + over) (2 ^ 64 - 1)) at_is is) small;
+            ap (λ (l : List Instr). seen_with image l all here (record g { next = m })) (sym own)
+            ∙ seen_on image all here f g code did (subst (λ n. n < length code) at_is within) (there.more all knows) there.same over m e
+            (subst (λ n. m ≡ min (n + 1 + over) (2 ^ 64 - 1)) at_is is) small
+            ∙ ap (λ (l : List Instr). seen_with image l all here f) code_is;
         memory = refl;
       }
 
@@ -446,3 +449,4 @@ stays_more (GoesOn over) P Q f p = p
 stays_more (Asks q) P Q f p = f p
 stays_more (BeginsAt at place) P Q f p = p
 stays_more (FailsWith n c) P Q f p = f p
+stays_more (DecidesWith a) P Q f p = f p

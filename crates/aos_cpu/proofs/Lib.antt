@@ -3,6 +3,8 @@ pub mod Asking
 pub mod Own
 pub mod InPlace
 pub mod Turns
+pub mod Verdicts
+pub mod Judging
 pub mod Answering
 pub mod Characters
 pub mod Storing

@@ -8,7 +8,7 @@ use Rattle.aos_base.specs.declared.place.Root.TheVariants.{Frame as FrameRoot, M
 use Rattle.aos_base.specs.declared.number.Relation.{Relation}
 use Rattle.aos_base.specs.declared.kernel.Did.{Did}
 use Rattle.aos_base.specs.declared.kernel.Did.TheVariants.{Went, Ended as NoFrame, Enter, Leave, Await, Start, Trapped}
-use Rattle.aos_base.specs.Question.{Reads, Stores, Copies, PutsText, ComparesTexts, Calls, Ends, Makes, Starts, Enters, Leaves, PutsInt, PutsChar, PutsString, PutsNothing, PutsLn, Places, Lengths, Opens, Sizes, Tests}
+use Rattle.aos_base.specs.Question.{Reads, Stores, Copies, PutsText, ComparesTexts, Calls, Ends, Makes, Starts, Enters, Leaves, Awaits, PutsInt, PutsChar, PutsString, PutsNothing, PutsLn, Places, Lengths, Opens, Sizes, Tests}
 use Rattle.aos_base.specs.Rooted.{Made as MadeAs, Rooted, by_number, at_root, load}
 use Rattle.aos_code.specs.declared.instr.Cell.{Cell}
 use Rattle.aos_code.specs.declared.instr.Cell.TheVariants.{Num, Ref, Call as CallCell, Place}
@@ -20,7 +20,7 @@ use Rattle.aos_code.specs.declared.image.ParamKind.{ParamKind}
 use Rattle.aos_code.specs.declared.image.ParamKind.TheVariants as param
 use Rattle.aos_code.specs.Memory.{Memory}
 use Rattle.aos_code.specs.Numbered.{numbered}
-use Rattle.aos_code.specs.Silent.{Stack, Keeps, Question, Begins, Fails, Stop, Work, Ended, is_of, cells_of}
+use Rattle.aos_code.specs.Silent.{Stack, Keeps, Question, Begins, Fails, Decides, Stop, Work, Ended, is_of, cells_of}
 use Rattle.aos_code.specs.Machine.{here_of, object_of, arguments_of, Frame, Frames, Turned, Handed, hand, rooted, if_all, cells_at, leaves, goes_on, behind, reads, writes, copies, stores_text, fitted, puts_text, compares, is_deep, enters, calls_with, calls, lengths_in, whole_at, copied_open, handed, called_frame, text_in, text_at, length_in, character_cells, answer, goes, opened, code_of, made_in, stop_of, turn, turn_at}
 use Rattle.aos_store.specs.declared.frames.Frames.{Frames as KeptFrames}
 use Rattle.aos_store.specs.declared.memory.Store.{Store}
@@ -203,6 +203,7 @@ module _ (following : List ℕ) (f : Frame) (fs : List Frame) (mem : Memory) whe
   answer_own shapes types (Starts v) at k s e = absurd (cc e)
   answer_own shapes types Enters at k s e = absurd (cc e)
   answer_own shapes types Leaves at k s e = absurd (cc e)
+  answer_own shapes types (Awaits n) at k s e = absurd (cc e)
   answer_own shapes types (PutsInt v n) at k s e = absurd (cc e)
   answer_own shapes types (PutsChar v) at k s e = absurd (cc e)
   answer_own shapes types (PutsString a n) at k s e = absurd (cc e)
@@ -218,6 +219,7 @@ module _ (following : List ℕ) (f : Frame) (fs : List Frame) (mem : Memory) whe
   goes_own shapes types (Work q at k s) e = answer_own shapes types q at k s e
   goes_own shapes types (Ended (Begins at p s) k) e = refl
   goes_own shapes types (Ended (Fails n c) k) e = absurd (cc e)
+  goes_own shapes types (Ended (Decides a) k) e = absurd (cc e)
 
 -- Where no object was made nothing is known.
 
@@ -237,6 +239,7 @@ own_found : (shapes : List ProcShape) (stop : Stop) → is_own_stop shapes stop 
 own_found shapes (Work q at k s) e l f = cc f
 own_found shapes (Ended (Begins at p s) k) e l f = cc f
 own_found shapes (Ended (Fails n c) k) e l f = cc e
+own_found shapes (Ended (Decides a) k) e l f = cc e
 
 -- so it ends where it does, whatever objects were made as
 own_stop : (image : Image) (all : ℕ → Option MadeAs) (f : Frame) (fs : List Frame) → is_own_top image (f ∷ fs) ≡ true → stop_of image all f fs ≡ stop_of image (made_by []) f fs

@@ -8,7 +8,7 @@ use Rattle.aos_base.specs.declared.number.Relation.{Relation}
 use Rattle.aos_base.specs.declared.kernel.Did.{Did}
 use Rattle.aos_base.specs.declared.kernel.Did.TheVariants.{Ended as NoFrame, Went, Start, Enter, Leave, Await, Trapped}
 use Rattle.aos_base.specs.declared.kernel.LockName.{LockName}
-use Rattle.aos_base.specs.Question.{Reads, Stores, Copies, PutsText, ComparesTexts, Calls, Ends, Makes, Starts, Enters, Leaves, PutsInt, PutsChar, PutsString, PutsNothing, PutsLn, Places, Lengths, Opens, Sizes, Tests}
+use Rattle.aos_base.specs.Question.{Reads, Stores, Copies, PutsText, ComparesTexts, Calls, Ends, Makes, Starts, Enters, Leaves, Awaits, PutsInt, PutsChar, PutsString, PutsNothing, PutsLn, Places, Lengths, Opens, Sizes, Tests}
 use Rattle.aos_base.specs.Number.{array_lengths}
 use Rattle.aos_base.specs.Rooted.{Made, Rooted, by_number, load}
 use Rattle.aos_code.specs.declared.instr.Cell.{Cell}
@@ -19,15 +19,15 @@ use Rattle.aos_code.specs.declared.image.ProcShape.{ProcShape}
 use Rattle.aos_code.specs.declared.image.TypeDesc.{TypeDesc}
 use Rattle.aos_code.specs.Memory.{Memory, Addr, has_room}
 use Rattle.aos_code.specs.Numbered.{numbered}
-use Rattle.aos_code.specs.Silent.{Stack, Keeps, Question, Begins, Fails, Stop, Work, Ended, is_of}
-use Rattle.aos_code.specs.Machine.{here_of, object_of, arguments_of, Frame, Frames, Turned, Handed, rooted, cells_at, written, leaves, goes_on, reads, writes, copies, ends, prints, writes_out, makes, makes_with, makes_of, numbers_in, in_rows, first_cell, made_in, starts, stores_text, fitted, puts_text, compares, is_deep, enters, calls_with, calls, handed, called_frame, answer, goes, text_at, length_in, code_in, before as before_it, own_lock, lock_in, opens, regions_of, opened, opened_by, past, past_all, past_stop, is_passed, code_of, stop_of, turn, turn_at, behind, home_of, position, position_in, position_or, lowest_home, or_below}
+use Rattle.aos_code.specs.Silent.{Stack, Keeps, Question, Begins, Fails, Decides, Stop, Work, Ended, is_of}
+use Rattle.aos_code.specs.Machine.{here_of, object_of, arguments_of, Frame, Frames, Turned, Handed, rooted, cells_at, written, leaves, goes_on, reads, writes, copies, ends, prints, writes_out, makes, makes_with, makes_of, numbers_in, in_rows, first_cell, made_in, starts, stores_text, fitted, puts_text, compares, is_deep, enters, calls_with, calls, handed, called_frame, answer, goes, text_at, length_in, code_in, before as before_it, own_lock, lock_in, awaits, opens, regions_of, opened, opened_by, past, past_all, past_stop, is_passed, code_of, stop_of, turn, turn_at, behind, home_of, position, position_in, position_or, lowest_home, or_below}
 use Rattle.aos_store.specs.declared.frames.Frame.{Frame as KeptFrame}
 use Rattle.aos_store.specs.declared.frames.Frames.{Frames as KeptFrames}
 use Rattle.aos_store.specs.Store.{frame_in, list_in, frames_in}
 use Rattle.aos_silent.specs.declared.act.Question.{Question as KeptQuestion}
-use Rattle.aos_silent.specs.declared.act.Question.TheVariants.{Starts as AsksStart, Enters as AsksEnter, Leaves as AsksLeave}
+use Rattle.aos_silent.specs.declared.act.Question.TheVariants.{Starts as AsksStart, Enters as AsksEnter, Leaves as AsksLeave, Awaits as AsksAwait}
 use Rattle.aos_silent.specs.declared.silent.Stop.{Stop as KeptStop}
-use Rattle.aos_silent.specs.declared.silent.Stop.TheVariants.{Work as AtWork, Begins as AtBegin, Fails as AtFault}
+use Rattle.aos_silent.specs.declared.silent.Stop.TheVariants.{Work as AtWork, Begins as AtBegin}
 use Rattle.aos_silent.specs.Acts.{question_in, operands_of}
 use Rattle.aos_cpu.specs.Answers.{Made as HasMade, begun_at}
 use Rattle.aos_silent.specs.Silent.{Seen, stop_in, IsStopOf, silent_at, seen_at}
@@ -144,7 +144,7 @@ AsksFor q (Enter l) = q ≡ Enters
 AsksFor q (Leave l) = q ≡ Leaves
 AsksFor q Went = Unit {0}
 AsksFor q NoFrame = Unit {0}
-AsksFor q (Await l c) = Unit {0}
+AsksFor q (Await l c) = q ≡ Awaits c
 AsksFor q (Trapped n c) = Unit {0}
 
 -- they also leave such work to the kernel only where that is asked for
@@ -223,6 +223,11 @@ module _ (image : Image) (following : List ℕ) (g : Frame) (n : ℕ) (k' : Keep
   lock_both q work shape at k s asks =
       record { similar = similar_is image _ _ (ap (λ l. leaves following (work l) (before_it following at k s g ∷ fs) mem) (lock_same shape)); asks = asks }
 
+  await_both : (is_open : Bool) (c : ℕ) (shape : Option ProcShape) (at : ℕ) (k : Keeps) (s : Stack) →
+      Both image (Awaits c) (awaits following is_open (lock_in shape f') c at k s f' fs mem) (awaits following is_open (lock_in shape g) c at k s g fs mem)
+  await_both true c shape at k s = lock_both (Awaits c) (λ l. Await l c) shape at k s refl
+  await_both false c shape at k s = same (Awaits c) _ refl
+
   store_text_both : (q : Question) (t : Option (List ℕ)) (to : Addr) (x : Rooted (List Cell)) (at : ℕ) (k : Keeps) (s : Stack) → Both image q (stores_text following t to x at k s f' fs mem) (stores_text following t to x at k s g fs mem)
   store_text_both q None to x at k s = lost q 15 0
   store_text_both q (Some cs) to x at k s = write_both q _ to _ at k s
@@ -265,6 +270,7 @@ module _ (image : Image) (following : List ℕ) (g : Frame) (n : ℕ) (k' : Keep
   answer_both (Starts v) at k s = start_both v at k s
   answer_both Enters at k s = lock_both Enters Enter (numbered image.shapes.items g.procedure) at k s refl
   answer_both Leaves at k s = lock_both Leaves Leave (numbered image.shapes.items g.procedure) at k s refl
+  answer_both (Awaits c) at k s = await_both g.is_open c (numbered image.shapes.items g.procedure) at k s
   answer_both (PutsInt v m) at k s = print_both (PutsInt v m) (written v m) at k s
   answer_both (PutsChar v) at k s = out_both (PutsChar v) (option_map (λ c. c ∷ []) (code_in following v)) at k s
   answer_both (PutsString a m) at k s = out_both (PutsString a m) (text_at following a m (rooted (g ∷ fs) mem)) at k s
@@ -280,6 +286,7 @@ module _ (image : Image) (following : List ℕ) (g : Frame) (n : ℕ) (k' : Keep
   goes_alike (Work q at k s) = (answer_both q at k s).similar
   goes_alike (Ended (Begins at p s) k) = similar_is image _ _ refl
   goes_alike (Ended (Fails c d) k) = lost_alike c d
+  goes_alike (Ended (Decides a) k) = lost_alike 16 0
 
 pub some_same : {A : Type 0} (x y : A) → Some x ≡ Some y → x ≡ y
 some_same x y e = cc
@@ -390,6 +397,10 @@ taken_leave : (q : KeptQuestion) (s : Stack) → question_in q s ≡ Leaves → 
 taken_leave AsksLeave s e = refl
 taken_leave _ s e = absurd (cc e)
 
+taken_await : (q : KeptQuestion) (s : Stack) (c : ℕ) → question_in q s ≡ Awaits c → operands_of q ≡ 0
+taken_await (AsksAwait n) s c e = refl
+taken_await _ s c e = absurd (cc e)
+
 -- a frame that stands at such a question does so whatever objects were made as
 before_asking : (image : Image) (made : ℕ → Option Made) (q : KeptQuestion) (at : ℕ) (f : Frame) (fs : List Frame) (asked : Question) (n : ℕ) → is_left asked ≡ true → question_in q f.stack ≡ asked → operands_of q ≡ n →
     StandsAtStop image made (AtWork q at) (f ∷ fs) → IsBeforeAsking image asked n (f ∷ fs)
@@ -411,7 +422,7 @@ stands_before image q at old new mem mem' did before after stands answered left 
       | Leave l ↦ λ e. by_list (Leave l) e (λ h. h) Leaves 0 refl (λ s a. (a, taken_leave q s a)) (list_in old.list.items) refl stands
       | Went ↦ λ e. tt
       | NoFrame ↦ λ e. tt
-      | Await l c ↦ λ e. tt
+      | Await l c ↦ λ e. by_list (Await l c) e (λ h. h) (Awaits c) 0 refl (λ s a. (a, taken_await q s c a)) (list_in old.list.items) refl stands
       | Trapped n c ↦ λ e. tt
     ]) refl
   where
@@ -454,16 +465,23 @@ work_left image following f fs mem (Work q at k s) did is e =
     start_at zero e stops = absurd (cc e)
     start_at (suc o) e stops = standing image mem f fs at k s (Starts (Ref (suc o))) refl stops
 
+    -- with no open region it goes on
+    await_at : (l : LockName) (c : ℕ) (is_open : Bool) → (awaits following is_open (lock_in (numbered image.shapes.items f.procedure) f) c at k s f fs mem).left ≡ Await l c → stop_of image (made_in image mem) f fs ≡ Work (Awaits c) at k s →
+        StandsAtWork image (Await l c) (awaits following is_open (lock_in (numbered image.shapes.items f.procedure) f) c at k s f fs mem).frames.frames
+    await_at l c true e stops = standing image mem f fs at k s (Awaits c) refl stops
+    await_at l c false e stops = absurd (cc e)
+
     by : (w : Did) → (answer following image.shapes.items image.types.items q at k s f fs mem).left ≡ w → AsksFor q w → StandsAtWork image w (answer following image.shapes.items image.types.items q at k s f fs mem).frames.frames
     by (Start o) left asks = stands_for (Start o) (Starts (Ref o)) asks (start_at o) left
     by (Enter l) left asks = stands_for (Enter l) Enters asks (λ x stops. standing image mem f fs at k s Enters refl stops) left
     by (Leave l) left asks = stands_for (Leave l) Leaves asks (λ x stops. standing image mem f fs at k s Leaves refl stops) left
     by Went left asks = tt
     by NoFrame left asks = tt
-    by (Await l c) left asks = tt
+    by (Await l c) left asks = stands_for (Await l c) (Awaits c) asks (await_at l c f.is_open) left
     by (Trapped n c) left asks = tt
 work_left image following f fs mem (Ended (Begins at p s) k) did is e = subst (λ (w : Did). StandsAtWork image w (begun_at at p (record f { stack = s; keeps = k }) ∷ fs)) e tt
 work_left image following f fs mem (Ended (Fails n c) k) did is e = subst (λ (w : Did). StandsAtWork image w (f ∷ fs)) e tt
+work_left image following f fs mem (Ended (Decides a) k) did is e = subst (λ (w : Did). StandsAtWork image w (f ∷ fs)) e tt
 
 pub turn_stands : (image : Image) (mem : Memory) (fs : Frames) (did : Did) → (turn image mem fs).left ≡ did → StandsAtWork image did (turn image mem fs).frames.frames
 turn_stands image mem fs did = by (opened fs).following (opened fs).frames
@@ -517,7 +535,7 @@ passed image made (Enter l) fs old n f g next p len here before stands h small i
 passed image made (Leave l) fs old n f g next p len here before stands h small is = passed_by image made Leaves 0 fs old n f g next refl len here before stands h small is
 passed image made Went fs old n f g next p len here before stands h small is = absurd (cc p)
 passed image made NoFrame fs old n f g next p len here before stands h small is = absurd (cc p)
-passed image made (Await l c) fs old n f g next p len here before stands h small is = absurd (cc p)
+passed image made (Await l c) fs old n f g next p len here before stands h small is = passed_by image made (Awaits c) 0 fs old n f g next refl len here before stands h small is
 passed image made (Trapped k c) fs old n f g next p len here before stands h small is = absurd (cc p)
 
 -- Open regions.
@@ -609,18 +627,20 @@ begun_shown image at pos old new mem out stands moved following counts = by_list
         (subst (λ (y : Stop). Shown image (goes fol image.shapes.items image.types.items y f fs mem) Went old new mem out out) (sym x.0)
         (record { store = refl; alike = λ all knows. ap (λ (y : Frames). seen_frames image all (opened y)) now; output = sym (append-nil out); begun = counts; left = refl }))
 
--- a trap comes
-pub failed_shown : (image : Image) (number code : ℕ) (old : KeptFrames) (mem : Memory) (out : List ℕ) → StandsAtStop image (made_in image mem) (AtFault number code) (list_in old.list.items) →
-    Shown image (turn image mem (frames_in old)) (Trapped number code) old old mem out out
-failed_shown image number code old mem out stands = by_list (list_in old.list.items) refl stands
+-- a trap comes, or a condition ends in a body that is none
+pub failed_shown : (image : Image) (stop : KeptStop) (number code : ℕ) (old : KeptFrames) (mem : Memory) (out : List ℕ) →
+    ((following : List ℕ) (f : Frame) (fs : List Frame) → goes following image.shapes.items image.types.items (stop_in stop f) f fs mem ≡ leaves following (Trapped number code) (f ∷ fs) mem) →
+    StandsAtStop image (made_in image mem) stop (list_in old.list.items) → Shown image (turn image mem (frames_in old)) (Trapped number code) old old mem out out
+failed_shown image stop number code old mem out traps stands = by_list (list_in old.list.items) refl stands
   where
-    by_list : (l : List Frame) → list_in old.list.items ≡ l → StandsAtStop image (made_in image mem) (AtFault number code) l → Shown image (turn image mem (frames_in old)) (Trapped number code) old old mem out out
+    by_list : (l : List Frame) → list_in old.list.items ≡ l → StandsAtStop image (made_in image mem) stop l → Shown image (turn image mem (frames_in old)) (Trapped number code) old old mem out out
     by_list [] is x = absurd x
     by_list (f ∷ fs) is x =
         let fol = reverse old.following.items in
         subst (λ (l : List Frame). Shown image (turn image mem (record { following = fol; frames = l })) (Trapped number code) old old mem out out) (sym is)
         (subst (λ (y : Stop). Shown image (goes fol image.shapes.items image.types.items y f fs mem) (Trapped number code) old old mem out out) (sym x.0)
-        (record { store = refl; alike = λ all knows. ap (λ (l : List Frame). seen_frames image all (opened (record { following = fol; frames = l }))) (sym is); output = sym (append-nil out); begun = refl; left = refl }))
+        (subst (λ (t : Turned). Shown image t (Trapped number code) old old mem out out) (sym (traps fol f fs))
+        (record { store = refl; alike = λ all knows. ap (λ (l : List Frame). seen_frames image all (opened (record { following = fol; frames = l }))) (sym is); output = sym (append-nil out); begun = refl; left = refl })))
 
 -- no frame is left, nor a body that is to follow
 pub ended_turned : (image : Image) (old : KeptFrames) (mem : Memory) (out : List ℕ) → frames_in old ≡ record { following = []; frames = [] } → IsTurned image NoFrame old old mem mem out out

@@ -4,3 +4,4 @@ pub mod Calls
 pub mod Makes
 pub mod Private
 pub mod InPlace
+pub mod Verdicts

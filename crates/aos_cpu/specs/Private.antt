@@ -4,7 +4,7 @@ use Rattle.aos_base.specs.declared.place.Root.{Root}
 use Rattle.aos_base.specs.declared.place.Root.TheVariants.{Frame as FrameRoot, Module as ModuleRoot, Object as ObjectRoot}
 use Rattle.aos_base.specs.declared.kernel.Did.{Did}
 use Rattle.aos_base.specs.declared.kernel.Did.TheVariants.{Went, Ended, Enter, Leave, Await, Start, Trapped}
-use Rattle.aos_base.specs.Question.{Reads, Stores, Copies, PutsText, ComparesTexts, Calls, Ends, Makes, Starts, Enters, Leaves, PutsInt, PutsChar, PutsString, PutsNothing, PutsLn, Places, Lengths, Opens, Sizes, Tests}
+use Rattle.aos_base.specs.Question.{Reads, Stores, Copies, PutsText, ComparesTexts, Calls, Ends, Makes, Starts, Enters, Leaves, Awaits, PutsInt, PutsChar, PutsString, PutsNothing, PutsLn, Places, Lengths, Opens, Sizes, Tests}
 use Rattle.aos_base.specs.Rooted.{Made, by_number}
 use Rattle.aos_code.specs.declared.instr.Cell.{Cell}
 use Rattle.aos_code.specs.declared.instr.Cell.TheVariants.{Num, Ref, Call as CallCell, Place}
@@ -14,7 +14,7 @@ use Rattle.aos_code.specs.declared.image.ProcShape.{ProcShape}
 use Rattle.aos_code.specs.declared.image.Image.{Image}
 use Rattle.aos_code.specs.Memory.{Memory}
 use Rattle.aos_code.specs.Numbered.{numbered}
-use Rattle.aos_code.specs.Silent.{Question, Stop, Work, Ended as StopsAt, Begins, Fails}
+use Rattle.aos_code.specs.Silent.{Question, Stop, Work, Ended as StopsAt, Begins, Fails, Decides}
 use Rattle.aos_code.specs.Machine.{Frame, Frames, Turned, arguments_of, opened, made_in, stop_of, turn}
 use Rattle.aos_store.specs.declared.frames.Frames.{Frames as KeptFrames}
 use Rattle.aos_store.specs.Store.{frames_in, SameCounts}
@@ -74,6 +74,7 @@ is_own shapes (Makes t vs) = false
 is_own shapes (Starts v) = false
 is_own shapes Enters = false
 is_own shapes Leaves = false
+is_own shapes (Awaits c) = false
 is_own shapes (PutsInt v n) = false
 is_own shapes (PutsChar v) = false
 is_own shapes (PutsString a n) = false
@@ -90,6 +91,7 @@ abbrev pub is_own_stop : List ProcShape → Stop → Bool
 is_own_stop shapes (Work q at k s) = is_own shapes q
 is_own_stop shapes (StopsAt (Begins at p s) k) = true
 is_own_stop shapes (StopsAt (Fails n c) k) = false
+is_own_stop shapes (StopsAt (Decides a) k) = false
 
 abbrev pub has_gone : Did → Bool
 has_gone Went = true

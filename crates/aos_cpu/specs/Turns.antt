@@ -3,7 +3,7 @@ use Rattle.std.specs.Prelude.{◌≡◌, ◌<◌, ◌+◌, ◌^◌, ℕ, suc, Li
 use Rattle.aos_base.specs.declared.text.Pos.{Pos}
 use Rattle.aos_base.specs.declared.kernel.Did.{Did}
 use Rattle.aos_base.specs.declared.kernel.Did.TheVariants.{Went, Ended, Enter, Leave, Await, Start, Trapped}
-use Rattle.aos_base.specs.Question.{Starts, Enters, Leaves}
+use Rattle.aos_base.specs.Question.{Starts, Enters, Leaves, Awaits}
 use Rattle.aos_base.specs.Book.{Where}
 use Rattle.aos_base.specs.Rooted.{Made}
 use Rattle.aos_code.specs.declared.instr.Cell.TheVariants.{Ref}
@@ -103,7 +103,7 @@ module _ (image : Image) where
   StandsAtWork (Leave l) fs = StandsAsking Leaves 0 fs
   StandsAtWork Went fs = Unit {0}
   StandsAtWork Ended fs = Unit {0}
-  StandsAtWork (Await l c) fs = Unit {0}
+  StandsAtWork (Await l c) fs = StandsAsking (Awaits c) 0 fs
   StandsAtWork (Trapped n c) fs = Unit {0}
 
   abbrev pub IsBefore : Did → Frames → Type 0
@@ -112,7 +112,7 @@ module _ (image : Image) where
   IsBefore (Leave l) fs = IsBeforeAsking Leaves 0 fs.frames
   IsBefore Went fs = Unit {0}
   IsBefore Ended fs = Unit {0}
-  IsBefore (Await l c) fs = Unit {0}
+  IsBefore (Await l c) fs = IsBeforeAsking (Awaits c) 0 fs.frames
   IsBefore (Trapped n c) fs = Unit {0}
 
 -- how many operands of the work that is left to the kernel lie on top

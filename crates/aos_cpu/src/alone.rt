@@ -122,6 +122,7 @@ pub fn is_own_stop(image: &Image, frames: &Frames, stop: Stop) -> bool
         },
         Stop::Begins(_, _) => true,
         Stop::Fails(_, _) => false,
+        Stop::Decides(_) => false,
     }
 }
 

@@ -8,6 +8,7 @@ ghost use Rattle.aos_code.specs.Memory.{Memory};
 ghost use Rattle.aos_code.specs.Numbered.{numbered};
 ghost use Rattle.aos_code.specs.Machine.{Frame as FrameOf, behind, lock_in, with_result};
 ghost use Rattle.aos_store.specs.Store.{frame_in, list_in, frames_in, memory_in, SameCounts};
+ghost use Rattle.aos_silent.specs.declared.act.Question.TheVariants.{Awaits as AsksAwait};
 ghost use Rattle.aos_silent.specs.Acts.{addr_in};
 ghost use Rattle.aos_store.specs.declared.frames.Frames.{Frames as FramesKept};
 ghost use Rattle.aos_cpu.specs.Turns.{HasAnswered, Stands, Same, WhereLeft};
@@ -296,6 +297,31 @@ fn top_lock(image: &Image, frames: &Frames) -> LockName
     }
 }
 
+/// Whether the topmost frame's region is open.
+fn is_top_open(frames: &Frames) -> bool
+    ensures { (f : FrameOf) (fs : List FrameOf) → list_in frames.now.list.items ≡ f ∷ fs → result ≡ f.is_open }
+{
+    match frames.list.last() {
+        None => false,
+        Some(frame) => frame.is_open,
+    }
+}
+
+/// A condition is awaited: where the topmost frame's region is open that is left to the kernel, and else the frame goes on.
+fn wait(image: &Image, condition: u32, at: usize, frames: &mut Frames) -> Did
+    requires place { at + 1 < 2 ^ 64 }
+    requires stands { Stands (AsksAwait condition) at frames.old }
+    ensures answered { (mem : Memory) (out : List ℕ) → HasAnswered image.now (AsksAwait condition) at frames.old frames.new mem mem result out out }
+    ensures left { (mem : Memory) (out : List ℕ) → WhereLeft result (Same frames.old frames.new mem mem out out) }
+    ensures counts { SameCounts frames.old frames.new }
+{
+    if is_top_open(frames) {
+        return Did::Await(top_lock(image, frames), condition);
+    }
+    go_behind(frames, at, 0);
+    Did::Went
+}
+
 /// The question at which the topmost frame stands is answered. What it takes is taken first: where memory runs out, and where work is
 /// left to the kernel, nothing has changed.
 pub fn answer(
@@ -334,6 +360,7 @@ pub fn answer(
         Question::Starts(object) => Ok(start(object)),
         Question::Enters => Ok(Did::Enter(top_lock(image, frames))),
         Question::Leaves => Ok(Did::Leave(top_lock(image, frames))),
+        Question::Awaits(condition) => Ok(wait(image, condition, at, frames)),
         Question::PutsInt(value, places) => put_int(frames, output, value, places, at),
         Question::PutsChar(code) => put_char(frames, output, code, at),
         Question::PutsString(spot, len) => put_string(frames, store, output, spot, len, at),

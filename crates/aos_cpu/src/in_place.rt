@@ -55,6 +55,7 @@ fn go_after(code: &[Instr], at: usize, frame: &mut Frame, did: Act) -> Done
         }
         Act::Sees(_) => Done::Nothing,
         Act::Fails(_, _) => Done::Nothing,
+        Act::Decides(_) => Done::Nothing,
     }
 }
 

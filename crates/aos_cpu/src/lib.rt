@@ -4,6 +4,7 @@
 pub mod alone;
 pub mod answers;
 pub mod calls;
+pub mod condition;
 pub mod in_place;
 pub mod makes;
 pub mod texts;
@@ -11,4 +12,5 @@ pub mod turn;
 
 pub use alone::{PrivateStop, private};
 pub use aos_silent::{code_of, home_of, numbered};
+pub use condition::verdict;
 pub use turn::{begin_body, open, pass, position, shared};

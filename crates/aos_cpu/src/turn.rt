@@ -121,6 +121,7 @@ pub(crate) fn finish(
             Ok(Did::Went)
         }
         Stop::Fails(number, code) => Ok(Did::Trapped(number, code)),
+        Stop::Decides(_) => Ok(Did::Trapped(16, 0)),
     }
 }
 

@@ -1,8 +1,9 @@
 -- The desk after an operation shows the state after it.
-use Rattle.std.proofs.Common.{◌≡◌, ◌≢◌, ℕ, suc, ◌<◌, ◌^◌, List, [], ◌∷◌, ◌++◌, Bool, true, false, refl, sym, ◌∙◌, ap, subst, arith, length, reverse, append_assoc}
-use Rattle.std.specs.Prelude.{if◌then◌else◌, ◌||◌, nat_le, nat_lt, Option, Some, None, nat_eq, slice_get, slice_set, Vec, Result, Ok, Err, OnErr}
+use Rattle.std.proofs.Common.{◌≡◌, ◌≢◌, ℕ, suc, ◌<◌, ◌≤◌, ◌^◌, List, [], ◌∷◌, ◌++◌, Bool, true, false, refl, sym, ◌∙◌, ap, subst, arith, length, reverse, append_assoc}
+use Rattle.std.specs.Prelude.{if◌then◌else◌, ◌||◌, nat_le, nat_lt, Option, Some, None, nat_eq, slice_get, slice_set, Vec, Result, Ok, Err, OnOk, OnErr}
 use Rattle.std.specs.declared.alloc.Global.{Global}
 use Rattle.std.proofs.lemmas.List.{length-set, map-append}
+use Rattle.std.proofs.lemmas.Option.{slice_get_within}
 use Rattle.aos_base.specs.declared.kernel.Event.{Event}
 use Rattle.aos_base.specs.declared.kernel.Event.TheVariants as event
 use Rattle.aos_base.specs.declared.kernel.LockName.{LockName}
@@ -10,9 +11,11 @@ use Rattle.aos_base.specs.declared.kernel.Did.{Did}
 use Rattle.aos_base.specs.declared.kernel.Did.TheVariants.{Went, Ended, Enter, Leave, Await, Start, Trapped}
 use Rattle.aos_base.specs.declared.text.Pos.{Pos}
 use Rattle.aos_base.specs.Rooted.{Made}
+use Rattle.aos_base.specs.Lock.{Wants, Entry, Condition}
 use Rattle.aos_base.specs.Book as book
-use Rattle.aos_base.specs.Book.{put, place_of, leave_line, move, stands, ready, next_is, counted, spent_by, trapped, ended, on_worker, may_restart, born, is_full}
+use Rattle.aos_base.specs.Book.{put, place_of, leave_line, move, stands, ready, next_is, counted, spent_by, trapped, ended, may_restart, born, is_full}
 use Rattle.aos_base.specs.Machine.{State, on_book, with_frames, go_past, trap, turned, finish, turn_by}
+use Rattle.aos_code.specs.declared.instr.Cell.{Cell}
 use Rattle.aos_code.specs.declared.image.Image.{Image}
 use Rattle.aos_code.specs.declared.report.TrapRec.{TrapRec}
 use Rattle.aos_code.specs.Memory.{Memory}
@@ -21,21 +24,24 @@ use Rattle.aos_store.specs.declared.frames.Frames.{Frames as Kept}
 use Rattle.aos_store.specs.declared.memory.Store.{Store}
 use Rattle.aos_store.specs.Store.{list_in, frames_in, memory_in}
 use Rattle.aos_silent.specs.Known.{Knows}
-use Rattle.aos_cpu.proofs.Turns.{alike_both, none_other}
+use Rattle.aos_cpu.proofs.Turns.{alike_both, none_other, some_same}
 use Rattle.aos_cpu.proofs.Growing.{turn_grows}
 use Rattle.aos_cpu.specs.Turns.{where_in, Alike, Shown, Rests, IsBefore, WhereLeft}
+use Rattle.std.specs.Option.{option_map}
+use Rattle.aos_ready.specs.Order.{number_of}
 use Rattle.aos_ready.specs.declared.ready.Priority.TheVariants.{Normal}
 use Rattle.aos_line.specs.declared.line.Line.{Line}
-use Rattle.aos_line.specs.Stands.{Stands, started_of}
+use Rattle.aos_line.specs.Stands.{Stands, IsOn, started_of}
 use Rattle.aos_line.proofs.Readings.{place-moved, place-unmoved, place-gone, place-other}
 use Rattle.aos_line.proofs.Standing.{on_place, on_within, on_same}
 use Rattle.aos_kernel.specs.declared.activity.Next.{Next}
-use Rattle.aos_kernel.specs.declared.activity.Next.TheVariants.{Runs, Unwinds, Gone}
+use Rattle.aos_kernel.specs.declared.activity.Next.TheVariants.{Runs, WillTrap, Unwinds, Gone}
 use Rattle.aos_kernel.specs.declared.activity.Activity.{Activity}
 use Rattle.aos_kernel.specs.declared.desk.Desk.{Desk}
 use Rattle.aos_kernel.specs.Run.{rec_of}
-use Rattle.aos_kernel.specs.Shows.{next_in, ShowsFrames, ShowsActivity, IsWaiting, Shows, ShowsSame, HasTurn, IsLive, StandsAtNoLock, StandsBefore, HasSame}
-use Rattle.aos_kernel.proofs.Rows.{put_same, put_other, get_below, frames_alike, each_grown, each_after, get_before, each_joined, EachShows, not_spent, begun_after, EachWaits, waits_after, no_wait, kept_others}
+use Rattle.aos_kernel.specs.Conditions.{Known, known, all_known, SameKnown, HasRooms, IsAwaiting, IsAwaitingSo}
+use Rattle.aos_kernel.specs.Shows.{next_in, work_at, ShowsFrames, ShowsActivity, IsWaiting, Shows, ShowsSame, HasTurn, IsLive, StandsAtNoLock, StandsBefore, HasSame}
+use Rattle.aos_kernel.proofs.Rows.{put_same, put_other, set_here, get_below, frames_alike, each_grown, each_after, get_before, each_joined, EachShows, not_spent, begun_after, EachWaits, waits_after, no_wait, kept_others}
 use Rattle.aos_line.proofs.Members.{each_at}
 
 module _ (image : Image) (earlier : List Event) (d : Desk) (st : State Memory Frames) (h : Shows image earlier d st) where
@@ -54,6 +60,7 @@ module _ (image : Image) (earlier : List Event) (d : Desk) (st : State Memory Fr
     few = h.few;
     counted = count ∙ h.counted;
     activities = h.activities;
+    room = h.room;
     waiting = waiting;
     unspent = h.unspent;
   }
@@ -145,6 +152,7 @@ module _ (image : Image) (earlier : List Event) (d : Desk) (st : State Memory Fr
     few = h.few;
     counted = counted_after line activities (record old { next = Gone; frames = frames }) count set;
     activities = next_after activities old Gone old.locks frames was set begun none;
+    room = h.room;
     waiting = waits_set activities.items (record old { next = Gone; frames = frames }) (leave_line a st.book.line) st.frames set (λ l wants at. (let z : None ≡ Some (book.At l wants) = sym (place-gone a st.book.line) ∙ at in absurd (cc z))) (λ x ne. place-other a x st.book.line ne) (λ x ne. refl);
     unspent = unspent_after book.Gone;
   }
@@ -175,6 +183,7 @@ module _ (image : Image) (earlier : List Event) (d : Desk) (st : State Memory Fr
         few = h.few;
         counted = counted_after d.line activities new refl (set r.0 r.1);
         activities = subst (λ (ls : List LockName). EachShows image made activities.items (put nat_eq st.book.activity a (record (st.book.activity a) { next = book.Unwinds ls })) st.frames) regions (next_after activities r.0 Unwinds locks r.0.frames r.1 (set r.0 r.1) refl alike);
+        room = h.room;
         waiting = waits_set activities.items new st.book.line st.frames (set r.0 r.1) turns_no_wait (λ x ne. refl) (λ x ne. refl);
         unspent = unspent_after (book.Unwinds (regions_of image (st.frames a).frames));
       }
@@ -198,6 +207,7 @@ module _ (image : Image) (earlier : List Event) (d : Desk) (st : State Memory Fr
         few = h.few;
         counted = counted_after d.line activities new refl set;
         activities = next_after activities old Unwinds locks old.frames was set' refl (subst (λ m. ShowsFrames image made m (st.frames a) old.frames) (sym unwinds) (h.activities a old was).frames);
+        room = h.room;
         waiting = waits_set activities.items new st.book.line st.frames set turns_no_wait (λ x ne. refl) (λ x ne. refl);
         unspent = unspent_after (book.Unwinds (reverse locks.items));
       }
@@ -220,6 +230,7 @@ module _ (image : Image) (earlier : List Event) (d : Desk) (st : State Memory Fr
         few = h.few;
         counted = counted_after d.line activities new refl set;
         activities = each_after image made d.activities.items activities.items st.book.activity st.book.activity st.frames st.frames a old new was set (record { priority = s.priority; begun = s.begun; next = s.next ∙ ap (next_in old.next) (sym same); frames = s.frames }) (λ x ne. refl) (λ x ne. refl) h.activities;
+        room = h.room;
         waiting = waits_set activities.items new st.book.line st.frames set turns_no_wait (λ x ne. refl) (λ x ne. refl);
         unspent = h.unspent;
       }
@@ -259,6 +270,7 @@ module _ (image : Image) (earlier : List Event) (d : Desk) (st : State Memory Fr
             (subst (λ x. ShowsActivity image all new v x) (sym (put_same st.frames a t.frames))
             (record { priority = s.priority; begun = count; next = s.next; frames = subst (λ m. ShowsFrames image all m t.frames frames) runs shown.alike })))
             (λ x ne. put_other st.book.activity a v x ne) (λ x ne. put_other st.frames a t.frames x ne) (each_grown image made all d.activities.items st.book.activity st.frames knows h.activities);
+        room = h.room;
         waiting = waits_set activities.items new st.book.line (put nat_eq st.frames a t.frames) is turns_no_wait (λ x ne. refl) (λ x ne. put_other st.frames a t.frames x ne);
         unspent = λ x spends. each_at (λ y. (put nat_eq st.book.activity a v y).begun < st.book.budget) a
             (subst (λ (y : book.Activity). y.begun < st.book.budget) (sym (put_same st.book.activity a v)) (not_spent t.begun st.book.budget begun a st.book.spent less spends))
@@ -298,6 +310,7 @@ shows_past image earlier d st a activities old frames h out was runs is count al
           (subst (λ x. ShowsActivity image made new (st.book.activity a) x) (sym (put_same st.frames a fs))
           (record { priority = s.priority; begun = s.begun ∙ sym count; next = s.next; frames = subst (λ m. ShowsFrames image made m fs frames) runs alike }))
           (λ x ne. refl) (λ x ne. put_other st.frames a fs x ne) h.activities;
+      room = h.room;
       waiting = waits_after image d.activities.items activities.items st.book.line st.book.line st.frames (put nat_eq st.frames a fs) a (λ l wants at kept is'. absurd (out l wants at)) (λ x ne. refl) (kept_others d.activities.items activities.items a new is) (λ x ne. put_other st.frames a fs x ne) h.waiting;
       unspent = h.unspent;
     }
@@ -320,20 +333,182 @@ shows_past_none image earlier d st a h none =
       few = h.few;
       counted = h.counted;
       activities = λ x kept at. subst (λ f. ShowsActivity image (made_in image (memory_in d.store)) kept (st.book.activity x) f) (sym (put_other st.frames a fs x (other x kept at))) (h.activities x kept at);
+      room = h.room;
       waiting = λ x l wants at kept is. subst (λ f. IsWaiting image l wants kept f) (sym (put_other st.frames a fs x (other x kept is))) (h.waiting x l wants at kept is);
+      unspent = h.unspent;
+    }
+
+-- one that waits for no lock has changed, and its frames are as they were
+one_changed : (image : Image) (earlier : List Event) (d : Desk) (st : State Memory Frames) (a : ℕ) (activities : Vec Activity Global) (old new : Activity) (v : book.Activity) → Shows image earlier d st → StandsAtNoLock a st → slice_get d.activities.items a ≡ Some old →
+    activities.items ≡ slice_set d.activities.items a new → ShowsActivity image (made_in image (memory_in d.store)) new v (st.frames a) → v.begun ≡ (st.book.activity a).begun →
+    Shows image earlier (record d { activities = activities }) (record st { book = record st.book { activity = put nat_eq st.book.activity a v } })
+one_changed image earlier d st a activities old new v h out was is shown begun =
+    let made = made_in image (memory_in d.store) in
+    record {
+      store = h.store;
+      stands = h.stands;
+      output = h.output;
+      traps = h.traps;
+      events = h.events;
+      budget = h.budget;
+      spent = h.spent;
+      started = h.started ∙ sym (ap length is ∙ length-set d.activities.items a new);
+      few = h.few;
+      counted = h.counted ∙ sym (ap length is ∙ length-set d.activities.items a new);
+      activities = each_after image made d.activities.items activities.items st.book.activity (put nat_eq st.book.activity a v) st.frames st.frames a old new was is
+          (subst (λ x. ShowsActivity image made new x (st.frames a)) (sym (put_same st.book.activity a v)) shown) (λ x ne. put_other st.book.activity a v x ne) (λ x ne. refl) h.activities;
+      room = h.room;
+      waiting = waits_after image d.activities.items activities.items st.book.line st.book.line st.frames st.frames a (λ l wants at kept is'. absurd (out l wants at)) (λ x ne. refl) (kept_others d.activities.items activities.items a new is) (λ x ne. refl) h.waiting;
+      unspent = λ x spends. each_at (λ y. (put nat_eq st.book.activity a v y).begun < st.book.budget) a
+          (subst (λ (y : book.Activity). y.begun < st.book.budget) (sym (put_same st.book.activity a v)) (subst (λ n. n < st.book.budget) (sym begun) (h.unspent a spends)))
+          (λ y ne. subst (λ (w : book.Activity). w.begun < st.book.budget) (sym (put_other st.book.activity a v y ne)) (h.unspent y spends)) x;
+    }
+
+-- a trap is the next turn of one that ran
+pub shows_will_trap : (image : Image) (earlier : List Event) (d : Desk) (st : State Memory Frames) (a n : ℕ) (activities : Vec Activity Global) (old : Activity) → Shows image earlier d st → StandsAtNoLock a st → slice_get d.activities.items a ≡ Some old → Runs ≡ old.next →
+    activities.items ≡ slice_set d.activities.items a (record old { next = WillTrap n }) → Shows image earlier (record d { activities = activities }) (on_book (next_is a (book.WillTrap n)) st)
+unfolding next_is
+shows_will_trap image earlier d st a n activities old h out was runs is =
+    let made = made_in image (memory_in d.store) in
+    let s = h.activities a old was in
+    one_changed image earlier d st a activities old (record old { next = WillTrap n }) (record (st.book.activity a) { next = book.WillTrap n }) h out was is
+    (record { priority = s.priority; begun = s.begun; next = refl; frames = subst (λ m. ShowsFrames image made m (st.frames a) old.frames) (sym runs) s.frames }) refl
+
+-- the condition that one awaits is known
+pub shows_awaiting : (image : Image) (earlier : List Event) (d : Desk) (st : State Memory Frames) (a c : ℕ) (activities : Vec Activity Global) (old : Activity) → Shows image earlier d st → StandsAtNoLock a st → slice_get d.activities.items a ≡ Some old →
+    activities.items ≡ slice_set d.activities.items a (record old { condition = c }) → Shows image earlier (record d { activities = activities }) st
+shows_awaiting image earlier d st a c activities old h out was is =
+    let made = made_in image (memory_in d.store) in
+    let s = h.activities a old was in
+    let new : Activity = record old { condition = c } in
+    record {
+      store = h.store;
+      stands = h.stands;
+      output = h.output;
+      traps = h.traps;
+      events = h.events;
+      budget = h.budget;
+      spent = h.spent;
+      started = h.started ∙ sym (ap length is ∙ length-set d.activities.items a new);
+      few = h.few;
+      counted = h.counted ∙ sym (ap length is ∙ length-set d.activities.items a new);
+      activities = each_after image made d.activities.items activities.items st.book.activity st.book.activity st.frames st.frames a old new was is
+          (record { priority = s.priority; begun = s.begun; next = s.next; frames = s.frames }) (λ x ne. refl) (λ x ne. refl) h.activities;
+      room = h.room;
+      waiting = waits_after image d.activities.items activities.items st.book.line st.book.line st.frames st.frames a (λ l wants at kept is'. absurd (out l wants at)) (λ x ne. refl) (kept_others d.activities.items activities.items a new is) (λ x ne. refl) h.waiting;
+      unspent = h.unspent;
+    }
+
+pub set_awaits : (old new : List Activity) (a c : ℕ) (was : Activity) → slice_get old a ≡ Some was → new ≡ slice_set old a (record was { condition = c }) → length was.frames.list.items ≤ 2 ^ 32 → (kept : Activity) × (slice_get new a ≡ Some kept) × IsAwaiting c kept
+set_awaits old new a c was at is few =
+    let now : Activity = record was { condition = c } in
+    (now, ap (λ xs. slice_get xs a) is ∙ set_here old a now (slice_get_within old a was at), (refl, few))
+
+pub set_before : (image : Image) (old new : List Activity) (a c : ℕ) (left : Did) (was : Activity) → slice_get old a ≡ Some was → new ≡ slice_set old a (record was { condition = c }) →
+    ((kept : Activity) → slice_get old a ≡ Some kept → (Runs ≡ kept.next) × IsBefore image left (frames_in kept.frames)) → (kept : Activity) → slice_get new a ≡ Some kept → (Runs ≡ kept.next) × IsBefore image left (frames_in kept.frames)
+set_before image old new a c left was at is before kept found =
+    let now : Activity = record was { condition = c } in
+    let z : Some now ≡ Some kept = sym (set_here old a now (slice_get_within old a was at)) ∙ sym (ap (λ xs. slice_get xs a) is) ∙ found in
+    let same : now ≡ kept = some_same now kept z in
+    subst (λ (k : Activity). (Runs ≡ k.next) × IsBefore image left (frames_in k.frames)) same (before was at)
+
+-- whether it was done or not
+pub shows_either : {E : Type 0} (image : Image) (earlier : List Event) (d : Desk) (st : State Memory Frames) (r : Result (Unit {0}) E) (activities : Vec Activity Global) → Shows image earlier d st → OnOk r (Shows image earlier (record d { activities = activities }) st) → OnErr r (activities ≡ d.activities) →
+    Shows image earlier (record d { activities = activities }) st
+shows_either image earlier d st (Ok x) activities h done same = done
+shows_either image earlier d st (Err e) activities h done same = subst (λ (v : Vec Activity Global). Shows image earlier (record d { activities = v }) st) (sym same) h
+
+-- What counts of the activities is as it was, and there is room for conditions.
+
+pub turn_judged : (d new : Desk) (a : ℕ) → SameKnown d.activities.items new.activities.items → new.line ≡ d.line → HasTurn a d → HasTurn a new
+turn_judged d new a same line turn_of =
+    record {
+      on = subst (λ l. IsOn l a) (sym line) turn_of.on;
+      counted = ap started_of line ∙ turn_of.counted ∙ sym same.count;
+    }
+
+frames_known : (image : Image) (made : ℕ → Option Made) (n : Next) (fs : Frames) (k g : Kept) → frames_in k ≡ frames_in g → ShowsFrames image made n fs k → ShowsFrames image made n fs g
+frames_known image made Runs fs k g e h = subst (λ x. Alike image made fs x) e h
+frames_known image made (WillTrap n) fs k g e h = subst (λ x. Alike image made fs x) e h
+frames_known image made Unwinds fs k g e h = subst (λ x. Alike image made fs x) e h
+frames_known image made Gone fs k g e h = sym e ∙ h
+
+-- who was kept, by who is
+pub kept_before : (old new : List Activity) (n : ℕ) (kept : Activity) → SameKnown old new → slice_get new n ≡ Some kept → (was : Activity) × (slice_get old n ≡ Some was) × (known was ≡ known kept)
+kept_before old new n kept same at =
+    let e : all_known old n ≡ Some (known kept) = sym (same.known n) ∙ ap (option_map known) at in
+    by (slice_get old n) refl e
+  where
+    by : (o : Option Activity) → slice_get old n ≡ o → option_map known o ≡ Some (known kept) → (was : Activity) × (slice_get old n ≡ Some was) × (known was ≡ known kept)
+    by None is f = absurd (cc f)
+    by (Some was) is f = (was, is, some_same (known was) (known kept) f)
+
+pub before_known : (image : Image) (old new : List Activity) (a : ℕ) (left : Did) → SameKnown old new → ((kept : Activity) → slice_get old a ≡ Some kept → (Runs ≡ kept.next) × IsBefore image left (frames_in kept.frames)) →
+    (kept : Activity) → slice_get new a ≡ Some kept → (Runs ≡ kept.next) × IsBefore image left (frames_in kept.frames)
+before_known image old new a left same before kept at =
+    let w = kept_before old new a kept same at in
+    let b = before w.0 w.1 in
+    (b.0 ∙ ap (λ (k : Known). k.next) w.2, subst (IsBefore image left) (ap (λ (k : Known). k.frames) w.2) b.1)
+
+same_back : (old new : List Activity) → SameKnown old new → SameKnown new old
+same_back old new same = record { count = sym same.count; known = λ n. sym (same.known n) }
+
+pub awaits_known : (old new : List Activity) (a c : ℕ) → SameKnown old new → (kept : Activity) × (slice_get old a ≡ Some kept) × IsAwaiting c kept → (kept : Activity) × (slice_get new a ≡ Some kept) × IsAwaiting c kept
+awaits_known old new a c same awaits =
+    let w = kept_before new old a awaits.0 (same_back old new same) awaits.1 in
+    (w.0, w.1, (awaits.2.0 ∙ sym (ap (λ (k : Known). k.condition) w.2), subst (λ n. n ≤ 2 ^ 32) (sym (ap (λ (k : Known). k.many) w.2)) awaits.2.1))
+
+awaiting_known : (wants : Wants) (k g : Activity) → known k ≡ known g → IsAwaitingSo wants k → IsAwaitingSo wants g
+awaiting_known Entry k g e h = h
+awaiting_known (Condition c) k g e h = (h.0 ∙ ap (λ (x : Known). x.condition) e, subst (λ n. n ≤ 2 ^ 32) (ap (λ (x : Known). x.many) e) h.1)
+
+pub shows_known : (image : Image) (earlier : List Event) (d : Desk) (st : State Memory Frames) (activities : Vec Activity Global) (stack : Vec Cell Global) → SameKnown d.activities.items activities.items → HasRooms image stack → Shows image earlier d st →
+    Shows image earlier (record d { activities = activities; stack = stack }) st
+shows_known image earlier d st activities stack same room h =
+    let made = made_in image (memory_in d.store) in
+    record {
+      store = h.store;
+      stands = h.stands;
+      output = h.output;
+      traps = h.traps;
+      events = h.events;
+      budget = h.budget;
+      spent = h.spent;
+      started = h.started ∙ sym same.count;
+      few = h.few;
+      counted = h.counted ∙ sym same.count;
+      activities = λ x kept at.
+          let w = kept_before d.activities.items activities.items x kept same at in
+          let s = h.activities x w.0 w.1 in
+          record {
+            priority = s.priority ∙ ap (λ (k : Known). number_of k.priority) w.2;
+            begun = s.begun ∙ ap (λ (k : Known). k.begun) w.2;
+            next = s.next ∙ ap (λ (k : Known). next_in k.next k.locks) w.2;
+            frames = subst (λ m. ShowsFrames image made m (st.frames x) kept.frames) (ap (λ (k : Known). k.next) w.2) (frames_known image made w.0.next (st.frames x) w.0.frames kept.frames (ap (λ (k : Known). k.frames) w.2) s.frames);
+          };
+      room = room;
+      waiting = λ x l wants at kept is.
+          let w = kept_before d.activities.items activities.items x kept same is in
+          let v = h.waiting x l wants at w.0 w.1 in
+          record {
+            runs = v.runs ∙ ap (λ (k : Known). k.next) w.2;
+            before = subst (IsBefore image (work_at l wants)) (ap (λ (k : Known). k.frames) w.2) v.before;
+            stands = v.stands;
+            awaits = awaiting_known wants w.0 kept w.2 v.awaits;
+          };
       unspent = h.unspent;
     }
 
 -- a new activity is ready
 pub shows_born : (image : Image) (earlier : List Event) (d : Desk) (st : State Memory Frames) (n : ℕ) (activities : Vec Activity Global) (line : Line) (events : Vec Event Global) (locks : Vec LockName Global) (frames : Kept) (fs : Frames) →
-    n ≡ length d.activities.items → n < 65536 → activities.items ≡ d.activities.items ++ record { priority = Normal; next = Runs; locks = locks; frames = frames } ∷ [] → Stands line (move n (book.Ready 2) st.book.line) st.book.owner → started_of line ≡ suc (started_of d.line) → events.items ≡ d.events.items ++ event.Start n ∷ [] →
+    n ≡ length d.activities.items → n < 65536 → activities.items ≡ d.activities.items ++ record { priority = Normal; next = Runs; condition = 0; locks = locks; frames = frames } ∷ [] → Stands line (move n (book.Ready 2) st.book.line) st.book.owner → started_of line ≡ suc (started_of d.line) → events.items ≡ d.events.items ++ event.Start n ∷ [] →
     frames.begun ≡ 0 → Alike image (made_in image (memory_in d.store)) fs (frames_in frames) → Shows image earlier d st →
     Shows image earlier (record d { activities = activities; line = line; events = events }) (on_book (born 2) (with_frames st.book.started fs st))
 unfolding born
 shows_born image earlier d st n activities line events locks frames fs count few is moved more told none alike h =
     let k = st.book.started in
     let same : k ≡ n = h.started ∙ sym count in
-    let new : Activity = record { priority = Normal; next = Runs; locks = locks; frames = frames } in
+    let new : Activity = record { priority = Normal; next = Runs; condition = 0; locks = locks; frames = frames } in
     let act : book.Activity = record { priority = 2; begun = 0; restarts = 0; next = book.Runs } in
     record {
       store = h.store;
@@ -347,6 +522,7 @@ shows_born image earlier d st n activities line events locks frames fs count few
       few = omega (arith, same, few);
       counted = more ∙ ap suc h.counted ∙ sym (ap length is ∙ added d.activities.items new);
       activities = each_joined image (made_in image (memory_in d.store)) d.activities.items activities.items st.book.activity st.frames k new act fs h.started is (record { priority = refl; begun = sym none; next = refl; frames = alike }) h.activities;
+      room = h.room;
       waiting = waits_after image d.activities.items activities.items st.book.line (move k (book.Ready 2) st.book.line) st.frames (put nat_eq st.frames k fs) k (λ l wants at kept is'. absurd (no_wait (book.Ready 2) _ (place-moved k (book.Ready 2) st.book.line) refl l wants at)) (λ x ne. place-unmoved k x (book.Ready 2) st.book.line ne)
           (λ x kept ne at. get_before d.activities.items new x kept (λ z. ne (z ∙ sym h.started)) (sym (ap (λ xs. slice_get xs x) is) ∙ at)) (λ x ne. put_other st.frames k fs x ne) h.waiting;
       unspent = λ x spends. each_at (λ y. (put nat_eq st.book.activity k act y).begun < st.book.budget) k
@@ -386,6 +562,7 @@ shows_same image earlier d new st e h = record {
   few = h.few;
   counted = ap length e.places ∙ h.counted ∙ ap length (sym e.activities);
   activities = subst (λ (x : List Activity × Store). EachShows image (made_in image (memory_in x.1)) x.0 st.book.activity st.frames) (λ i. (sym e.activities i, sym e.store i)) h.activities;
+  room = subst (λ (s : Vec Cell Global). HasRooms image s) (sym e.stack) h.room;
   waiting = subst (λ (x : List Activity). EachWaits image x st.book.line st.frames) (sym e.activities) h.waiting;
   unspent = h.unspent;
 }
@@ -432,6 +609,7 @@ shows_silent image earlier d st store activities output spent a old frames turn_
             next = s.next;
             frames = subst (λ m. ShowsFrames image made m (st.frames a) old.frames → ShowsFrames image made m (st.frames a) frames) runs (λ e. alike_both image made (st.frames a) (frames_in old.frames) (frames_in frames) e rests.alike) s.frames;
           }) (λ x ne. refl) (λ x ne. refl) h.activities);
+      room = h.room;
       waiting = waits_after image d.activities.items activities.items st.book.line st.book.line st.frames st.frames a (λ l wants at kept is'. absurd (turns_no_wait image earlier d st a h turn_of l wants at)) (λ x ne. refl) (kept_others d.activities.items activities.items a new is) (λ x ne. refl) h.waiting;
       unspent = h.unspent;
     }

@@ -53,6 +53,7 @@ handed_out image earlier d new st h out =
       few = h.few;
       counted = h.counted;
       activities = h.activities;
+      room = h.room;
       waiting = h.waiting;
       unspent = h.unspent;
     } in

@@ -1,6 +1,6 @@
 pub mod Pieces
-pub mod Served
 pub mod Rows
+pub mod Judging
 pub mod Desks
 pub mod Handing
 pub mod Waiting

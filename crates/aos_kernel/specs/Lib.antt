@@ -1,4 +1,5 @@
 pub mod Log
 pub mod Run
+pub mod Conditions
 pub mod Shows
 pub mod Keeps

@@ -3,8 +3,10 @@ use Rattle.std.specs.Prelude.{◌≡◌, ◌≢◌, ℕ, ◌<◌, ◌≤◌, Boo
 use Rattle.aos_base.specs.declared.kernel.Event.{Event}
 use Rattle.aos_base.specs.declared.kernel.Event.TheVariants as event
 use Rattle.aos_base.specs.declared.kernel.LockName.{LockName}
+use Rattle.aos_base.specs.declared.kernel.Verdict.{Verdict}
+use Rattle.aos_base.specs.declared.kernel.Verdict.TheVariants.{Holds, Fails, Traps}
 use Rattle.aos_base.specs.declared.kernel.Did.{Did}
-use Rattle.aos_base.specs.declared.kernel.Did.TheVariants.{Went, Ended, Enter, Leave, Await, Start, Trapped}
+use Rattle.aos_base.specs.declared.kernel.Did.TheVariants.{Enter, Await}
 use Rattle.aos_base.specs.Rooted.{Made}
 use Rattle.aos_base.specs.Lock.{Wants, Entry, Condition}
 use Rattle.aos_base.specs.Book as book
@@ -12,7 +14,7 @@ use Rattle.aos_base.specs.Book.{place_of, tell, owned_by}
 use Rattle.aos_base.specs.Machine.{State, on_book, turned, go_past, release}
 use Rattle.aos_code.specs.declared.image.Image.{Image}
 use Rattle.aos_code.specs.Memory.{Memory}
-use Rattle.aos_code.specs.Machine.{Frames, machine, made_in, turn}
+use Rattle.aos_code.specs.Machine.{Frames, machine, made_in, turn, verdict}
 use Rattle.aos_store.specs.declared.frames.Frames.{Frames as Kept}
 use Rattle.aos_store.specs.Store.{frames_in, memory_in}
 use Rattle.aos_cpu.specs.Turns.{Alike, StandsAtWork, IsBefore}
@@ -25,6 +27,7 @@ use Rattle.aos_kernel.specs.declared.activity.Next.TheVariants.{Runs, WillTrap, 
 use Rattle.aos_kernel.specs.declared.activity.Activity.{Activity}
 use Rattle.aos_kernel.specs.declared.desk.Desk.{Desk}
 use Rattle.aos_kernel.specs.Run.{rec_of}
+use Rattle.aos_kernel.specs.Conditions.{HasRooms, IsAwaiting, IsAwaitingSo}
 
 -- with these locks still to be released, the last one first
 abbrev pub next_in : Next → List LockName → book.Next
@@ -56,6 +59,7 @@ pub record IsWaiting (image : Image) (l : LockName) (wants : Wants) (kept : Acti
   pub runs : Runs ≡ kept.next
   pub before : IsBefore image (work_at l wants) (frames_in kept.frames)
   pub stands : StandsAtWork image (work_at l wants) fs.frames
+  pub awaits : IsAwaitingSo wants kept
 
 -- `earlier` are the events before those that the desk keeps
 pub record Shows (image : Image) (earlier : List Event) (d : Desk) (st : State Memory Frames) : Type 0 where
@@ -72,6 +76,7 @@ pub record Shows (image : Image) (earlier : List Event) (d : Desk) (st : State M
   pub activities : (x : ℕ) (kept : Activity) → slice_get d.activities.items x ≡ Some kept → ShowsActivity image (made_in image (memory_in d.store)) kept (st.book.activity x) (st.frames x)
   pub waiting : (x : ℕ) (l : LockName) (wants : Wants) → place_of st.book.line x ≡ Some (book.At l wants) → (kept : Activity) → slice_get d.activities.items x ≡ Some kept → IsWaiting image l wants kept (st.frames x)
   pub unspent : (x : ℕ) → st.book.spent ≡ None → (st.book.activity x).begun < st.book.budget
+  pub room : HasRooms image d.stack
 
 -- from each state that the old desk shows, the new one shows what the operation makes of it
 abbrev pub Performs : Image → (State Memory Frames → State Memory Frames) → Desk → Desk → Type 0
@@ -93,16 +98,6 @@ HasTurned image a left old new =
     (earlier : List Event) (st : State Memory Frames) → Shows image earlier old st → st.book.spent ≡ None →
     let t = turn image st.store (st.frames a) in
     (left ≡ t.left) × Shows image earlier new (turned (machine image) a t st)
-
--- work that instructions leave to the kernel
-abbrev pub IsServed : Did → Type 0
-IsServed Went = Unit {0}
-IsServed Ended = Unit {0}
-IsServed (Enter l) = Unit {0}
-IsServed (Leave l) = Unit {0}
-IsServed (Await l c) = ⊥
-IsServed (Start o) = Unit {0}
-IsServed (Trapped n c) = Unit {0}
 
 -- the activity stands on a worker, and each one that was started is kept
 pub record HasTurn (a : ℕ) (d : Desk) : Type 0 where
@@ -132,12 +127,39 @@ waits_for_condition (Waiter a) = true
 waits_for_condition (Entrant a) = false
 waits_for_condition Free = false
 
--- a lock that a gave up has passed, and all is done but that the heir, which stands before its entry, goes on
-abbrev pub HasHeir : Image → List Event → ℕ → LockName → Option ℕ → Desk → State Memory Frames → Type 0
-HasHeir image earlier a l None new st = Shows image earlier new (release (machine image) a l st)
-HasHeir image earlier a l (Some b) new st =
-    let handed = on_book (λ k. book.ready b (owned_by l (Some b) (tell (event.Pass l a b false) k))) (on_book (owned_by l None) st) in
-    (release (machine image) a l st ≡ go_past (machine image) b handed) × (Shows image earlier new handed) × (StandsBefore image b (Enter l) new) × (StandsAtNoLock b handed) × StandsAtWork image (Enter l) (st.frames b).frames
+-- it stands before the work that is left to the kernel, in the state too
+abbrev pub IsAt : Image → ℕ → Did → Desk → State Memory Frames → Type 0
+IsAt image a left d st = StandsBefore image a left d × StandsAtWork image left (st.frames a).frames
+
+-- it awaits this condition
+abbrev pub AwaitsIn : (condition : ℕ) → ℕ → Desk → Type 0
+AwaitsIn c a d = (kept : Activity) × (slice_get d.activities.items a ≡ Some kept) × IsAwaiting c kept
+
+-- the lock l, which a gave up, is b's, who is ready
+abbrev pub handed : (a : ℕ) (l : LockName) (b : ℕ) (waiter : Bool) → State Memory Frames → State Memory Frames
+handed a l b waiter st = on_book (λ k. book.ready b (owned_by l (Some b) (tell (event.Pass l a b waiter) k))) (on_book (owned_by l None) st)
+
+-- a waiter that has got its lock goes on, unless its condition traps: then that is its next turn
+abbrev pub goes_or_traps : Image → ℕ → Verdict → State Memory Frames → State Memory Frames
+goes_or_traps image b Holds st = go_past (machine image) b st
+goes_or_traps image b Fails st = go_past (machine image) b st
+goes_or_traps image b (Traps n) st = on_book (book.next_is b (book.WillTrap n)) st
+
+-- all is done but that b, which stands before this work, goes on
+pub record IsHanded (image : Image) (earlier : List Event) (a : ℕ) (l : LockName) (b : ℕ) (waiter : Bool) (left : Did) (new : Desk) (st : State Memory Frames) : Type 0 where
+  pub shows : Shows image earlier new (handed a l b waiter st)
+  pub at : IsAt image b left new (handed a l b waiter st)
+  pub out : StandsAtNoLock b (handed a l b waiter st)
+
+-- a lock that a gave up has passed, and all is done but that the heir goes on, or traps
+abbrev pub HasHeir : Image → List Event → ℕ → LockName → Passed → Desk → State Memory Frames → Type 0
+HasHeir image earlier a l Free new st = Shows image earlier new (release (machine image) a l st)
+HasHeir image earlier a l (Entrant b) new st =
+    (release (machine image) a l st ≡ go_past (machine image) b (handed a l b false st)) × IsHanded image earlier a l b false (Enter l) new st
+HasHeir image earlier a l (Waiter b) new st =
+    (c : ℕ)
+    × (release (machine image) a l st ≡ goes_or_traps image b (verdict image st.store (st.frames b) c) (handed a l b true st))
+    × IsHanded image earlier a l b true (Await l c) new st × AwaitsIn c b new
 
 -- one lock has been taken from the end of a list, or there was none
 abbrev pub IsPopped : Option LockName → List LockName → List LockName → Type 0
@@ -155,6 +177,7 @@ pub record HasSame (old new : Desk) : Type 0 where
   pub line : StandsSame old.line new.line
   pub places : places_of new.line ≡ places_of old.line
   pub live : live_of new.line ≡ live_of old.line
+  pub stack : new.stack ≡ old.stack
   pub output : new.output.items ≡ old.output.items
   pub traps : new.traps.items ≡ old.traps.items
   pub events : new.events.items ≡ old.events.items

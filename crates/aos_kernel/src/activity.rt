@@ -1,5 +1,5 @@
 // The activities by their numbers.
-ghost use Rattle.std.specs.Prelude.{◌≡◌, ℕ, [], Option, Some, IfOk, Vec, map, reverse, slice_get, slice_set};
+ghost use Rattle.std.specs.Prelude.{◌≡◌, ◌≤◌, ◌^◌, ℕ, [], Option, Some, IfOk, OnOk, OnErr, Vec, length, map, nat_lt, reverse, slice_get, slice_set};
 ghost use Rattle.std.specs.declared.alloc.Global.{Global};
 ghost use Rattle.aos_base.specs.declared.kernel.LockName.{LockName};
 ghost use Rattle.aos_base.specs.Rooted.{Made as MadeAs};
@@ -26,12 +26,13 @@ pub enum Next {
     Gone,
 }
 
-/// An activity: its priority, its next turn, the locks that it is still to release after a trap, the next one last, and its
-/// frames, with the statements that it has begun.
+/// An activity: its priority, its next turn, the condition that it awaited last, the locks that it is still to release after a trap,
+/// the next one last, and its frames, with the statements that it has begun.
 #[derive(Drop)]
 pub struct Activity {
     pub priority: Priority,
     pub next: Next,
+    pub condition: u32,
     pub locks: Vec<LockName>,
     pub frames: Frames,
 }
@@ -158,5 +159,63 @@ pub fn drop_frames(alloc: Global, activities: &mut Vec<Activity>, activity: u32)
         kept.next = Next::Gone;
         kept.frames.list = Vec::new(alloc);
         kept.frames.following = Vec::new(alloc);
+    }
+}
+
+/// The condition that an activity awaited last.
+pub fn condition_of(activities: &[Activity], activity: u32) -> u32
+    ensures { (kept : Activity) → slice_get activities.now activity ≡ Some kept → result ≡ kept.condition }
+{
+    match activities.get(activity as usize) {
+        Some(kept) => kept.condition,
+        None => 0,
+    }
+}
+
+/// The most frames over which a condition is evaluated.
+pub const MOST_FRAMES: usize = 0x1_0000_0000;
+
+/// Whether an activity has more frames than a condition is evaluated over.
+fn has_many_frames(activities: &[Activity], activity: u32) -> bool
+    ensures { (kept : Activity) → slice_get activities.now activity ≡ Some kept →
+        result ≡ nat_lt (2 ^ 32) (length kept.frames.list.items) }
+{
+    match activities.get(activity as usize) {
+        Some(kept) => kept.frames.count() > MOST_FRAMES,
+        None => false,
+    }
+}
+
+/// An activity awaits this condition. Where it has more frames than one is evaluated over, nothing changes.
+pub fn set_condition(
+    activities: &mut Vec<Activity>,
+    activity: u32,
+    condition: u32,
+) -> Result<(), NoMemory>
+    ensures set { (kept : Activity) → slice_get activities.old.items activity ≡ Some kept →
+        OnOk result ((length kept.frames.list.items ≤ 2 ^ 32) ×
+        (activities.new.items ≡ slice_set activities.old.items activity (record kept { condition = condition }))) }
+    ensures err { OnErr result (activities.new ≡ activities.old) }
+{
+    if has_many_frames(activities, activity) {
+        return Err(NoMemory);
+    }
+    match activities.get_mut(activity as usize) {
+        None => Err(NoMemory),
+        Some(kept) => {
+            kept.condition = condition;
+            Ok(())
+        }
+    }
+}
+
+/// A trap of this number is an activity's next turn.
+pub fn set_will_trap(activities: &mut Vec<Activity>, activity: u32, number: u8)
+    ensures { (kept : Activity) → slice_get activities.old.items activity ≡ Some kept →
+        activities.new.items ≡
+        slice_set activities.old.items activity (record kept { next = Next.WillTrap number }) }
+{
+    if let Some(kept) = activities.get_mut(activity as usize) {
+        kept.next = Next::WillTrap(number);
     }
 }

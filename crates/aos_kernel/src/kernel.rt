@@ -11,6 +11,7 @@ ghost use Rattle.aos_kernel.specs.Shows.{Shows, HandsOut};
 ghost use Rattle.aos_kernel.specs.Run.{state_of, events_of, traps_of, waits_of, spent_of, comes_to, after_step, ticks, after_tick};
 
 use crate::activity::{Activity, Next};
+use crate::conditions::stack_for;
 use crate::desk::Desk;
 use crate::log::{Stepped, add_step};
 use aos_base::{Event, NoMemory, Outcome, Sched};
@@ -109,6 +110,7 @@ fn first_desk(alloc: Global, image: &Image, budget: u64) -> Result<Desk, NoMemor
     let first = Activity {
         priority: Priority::Normal,
         next: Next::Runs,
+        condition: 0,
         locks: Vec::new(alloc),
         frames,
     };
@@ -118,6 +120,7 @@ fn first_desk(alloc: Global, image: &Image, budget: u64) -> Result<Desk, NoMemor
     let mut line = Line::new(alloc);
     line.reserve()?;
     line.bear(Priority::Normal);
+    let stack = stack_for(alloc, image)?;
     Ok(Desk {
         alloc,
         store,
@@ -128,6 +131,7 @@ fn first_desk(alloc: Global, image: &Image, budget: u64) -> Result<Desk, NoMemor
         events: Vec::new(alloc),
         budget,
         spent: None,
+        stack,
     })
 }
 

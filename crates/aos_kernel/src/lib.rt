@@ -3,6 +3,7 @@
 
 mod activity;
 mod births;
+mod conditions;
 mod desk;
 pub mod kernel;
 mod locks;

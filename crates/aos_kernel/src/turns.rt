@@ -1,12 +1,13 @@
 // Turns of activities.
-ghost use Rattle.std.specs.Prelude.{◌≢◌, List, IfOk, OnOk, OnErr};
+ghost use Rattle.std.specs.Prelude.{◌≡◌, ◌≢◌, List, IfOk, OnOk, OnErr};
 ghost use Rattle.aos_base.specs.declared.kernel.Event.{Event};
 ghost use Rattle.aos_base.specs.Book.{Runs};
 ghost use Rattle.aos_base.specs.Machine.{State, serve, turn_by};
 ghost use Rattle.aos_code.specs.Memory.{Memory};
 ghost use Rattle.aos_code.specs.Machine.{Frames as FramesOf, machine};
 ghost use Rattle.aos_cpu.specs.Turns.{StandsAtWork, WhereLeft};
-ghost use Rattle.aos_kernel.specs.Shows.{Shows, PerformsUnspent, ShowsSame, HasTurned, IsServed, StandsBefore, NextIs, HasTurn};
+ghost use Rattle.aos_kernel.specs.Conditions.{HasRooms};
+ghost use Rattle.aos_kernel.specs.Shows.{Shows, PerformsUnspent, ShowsSame, HasTurned, StandsBefore, NextIs, HasTurn};
 
 use crate::activity::{Next, next_of};
 use crate::desk::{Desk, spent_after};
@@ -25,6 +26,7 @@ impl Desk {
         ensures ok { IfOk result (λ left. HasTurned image.now activity left self.old self.new) }
         ensures left { IfOk result (λ left. WhereLeft left (ShowsSame image.now self.old self.new)) }
         ensures err { OnErr result (ShowsSame image.now self.old self.new) }
+        ensures stack { self.new.stack ≡ self.old.stack }
     {
         if let Some(kept) = self.activities.get_mut(activity as usize) {
             let before = kept.frames.begun();
@@ -42,13 +44,14 @@ impl Desk {
         Ok(Did::Went)
     }
 
-    /// The kernel's part of a turn. No instruction awaits a condition yet.
+    /// The kernel's part of a turn.
     fn serve(&mut self, image: &Image, activity: u32, left: Did) -> Result<(), NoMemory>
         requires turn { HasTurn activity self.old }
         requires before { StandsBefore image.now activity left self.old }
+        requires stack { HasRooms image.now self.old.stack }
         ensures ok { OnOk result ((earlier : List Event) (st : State Memory FramesOf) →
             Shows image.now earlier self.old st →
-            IsServed left → StandsAtWork image.now left (st.frames activity).frames →
+            StandsAtWork image.now left (st.frames activity).frames →
             Shows image.now earlier self.new (serve (machine image.now) activity left st)) }
         ensures err { OnErr result (ShowsSame image.now self.old self.new) }
         ensures left { OnErr result (left ≢ Did.Went) }
@@ -58,7 +61,7 @@ impl Desk {
             Did::Ended => self.ended(activity),
             Did::Enter(lock) => self.enter(image, activity, lock),
             Did::Leave(lock) => self.leave(image, activity, lock),
-            Did::Await(_, _) => Ok(()),
+            Did::Await(lock, condition) => self.wait(image, activity, lock, condition),
             Did::Start(object) => self.start(image, activity, object),
             Did::Trapped(number, code) => self.trap(image, activity, number, code),
         }
@@ -68,6 +71,7 @@ impl Desk {
     fn run(&mut self, image: &Image, activity: u32) -> Result<(), NoMemory>
         requires turn { HasTurn activity self.old }
         requires runs { NextIs activity Next.Runs self.old }
+        requires stack { HasRooms image.now self.old.stack }
         ensures ok { OnOk result
             (PerformsUnspent image.now
             (turn_by (machine image.now) activity Runs) self.old self.new) }
@@ -79,7 +83,8 @@ impl Desk {
 
     /// A turn of an activity, whatever its next one is. Where memory runs out, only silent work has been done.
     pub fn turn(&mut self, image: &Image, activity: u32) -> Result<(), NoMemory>
-        requires { HasTurn activity self.old }
+        requires turn { HasTurn activity self.old }
+        requires stack { HasRooms image.now self.old.stack }
         ensures ok { OnOk result (PerformsUnspent image.now
             (λ st. turn_by (machine image.now) activity
             (st.book.activity activity).next st) self.old self.new) }

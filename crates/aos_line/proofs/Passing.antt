@@ -1,25 +1,23 @@
 -- Those who ask for locks, and to whom locks pass.
 use Rattle.std.proofs.Common.{◌≡◌, ◌≢◌, ℕ, suc, ◌+◌, ◌<◌, ◌≤◌, List, [], ◌∷◌, ◌++◌, length, refl, sym, ap, subst, ◌∙◌, arith, inl, inr}
 use Rattle.std.specs.List.{Contains}
-use Rattle.std.specs.Prelude.{true, false, if◌then◌else◌, Option, Some, None, is_some, get_or, slice_set, Vec}
+use Rattle.std.specs.Prelude.{Bool, true, false, not, if◌then◌else◌, Option, Some, None, is_some, get_or, slice_set, Vec}
 use Rattle.std.specs.declared.alloc.Global.{Global}
 use Rattle.std.proofs.lemmas.List.{append-nil as append_nil}
 use Rattle.std.proofs.lemmas.Bool.Decides.{eqb_tells}
 use Rattle.aos_base.specs.declared.kernel.LockName.{LockName}
 use Rattle.aos_base.specs.declared.kernel.Verdict.{Verdict}
-use Rattle.aos_base.specs.Lock.{is_lock, Waiting, Wants, Entry, Heir, Nobody, Entrant, Waiter, Trapping, judged, heir, after_heir, without as waiting_without}
+use Rattle.aos_base.specs.Lock.{is_lock, Waiting, Wants, Entry, Condition, enters, Heir, Nobody, Entrant, Waiter, Trapping, judged, heir, after_heir, without as waiting_without}
 use Rattle.aos_base.specs.Book as book
-use Rattle.aos_base.specs.Book.{Stand, put, is_on, is_ready, wanted, listed, waiting, place_of, leave_line}
+use Rattle.aos_base.specs.Book.{Stand, put, is_on, wanted, listed, waiting, place_of, leave_line}
 use Rattle.aos_queue.specs.declared.links.Links.{Links}
 use Rattle.aos_queue.specs.Lists.{room_of, KeepsOthers}
 use Rattle.aos_queue.proofs.Members.{among, without-none}
 use Rattle.aos_lock.specs.declared.locks.Locks.{Locks}
-use Rattle.aos_lock.specs.declared.lock.Entered.{Entered}
-use Rattle.aos_lock.specs.declared.lock.Entered.TheVariants.{Taken, Waits, Recursive}
 use Rattle.aos_lock.specs.declared.lock.Passed.{Passed}
 use Rattle.aos_lock.specs.declared.lock.Passed.TheVariants as to
-use Rattle.aos_lock.specs.Heirs.{own, entrant, heir_by, by_waiter, passed_to, new_owner}
-use Rattle.aos_lock.specs.Waits.{numbers, count_of, owner_of, waiting_in, Belong as LocksBelong, KeepsLocks}
+use Rattle.aos_lock.specs.Heirs.{own, own_wants, heir_by, by_waiter, passed_to, new_owner}
+use Rattle.aos_lock.specs.Waits.{numbers, joins, count_of, owner_of, waiting_in, Belong as LocksBelong, KeepsLocks}
 use Rattle.aos_lock.proofs.Owns.{heir-own}
 use Rattle.aos_lock.proofs.Walks.{leaves as heir_leaves}
 use Rattle.aos_ready.specs.declared.ready.Priority.{Priority}
@@ -46,6 +44,11 @@ at_one k (book.At j wants) e =
       | inl h ↦ (wants, ap (λ x. book.At x wants) h.1)
       | inr h ↦ (let z : false ≡ true = sym (ap (λ q. is_some (if q then Some wants else None)) h.0) ∙ e in absurd (cc z))
     ]
+
+-- who waits is kept by whether it awaits a condition
+joins_so : (awaits : Bool) (wants : Wants) (a : ℕ) → awaits ≡ not (enters wants) → joins awaits a ≡ record { activity = a; wants = own_wants a wants }
+joins_so awaits Entry a e = ap (λ b. joins b a) e
+joins_so awaits (Condition c) a e = ap (λ b. joins b a) e
 
 not_at : (k j : LockName) (wants : Wants) → j ≢ k → wanted k (book.At j wants) ≡ None
 not_at k j wants ne = by_lock (λ q. (if q then Some wants else None) ≡ None) j k (λ e. absurd (ne e)) (λ _. refl)
@@ -112,17 +115,17 @@ module _ (l : Line) (line : List Stand) (owner : LockName → Option ℕ) (h : S
           ]
 
   -- one who stood nowhere waits for it, behind all others
-  pub joined_lock : (a : ℕ) (links : Links) (locks : Locks) (places : Vec Place Global) (live : ℕ) → place_of line a ≡ None → a < length l.places.items → waiting_in links locks n ≡ waiting_in l.links l.locks n ++ entrant a ∷ [] → owner_of locks n ≡ owner_of l.locks n →
+  pub joined_lock : (a : ℕ) (awaits : Bool) (wants : Wants) (links : Links) (locks : Locks) (places : Vec Place Global) (live : ℕ) → awaits ≡ not (enters wants) → place_of line a ≡ None → a < length l.places.items → waiting_in links locks n ≡ waiting_in l.links l.locks n ++ joins awaits a ∷ [] → owner_of locks n ≡ owner_of l.locks n →
       KeepsLocks l.links l.locks links locks n → LocksBelong links locks → KeepsOthers l.links links (a ∷ numbers (waiting_in l.links l.locks n)) → room_of links ≡ room_of l.links →
-      places.items ≡ slice_set l.places.items a (place.At lock false) → l.live < 1024 → live ≡ suc l.live →
-      Joined l (record l { links = links; locks = locks; places = places; live = live }) a (place.At lock false) (book.At lock Entry)
-  joined_lock a links locks places live at within list owned others belong keeps room set few one =
+      places.items ≡ slice_set l.places.items a (place.At lock awaits) → l.live < 1024 → live ≡ suc l.live →
+      Joined l (record l { links = links; locks = locks; places = places; live = live }) a (place.At lock awaits) (book.At lock wants)
+  joined_lock a awaits wants links locks places live told at within list owned others belong keeps room set few one =
       let touched = a ∷ numbers (waiting_in l.links l.locks n) in
       let apart = ready_apart a (none_ready l line owner h a at) in
       record {
         within = within;
         places = set;
-        is = (Entry, refl, refl);
+        is = (wants, refl, told);
         live = one;
         few = few;
         awake = refl;
@@ -130,12 +133,12 @@ module _ (l : Line) (line : List Stand) (owner : LockName → Option ℕ) (h : S
         ready = λ q. ready_kept l.links links l.ready touched keeps h.queues apart q ∙ sym (append_nil (ready_in l.links l.ready q));
         waiting = λ k m e less. elim (lock_tells k lock) [
           | inl s ↦ (let z : Some m ≡ Some n = sym e ∙ ap (number_of l.numbers) s.1 ∙ is in let same : m ≡ n = cc z in
-              ap (waiting_in links locks) same ∙ list ∙ ap (λ i. waiting_in l.links l.locks i ++ entrant a ∷ []) (sym same)
-              ∙ by_lock (λ q. waiting_in l.links l.locks m ++ entrant a ∷ [] ≡ waiting_in l.links l.locks m ++ own (listed (if q then Some Entry else None) a [])) lock k (λ _. refl) (λ ne. absurd (ne (sym s.1))))
+              ap (waiting_in links locks) same ∙ list ∙ ap (λ i. waiting_in l.links l.locks i ++ joins awaits a ∷ []) (sym same)
+              ∙ by_lock (λ q. waiting_in l.links l.locks m ++ joins awaits a ∷ [] ≡ waiting_in l.links l.locks m ++ own (listed (if q then Some wants else None) a [])) lock k (λ _. ap (λ e. waiting_in l.links l.locks m ++ e ∷ []) (joins_so awaits wants a told)) (λ ne. absurd (ne (sym s.1))))
           | inr d ↦ others.lists m (other_number k m d.1 e) ∙ sym (append_nil (waiting_in l.links l.locks m))
-              ∙ ap (λ w. waiting_in l.links l.locks m ++ own (listed w a [])) (sym (not_at k lock Entry (λ s. d.1 (sym s))))
+              ∙ ap (λ w. waiting_in l.links l.locks m ++ own (listed w a [])) (sym (not_at k lock wants (λ s. d.1 (sym s))))
         ];
-        unnumbered = λ k e. not_at k lock Entry (λ s. (let z : None ≡ Some n = sym e ∙ ap (number_of l.numbers) (sym s) ∙ is in absurd (cc z)));
+        unnumbered = λ k e. not_at k lock wants (λ s. (let z : None ≡ Some n = sym e ∙ ap (number_of l.numbers) (sym s) ∙ is in absurd (cc z)));
         owners = λ m less. elim (eqb_tells m n) [
           | inl s ↦ ap (owner_of locks) s.1 ∙ owned ∙ ap (owner_of l.locks) (sym s.1)
           | inr d ↦ others.owners m d.1
@@ -260,12 +263,6 @@ numbered l line owner lock n names locks h none last set count free nobody owner
         | inr c ↦ h.apart k j m (sym (there k d.1) ∙ e) (sym (there j c.1) ∙ f)
       ]
     ]
-
--- who asks for a lock that another one owns waits
-pub must_wait : (r : Entered) (a : ℕ) (o : Option ℕ) (b : ℕ) → (r ≡ Taken → o ≡ None) → (r ≡ Recursive → o ≡ Some a) → o ≡ Some b → b ≢ a → r ≡ Waits
-must_wait Taken a o b taken recursive is ne = let z : None ≡ Some b = sym (taken refl) ∙ is in absurd (cc z)
-must_wait Waits a o b taken recursive is ne = refl
-must_wait Recursive a o b taken recursive is ne = let z : Some b ≡ Some a = sym is ∙ recursive refl in absurd (ne (cc z))
 
 -- a passed lock, by its owner
 

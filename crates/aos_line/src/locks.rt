@@ -1,12 +1,11 @@
 // Locks: who asks for them, and to whom they pass.
 
-ghost use Rattle.std.specs.Prelude.{◌≡◌, ◌≢◌, ℕ, ◌<◌, ◌++◌, ◌∷◌, [], List, Option, Some, IfOk, OnErr};
+ghost use Rattle.std.specs.Prelude.{◌≡◌, ℕ, not, ◌++◌, ◌∷◌, [], List, Option, Some, IfOk, OnOk, OnErr};
 ghost use Rattle.std.specs.List.{Contains};
 ghost use Rattle.aos_base.specs.declared.kernel.Verdict.{Verdict};
-ghost use Rattle.aos_base.specs.Lock.{is_lock, Waiting, Entry, judged, heir};
-ghost use Rattle.aos_base.specs.Book.{Stand, put, waiting, At};
+ghost use Rattle.aos_base.specs.Lock.{is_lock, Waiting, Wants, Condition, enters, judged, heir};
+ghost use Rattle.aos_base.specs.Book.{Stand, put, waiting, move, At};
 ghost use Rattle.aos_lock.specs.Heirs.{by_waiter, passed_to, new_owner};
-ghost use Rattle.aos_lock.specs.Waits.{owner_of};
 ghost use Rattle.aos_line.specs.Numbers.{number_of};
 ghost use Rattle.aos_line.specs.Stands.{started_of, Stands, IsStood, IsOn, IsNowhere, StandsSame, HasEntered, left_by};
 
@@ -35,20 +34,16 @@ impl Line {
         Ok(number)
     }
 
-    /// One that stands nowhere waits for a lock that another one owns, as an entrant behind all others.
-    fn join(&mut self, activity: u32, lock: LockName, number: u32)
+    /// One that stands nowhere waits for a lock, behind all others: for a condition, or else to enter.
+    fn join(&mut self, activity: u32, lock: LockName, number: u32, awaits: bool)
         requires nowhere { IsNowhere self.old activity }
         requires number { number_of self.old.numbers lock ≡ Some number }
-        requires owned { (b : ℕ) × (owner_of self.old.locks number ≡ Some b) × (b ≢ activity) }
-        ensures stands { (line : List Stand) (owner : LockName → Option ℕ) → Stands self.old line owner →
-            Stands self.new (line ++ record { activity = activity; place = At lock Entry } ∷ []) owner }
+        ensures stands { (line : List Stand) (owner : LockName → Option ℕ) → Stands self.old line owner → (wants : Wants) → awaits ≡ not (enters wants) →
+            Stands self.new (line ++ record { activity = activity; place = At lock wants } ∷ []) owner }
         ensures started { started_of self.new ≡ started_of self.old }
     {
-        self.locks.enter(&mut self.links, number, activity);
-        self.places[activity as usize] = Place::At {
-            lock,
-            awaits: false,
-        };
+        self.locks.join(&mut self.links, number, activity, awaits);
+        self.places[activity as usize] = Place::At { lock, awaits };
         self.live += 1;
     }
 
@@ -73,10 +68,25 @@ impl Line {
                     return Ok(Entered::Recursive);
                 }
                 self.leave(activity);
-                self.join(activity, lock, number);
+                self.join(activity, lock, number, false);
                 Ok(Entered::Waits)
             }
         }
+    }
+
+    /// An activity on a worker leaves it, and waits for a condition in a lock's region, behind all others. Where memory is wanted,
+    /// nothing changes.
+    pub fn wait(&mut self, activity: u32, lock: LockName) -> Result<(), NoMemory>
+        requires { IsOn self.old activity }
+        ensures stands { (line : List Stand) (owner : LockName → Option ℕ) → Stands self.old line owner → (condition : ℕ) →
+            OnOk result (Stands self.new (move activity (At lock (Condition condition)) line) owner) }
+        ensures err { OnErr result (StandsSame self.old self.new) }
+        ensures started { started_of self.new ≡ started_of self.old }
+    {
+        let number = self.number(lock)?;
+        self.leave(activity);
+        self.join(activity, lock, number, true);
+        Ok(())
     }
 
     /// A lock passes to its heir, who stands nowhere then. It takes no memory.
@@ -90,6 +100,7 @@ impl Line {
         ensures stands { (line : List Stand) (owner : LockName → Option ℕ) → Stands self.old line owner →
             Stands self.new (left_by result line) (put is_lock owner lock (new_owner result)) }
         ensures nowhere { (b : ℕ) → new_owner result ≡ Some b → IsNowhere self.new b }
+        ensures held { T.held test.new ≡ T.held test.old }
         ensures started { started_of self.new ≡ started_of self.old }
     {
         let Some(number) = self.numbers.get(lock) else {

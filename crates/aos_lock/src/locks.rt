@@ -5,7 +5,7 @@ ghost use Rattle.aos_base.specs.Lock.{after_heir};
 ghost use Rattle.aos_queue.specs.declared.links.Links.{Links};
 ghost use Rattle.aos_queue.specs.Lists.{room_of, mark_of, KeepsOthers, SameTable};
 ghost use Rattle.aos_lock.specs.Heirs.{heir_by, passed_to, new_owner, entered_owner, entered_list, waiter};
-ghost use Rattle.aos_lock.specs.Waits.{owner_of, waiting_in, count_of, numbers, Belong, WaitsNowhere, KeepsLocks, KeepsMarks};
+ghost use Rattle.aos_lock.specs.Waits.{owner_of, waiting_in, count_of, numbers, joins, Belong, WaitsNowhere, KeepsLocks, KeepsMarks};
 
 use crate::lock::{Entered, Lock, Passed};
 use crate::test::Test;
@@ -98,6 +98,25 @@ impl Locks {
         self.locks[lock as usize].enter(links, activity)
     }
 
+    /// An activity waits for a lock, behind all others, for a condition or else to enter, and whoever owns it keeps it.
+    #[tactic(auto, unfolding(crate::specs::Waits::count_of))]
+    pub fn join(&mut self, links: &mut Links, lock: u32, activity: u32, awaits: bool)
+        requires added { lock < count_of self.old }
+        requires belong { Belong links.old self.old }
+        requires reserved { activity < room_of links.old }
+        requires elsewhere { WaitsNowhere links.old self.old activity }
+        ensures owner { owner_of self.new lock ≡ owner_of self.old lock }
+        ensures list { waiting_in links.new self.new lock ≡
+            waiting_in links.old self.old lock ++ joins awaits activity ∷ [] }
+        ensures belong { Belong links.new self.new }
+        ensures others { KeepsLocks links.old self.old links.new self.new lock }
+        ensures queues { let touched = activity ∷ numbers (waiting_in links.old self.old lock) in
+            KeepsOthers links.old links.new touched }
+        ensures marks { KeepsMarks links.old links.new activity }
+    {
+        self.locks[lock as usize].join(links, activity, awaits)
+    }
+
     /// The lock is left, and passes to its heir: to the first waiter whose condition holds or traps, else to
     /// the first entrant, else to nobody (Muller 2002, on monitors).
     #[tactic(auto, unfolding(crate::specs::Waits::count_of))]
@@ -116,6 +135,7 @@ impl Locks {
             KeepsOthers links.old links.new touched }
         ensures table { SameTable links.old links.new }
         ensures verdicts { (other : ℕ) → T.verdict_of test.new other ≡ T.verdict_of test.old other }
+        ensures held { T.held test.new ≡ T.held test.old }
     {
         self.locks[lock as usize].release(links, test)
     }
@@ -146,6 +166,7 @@ impl Locks {
             KeepsOthers links.old links.new touched }
         ensures marks { KeepsMarks links.old links.new activity }
         ensures verdicts { (other : ℕ) → T.verdict_of test.new other ≡ T.verdict_of test.old other }
+        ensures held { T.held test.new ≡ T.held test.old }
     {
         self.locks[lock as usize].wait(links, activity, test)
     }

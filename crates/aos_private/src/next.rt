@@ -60,6 +60,7 @@ fn goes_on(image: &Image, frames: &Frames, store: &Store, stop: Stop) -> bool
         Stop::Work(question, _) => goes(image, question, frames, store),
         Stop::Begins(_, _) => true,
         Stop::Fails(_, _) => false,
+        Stop::Decides(_) => false,
     }
 }
 

@@ -8,5 +8,6 @@ pub mod Roomy
 pub mod Knowing
 pub mod Telling
 pub mod Extending
+pub mod Evaluating
 mod Receivers
 mod Applying

@@ -10,10 +10,10 @@ use Rattle.aos_code.specs.declared.image.TypeDesc.{TypeDesc}
 use Rattle.aos_code.specs.Silent.{Stack, Keeps, Work, Look, Act, Looks, Stops, lost, Visible, noted, looks, Tells, Refuses, Invokes, Unheard, told_by, on_told, on_act, on_noted}
 use Rattle.aos_code.specs.Machine.{Frame}
 use Rattle.aos_silent.specs.declared.act.Act.{Act as KeptAct}
-use Rattle.aos_silent.specs.declared.act.Act.TheVariants.{Goes as GoesOn, Sees as Asks, Begins as BeginsAt, Fails as FailsWith}
+use Rattle.aos_silent.specs.declared.act.Act.TheVariants.{Goes as GoesOn, Sees as Asks, Begins as BeginsAt, Fails as FailsWith, Decides as DecidesWith}
 use Rattle.aos_silent.specs.declared.act.Way.TheVariants.{Direct}
 use Rattle.aos_silent.specs.declared.act.Question.{Question as KeptQuestion}
-use Rattle.aos_silent.specs.declared.act.Question.TheVariants.{Reads as AsksRead, Stores as AsksStore, Copies as AsksCopy, PutsText as AsksPutText, ComparesTexts as AsksCompare, Calls as AsksCall, Ends as AsksEnd, Makes as AsksNew, Starts as AsksStart, Enters as AsksEnter, Leaves as AsksLeave, PutsInt as AsksInt, PutsChar as AsksChar, PutsString as AsksString, PutsNothing as AsksNothing, PutsLn as AsksLn}
+use Rattle.aos_silent.specs.declared.act.Question.TheVariants.{Reads as AsksRead, Stores as AsksStore, Copies as AsksCopy, PutsText as AsksPutText, ComparesTexts as AsksCompare, Calls as AsksCall, Ends as AsksEnd, Makes as AsksNew, Starts as AsksStart, Enters as AsksEnter, Leaves as AsksLeave, Awaits as AsksAwait, PutsInt as AsksInt, PutsChar as AsksChar, PutsString as AsksString, PutsNothing as AsksNothing, PutsLn as AsksLn}
 use Rattle.aos_silent.specs.Acts.{question_in, operands_of, act_in, object_in}
 use Rattle.aos_silent.specs.Steps.{WhereMoves, DoesSo, IsStep, IsStepOf, IsTold}
 
@@ -30,6 +30,7 @@ visible cells (AsksNew t j) s = refl
 visible cells (AsksStart o) s = refl
 visible cells AsksEnter s = refl
 visible cells AsksLeave s = refl
+visible cells (AsksAwait c) s = refl
 visible cells (AsksInt a n) s = refl
 visible cells (AsksChar a) s = refl
 visible cells (AsksString p n) s = refl
@@ -41,6 +42,7 @@ done (GoesOn over) shapes types made cells k s next at = refl
 done (Asks q) shapes types made cells k s next at = ap (λ n. on_noted n (question_in q s) next at k (drop (operands_of q) s)) (visible cells q s)
 done (BeginsAt to p) shapes types made cells k s next at = refl
 done (FailsWith n c) shapes types made cells k s next at = refl
+done (DecidesWith a) shapes types made cells k s next at = refl
 
 -- the frame's operands after it are s
 pub stepped : (did : KeptAct) (a : Act) (f : Frame) (s : Stack) → act_in did s ≡ a → IsStep a did f (record f { stack = s })
@@ -52,6 +54,7 @@ where_moves (GoesOn over) P p = p
 where_moves (Asks q) P p = tt
 where_moves (BeginsAt to pos) P p = p
 where_moves (FailsWith n c) P p = tt
+where_moves (DecidesWith a) P p = tt
 
 module _ (shapes : List ProcShape) (types : List TypeDesc) (made : ℕ → Option Made) where
   -- what is done whatever objects were made as

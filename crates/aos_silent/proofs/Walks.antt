@@ -13,12 +13,12 @@ use Rattle.aos_code.specs.declared.instr.Instr.TheVariants.{Begin, Num}
 use Rattle.aos_code.specs.declared.image.ProcShape.{ProcShape}
 use Rattle.aos_code.specs.declared.image.TypeDesc.{TypeDesc}
 use Rattle.aos_code.specs.Silent.{Here, Stack, Keeps, Stop, Act, Begins, Ended, lost, act, on_act, walk, silent}
-use Rattle.aos_code.specs.Machine.{Frame, code_of}
+use Rattle.aos_code.specs.Machine.{Frame}
 use Rattle.aos_silent.specs.declared.act.Act.{Act as KeptAct}
 use Rattle.aos_silent.specs.declared.act.Act.TheVariants.{Goes as GoesOn, Begins as BeginsAt}
 use Rattle.aos_silent.specs.Acts.{IsBeginOf}
 use Rattle.aos_silent.specs.Steps.{after, WhereMoves, DoesSo}
-use Rattle.aos_silent.specs.Silent.{Seen, here_at, seen_at}
+use Rattle.aos_silent.specs.Silent.{Seen, here_at, seen_with}
 use Rattle.aos_silent.proofs.Arguments.{at_and_behind}
 
 pub drop_next : {X : Type 0} (at : ℕ) (xs : List X) (x : X) (rest : List X) → drop at xs ≡ x ∷ rest → drop (at + 1) xs ≡ rest
@@ -66,16 +66,12 @@ module _ (shapes : List ProcShape) (types : List TypeDesc) (made : ℕ → Optio
             past_end (at + 1 + n) k s farther ∙ sym (past_end m k s far)
       ]
 
--- The first instruction of a frame has been done, whose code is that of the image, where silent work goes on or comes to a Begin.
-module _ (image : Image) (all : ℕ → Option Made) (here : ℕ) (f g : Frame) (code : List Instr) (did : KeptAct) (code_is : code ≡ code_of image f.procedure) (within : f.next < length code)
+-- The first instruction of a frame of this code has been done, where silent work goes on or comes to a Begin.
+module _ (image : Image) (all : ℕ → Option Made) (here : ℕ) (f g : Frame) (code : List Instr) (did : KeptAct) (within : f.next < length code)
     (moves : WhereMoves did (DoesSo image.shapes.items image.types.items all f.cells (act image.shapes.items image.types.items f.procedure (here_at here f) (get_or code f.next (Num (pos 0))) code f.next f.stack) did f.keeps g.keeps g.stack))
     (same : g ≡ record f { keeps = g.keeps; stack = g.stack }) where
   abbrev from : ℕ → Keeps → Stack → Stop
   from at k s = silent image.shapes.items image.types.items all f.procedure (here_at here f) f.cells code at k s
-
-  -- it is the image's silent work
-  from_is : (at : ℕ) (k : Keeps) (s : Stack) → from at k s ≡ silent image.shapes.items image.types.items all f.procedure (here_at here f) f.cells (code_of image f.procedure) at k s
-  from_is at k s = λ j. silent image.shapes.items image.types.items all f.procedure (here_at here f) f.cells (code_is j) at k s
 
   abbrev first : Act
   first = act image.shapes.items image.types.items f.procedure (here_at here f) (get_or code f.next (Num (pos 0))) code f.next f.stack
@@ -89,20 +85,20 @@ module _ (image : Image) (all : ℕ → Option Made) (here : ℕ) (f g : Frame) 
       ∙ does rest f.next ∙ ap (λ x. after x rest f.next g.keeps g.stack) e
 
   -- a frame that stands elsewhere, with the operands that it left, is seen as before
-  seen_so : (m : ℕ) → from m g.keeps g.stack ≡ from f.next f.keeps f.stack → seen_at image all here (record g { next = m }) ≡ seen_at image all here f
+  seen_so : (m : ℕ) → from m g.keeps g.stack ≡ from f.next f.keeps f.stack → seen_with image code all here (record g { next = m }) ≡ seen_with image code all here f
   seen_so m e =
-      ap (λ x. seen_at image all here (record x { next = m })) same
+      ap (λ x. seen_with image code all here (record x { next = m })) same
       ∙ ap (λ s. let x : Seen = record { procedure = f.procedure; object = f.object; at = f.at; is_open = f.is_open; cells = f.cells; counted = f.counted; stop = s } in x)
-      (sym (from_is m g.keeps g.stack) ∙ e ∙ from_is f.next f.keeps f.stack)
+      e
 
-  pub seen_on : (over m : ℕ) → did ≡ GoesOn over → m ≡ min (f.next + 1 + over) (2 ^ 64 - 1) → length code < 2 ^ 64 → seen_at image all here (record g { next = m }) ≡ seen_at image all here f
+  pub seen_on : (over m : ℕ) → did ≡ GoesOn over → m ≡ min (f.next + 1 + over) (2 ^ 64 - 1) → length code < 2 ^ 64 → seen_with image code all here (record g { next = m }) ≡ seen_with image code all here f
   seen_on over m e is small =
       let does = subst (λ d. WhereMoves d (DoesSo image.shapes.items image.types.items all f.cells first did f.keeps g.keeps g.stack)) e moves in
       seen_so m
       (sym (jumped image.shapes.items image.types.items all f.procedure (here_at here f) f.cells code f.next over m g.keeps g.stack is small)
       ∙ sym (skips image.shapes.items image.types.items all f.procedure (here_at here f) f.cells code over (f.next + 1) (drop (f.next + 1) code) g.keeps g.stack refl) ∙ sym (comes (GoesOn over) e does))
 
-  pub seen_begin : (to : ℕ) (p : Pos) → did ≡ BeginsAt to p → IsBeginOf code did → seen_at image all here (record g { next = to }) ≡ seen_at image all here f
+  pub seen_begin : (to : ℕ) (p : Pos) → did ≡ BeginsAt to p → IsBeginOf code did → seen_with image code all here (record g { next = to }) ≡ seen_with image code all here f
   seen_begin to p e begins =
       let does = subst (λ d. WhereMoves d (DoesSo image.shapes.items image.types.items all f.cells first did f.keeps g.keeps g.stack)) e moves in
       seen_so to (at_begin image.shapes.items image.types.items all f.procedure (here_at here f) f.cells code to p g.keeps g.stack (subst (IsBeginOf code) e begins) ∙ sym (comes (BeginsAt to p) e does))

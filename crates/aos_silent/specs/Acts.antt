@@ -1,22 +1,22 @@
 -- What the processor's acts and questions show of the definitions.
 use Rattle.std.specs.Prelude.{◌≡◌, ℕ, ℤ, ◌^◌, List, [], ◌∷◌, if◌then◌else◌, Option, Some, None, reverse, take, drop, slice_get, nat_lt, Vec}
 use Rattle.std.specs.declared.alloc.Global.{Global}
-use Rattle.aos_base.specs.Question.{ByName, Reads, Stores, Copies, PutsText, ComparesTexts, Calls, Ends, Makes, Starts, Enters, Leaves, PutsInt, PutsChar, PutsString, PutsNothing, PutsLn}
+use Rattle.aos_base.specs.Question.{ByName, Reads, Stores, Copies, PutsText, ComparesTexts, Calls, Ends, Makes, Starts, Enters, Leaves, Awaits, PutsInt, PutsChar, PutsString, PutsNothing, PutsLn}
 use Rattle.aos_code.specs.declared.instr.Cell.{Cell}
 use Rattle.aos_code.specs.declared.instr.Cell.TheVariants.{Num, Ref, Call as CallCell, Place}
 use Rattle.aos_code.specs.declared.instr.Kind.{Kind}
 use Rattle.aos_code.specs.declared.instr.Instr.{Instr}
 use Rattle.aos_code.specs.declared.instr.Instr.TheVariants.{Begin}
 use Rattle.aos_code.specs.Memory.{Addr}
-use Rattle.aos_code.specs.Silent.{Stack, Question, Begins, Fails, Act, Goes, Sees, Stops, lost, is_of}
+use Rattle.aos_code.specs.Silent.{Stack, Question, Begins, Fails, Decides, Act, Goes, Sees, Stops, lost, is_of}
 use Rattle.aos_silent.specs.declared.act.Question.{Question as KeptQuestion}
-use Rattle.aos_silent.specs.declared.act.Question.TheVariants.{Reads as AsksRead, Stores as AsksStore, Copies as AsksCopy, PutsText as AsksPutText, ComparesTexts as AsksCompare, Calls as AsksCall, Ends as AsksEnd, Makes as AsksNew, Starts as AsksStart, Enters as AsksEnter, Leaves as AsksLeave, PutsInt as AsksInt, PutsChar as AsksChar, PutsString as AsksString, PutsNothing as AsksNothing, PutsLn as AsksLn}
+use Rattle.aos_silent.specs.declared.act.Question.TheVariants.{Reads as AsksRead, Stores as AsksStore, Copies as AsksCopy, PutsText as AsksPutText, ComparesTexts as AsksCompare, Calls as AsksCall, Ends as AsksEnd, Makes as AsksNew, Starts as AsksStart, Enters as AsksEnter, Leaves as AsksLeave, Awaits as AsksAwait, PutsInt as AsksInt, PutsChar as AsksChar, PutsString as AsksString, PutsNothing as AsksNothing, PutsLn as AsksLn}
 use Rattle.aos_silent.specs.declared.act.Spot.{Spot}
 use Rattle.aos_silent.specs.declared.act.Callable.{Callable}
 use Rattle.aos_silent.specs.declared.act.Way.{Way}
 use Rattle.aos_silent.specs.declared.act.Way.TheVariants.{Direct, Bound, Free}
 use Rattle.aos_silent.specs.declared.act.Act.{Act as KeptAct}
-use Rattle.aos_silent.specs.declared.act.Act.TheVariants.{Goes as GoesOn, Sees as Asks, Begins as BeginsAt, Fails as FailsWith}
+use Rattle.aos_silent.specs.declared.act.Act.TheVariants.{Goes as GoesOn, Sees as Asks, Begins as BeginsAt, Fails as FailsWith, Decides as DecidesWith}
 
 -- operands are kept with the topmost last
 abbrev pub operands_in : Vec Cell Global → Stack
@@ -65,6 +65,7 @@ question_in (AsksNew t j) s = Makes t (reverse (take j s))
 question_in (AsksStart o) s = Starts (Ref o)
 question_in AsksEnter s = Enters
 question_in AsksLeave s = Leaves
+question_in (AsksAwait c) s = Awaits c
 question_in (AsksInt a n) s = PutsInt (Num a) (Num n)
 question_in (AsksChar a) s = PutsChar (Num a)
 question_in (AsksString p n) s = PutsString (addr_in p) (Num n)
@@ -88,6 +89,7 @@ operands_of (AsksNew t j) = j
 operands_of (AsksStart o) = 1
 operands_of AsksEnter = 0
 operands_of AsksLeave = 0
+operands_of (AsksAwait c) = 0
 operands_of (AsksInt a n) = 2
 operands_of (AsksChar a) = 1
 operands_of (AsksString p n) = 2
@@ -100,6 +102,7 @@ act_in (GoesOn over) s = Goes over s
 act_in (Asks q) s = Sees (question_in q s) (drop (operands_of q) s)
 act_in (BeginsAt at pos) s = Stops (Begins at pos s)
 act_in (FailsWith n c) s = Stops (Fails n c)
+act_in (DecidesWith a) s = Stops (Decides a)
 
 -- where silent work goes to a Begin, it stands there
 abbrev pub IsBeginOf : List Instr → KeptAct → Type 0
@@ -107,13 +110,15 @@ IsBeginOf code (GoesOn over) = Unit {0}
 IsBeginOf code (Asks q) = Unit {0}
 IsBeginOf code (BeginsAt at pos) = slice_get code at ≡ Some (Begin pos.line pos.col)
 IsBeginOf code (FailsWith n c) = Unit {0}
+IsBeginOf code (DecidesWith a) = Unit {0}
 
--- at a question and at a trap
+-- at a question, at a trap, and at the end of a condition
 abbrev pub WhereStays : KeptAct → Type 0 → Type 0
 WhereStays (GoesOn over) P = Unit {0}
 WhereStays (Asks q) P = P
 WhereStays (BeginsAt at pos) P = Unit {0}
 WhereStays (FailsWith n c) P = P
+WhereStays (DecidesWith a) P = P
 
 -- a jump asks nothing
 abbrev pub IsJump : KeptAct → Type 0
@@ -121,13 +126,15 @@ IsJump (GoesOn over) = Unit {0}
 IsJump (Asks q) = ⊥
 IsJump (BeginsAt at pos) = Unit {0}
 IsJump (FailsWith n c) = Unit {0}
+IsJump (DecidesWith a) = ⊥
 
--- it only asks or traps
+-- it only asks, traps or ends a condition
 abbrev pub IsStay : KeptAct → Type 0
 IsStay (GoesOn over) = ⊥
 IsStay (Asks q) = Unit {0}
 IsStay (BeginsAt at pos) = ⊥
 IsStay (FailsWith n c) = Unit {0}
+IsStay (DecidesWith a) = Unit {0}
 
 abbrev pub number_in : Option Cell → Option ℤ
 number_in None = None

@@ -4,3 +4,4 @@ pub mod Taken
 pub mod Steps
 pub mod Silent
 pub mod Room
+pub mod Conditions

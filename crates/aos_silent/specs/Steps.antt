@@ -6,10 +6,10 @@ use Rattle.aos_code.specs.declared.instr.Instr.{Instr}
 use Rattle.aos_code.specs.declared.instr.Instr.TheVariants as instr
 use Rattle.aos_code.specs.declared.image.ProcShape.{ProcShape}
 use Rattle.aos_code.specs.declared.image.TypeDesc.{TypeDesc}
-use Rattle.aos_code.specs.Silent.{Stack, Keeps, Begins, Fails, Stop, Work, Ended, Act, on_act}
+use Rattle.aos_code.specs.Silent.{Stack, Keeps, Begins, Fails, Decides, Stop, Work, Ended, Act, on_act}
 use Rattle.aos_code.specs.Machine.{Frame}
 use Rattle.aos_silent.specs.declared.act.Act.{Act as KeptAct}
-use Rattle.aos_silent.specs.declared.act.Act.TheVariants.{Goes as GoesOn, Sees as Asks, Begins as BeginsAt, Fails as FailsWith}
+use Rattle.aos_silent.specs.declared.act.Act.TheVariants.{Goes as GoesOn, Sees as Asks, Begins as BeginsAt, Fails as FailsWith, Decides as DecidesWith}
 use Rattle.aos_silent.specs.Acts.{question_in, operands_of}
 use Rattle.aos_silent.specs.Known.{Knows}
 
@@ -19,6 +19,7 @@ after (GoesOn over) next at k s = next over (at + 1) k s
 after (Asks q) next at k s = Work (question_in q s) at k (drop (operands_of q) s)
 after (BeginsAt to p) next at k s = Ended (Begins to p s) k
 after (FailsWith n c) next at k s = Ended (Fails n c) k
+after (DecidesWith a) next at k s = Ended (Decides a) k
 
 -- where silent work goes on, or comes to a Begin
 abbrev pub WhereMoves : KeptAct → Type 0 → Type 0
@@ -26,6 +27,7 @@ WhereMoves (GoesOn over) P = P
 WhereMoves (Asks q) P = Unit {0}
 WhereMoves (BeginsAt at pos) P = P
 WhereMoves (FailsWith n c) P = Unit {0}
+WhereMoves (DecidesWith a) P = Unit {0}
 
 -- beside these cells an act does this to what is kept and leaves these operands, where objects are known to be made as this
 abbrev pub DoesSo : List ProcShape → List TypeDesc → (ℕ → Option Made) → List Cell → Act → KeptAct → (old new : Keeps) → Stack → Type 0
@@ -112,6 +114,8 @@ group_of (instr.NewArray t j) = Asked
 group_of instr.Start = Asked
 group_of instr.Enter = Asked
 group_of instr.Leave = Asked
+group_of (instr.Await c) = Asked
+group_of instr.Verdict = Asked
 group_of instr.Return = Asked
 group_of instr.OutChar = Written
 group_of instr.OutInt = Written

@@ -49,6 +49,8 @@ pub enum Question {
     /// The region of the frame's lock, and the end of that region.
     Enters,
     Leaves,
+    /// The condition of this number is awaited in the region.
+    Awaits(u32),
     PutsInt(i64, i64),
     PutsChar(i64),
     PutsString(Spot, i64),
@@ -63,6 +65,8 @@ pub enum Act {
     Sees(Question),
     Begins(usize, Pos),
     Fails(u8, u8),
+    /// A condition ends with this number.
+    Decides(i64),
 }
 
 /// Code that finds another operand than it takes, or runs past its end.

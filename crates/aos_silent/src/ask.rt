@@ -5,7 +5,7 @@ ghost use Rattle.aos_code.specs.declared.instr.Cell.{Cell as CellOf};
 ghost use Rattle.aos_code.specs.declared.instr.Cell.TheVariants.{Num};
 ghost use Rattle.aos_code.specs.declared.instr.Kind.{Kind as KindOf};
 ghost use Rattle.aos_code.specs.Numbered.{numbered as numbered_of};
-ghost use Rattle.aos_code.specs.Silent.{Stack, Act as ActOf, Sees, counted_on, on_kind, on_kinds, on_place, on_text, stores, ends, kinds_of, called, calls};
+ghost use Rattle.aos_code.specs.Silent.{Stack, Act as ActOf, Sees, Stops, Decides, counted_on, on_number, on_kind, on_kinds, on_place, on_text, stores, ends, kinds_of, called, calls};
 ghost use Rattle.aos_silent.specs.Acts.{act_in, IsStay, or_lost};
 ghost use Rattle.aos_silent.specs.Taken.{kinds_from};
 
@@ -130,6 +130,17 @@ pub fn ask_end(result_kind: Option<Kind>, stack: &[Cell]) -> Act
             None => LOST,
             Some(value) => Act::Sees(Question::Ends(Some(value))),
         },
+    }
+}
+
+/// The end of a condition, with the number on top.
+pub fn decide(stack: &[Cell]) -> Act
+    ensures act { act_in result (reverse stack.now) ≡ on_number (λ a s. Stops (Decides a)) (reverse stack.now) }
+    ensures stays { IsStay result }
+{
+    match number(stack, 0) {
+        None => LOST,
+        Some(value) => Act::Decides(value),
     }
 }
 

@@ -15,7 +15,7 @@ ghost use Rattle.aos_silent.specs.Room.{IsRefused};
 use crate::act::{Act, LOST, Question};
 use crate::ask::{
     ask_array, ask_call, ask_char, ask_compare, ask_copy, ask_end, ask_int, ask_put_text, ask_read,
-    ask_start, ask_store, ask_string,
+    ask_start, ask_store, ask_string, decide,
 };
 use crate::callables::{ask_value, compare_callables};
 use crate::image::numbered;
@@ -146,6 +146,8 @@ fn ask(instr: Instr, shapes: &[ProcShape], own: u32, stack: &[Cell]) -> Act
         Instr::Start => ask_start(stack),
         Instr::Enter => Act::Sees(Question::Enters),
         Instr::Leave => Act::Sees(Question::Leaves),
+        Instr::Await(condition) => Act::Sees(Question::Awaits(condition)),
+        Instr::Verdict => decide(stack),
         Instr::Return => match numbered(shapes, own) {
             None => LOST,
             Some(shape) => ask_end(shape.result, stack),
@@ -278,6 +280,8 @@ pub fn do_one(
         | Instr::Start
         | Instr::Enter
         | Instr::Leave
+        | Instr::Await(_)
+        | Instr::Verdict
         | Instr::Return => Ok(ask(instr, &image.shapes, frame.procedure, &frame.operands)),
         _ => Ok(ask_written(instr, &frame.operands)),
     }

@@ -16,7 +16,7 @@ pub mod step;
 pub mod values;
 
 pub use act::{Act, Question, Spot, Way};
-pub use image::{code_of, home_of, numbered};
+pub use image::{code_of, condition_of, home_of, numbered};
 pub use operands::{is_of, replace, take};
-pub use silent::{Stop, keeps_of, silent_from};
+pub use silent::{Stop, keeps_of, silent_condition, silent_from};
 pub use step::give;

@@ -135,6 +135,7 @@ pub fn jump_on_false(code: &[Instr], to: u32, at: usize, stack: &mut Vec<Cell>) 
             }
             Act::Fails(n, c) => Act::Fails(n, c),
             Act::Sees(_) => LOST,
+            Act::Decides(_) => LOST,
         },
         Some(1) => {
             take(stack, 1);

@@ -6,7 +6,7 @@ use Rattle.aos_base.specs.declared.place.Root.{Root}
 use Rattle.aos_base.specs.declared.place.Root.TheVariants.{Frame as FrameRoot, Module as ModuleRoot, Object as ObjectRoot}
 use Rattle.aos_base.specs.declared.number.Relation.{Relation}
 use Rattle.aos_base.specs.declared.kernel.Did.TheVariants.{Trapped}
-use Rattle.aos_base.specs.Question.{Reads, Stores, Copies, PutsText, ComparesTexts, Calls, Ends, Makes, Starts, Enters, Leaves, PutsInt, PutsChar, PutsString, PutsNothing, PutsLn, Places, Lengths, Opens, Sizes, Tests}
+use Rattle.aos_base.specs.Question.{Reads, Stores, Copies, PutsText, ComparesTexts, Calls, Ends, Makes, Starts, Enters, Leaves, Awaits, PutsInt, PutsChar, PutsString, PutsNothing, PutsLn, Places, Lengths, Opens, Sizes, Tests}
 use Rattle.aos_base.specs.Number.{array_lengths}
 use Rattle.aos_base.specs.Rooted.{Made, Rooted, change_from_last, load, spliced}
 use Rattle.aos_code.specs.declared.instr.Cell.{Cell}
@@ -18,7 +18,7 @@ use Rattle.aos_code.specs.declared.image.TypeDesc.{TypeDesc}
 use Rattle.aos_code.specs.declared.image.Image.{Image}
 use Rattle.aos_code.specs.Numbered.{numbered}
 use Rattle.aos_code.specs.Memory.{Addr, Memory, has_room, type_of_object}
-use Rattle.aos_code.specs.Silent.{Stack, Keeps, Question, Begins, Fails, Stop, Work, Ended, is_of}
+use Rattle.aos_code.specs.Silent.{Stack, Keeps, Question, Begins, Fails, Decides, Stop, Work, Ended, is_of}
 use Rattle.aos_code.specs.Machine as machine
 use Rattle.aos_code.specs.Machine.{Frame, Frames, Turned, Handed, first_cell, made_in, rooted, called_frame, frames_with, behind, body_frame, bodies, stop_of, opened, opened_by, turn, turn_at, past, past_stop, body_of, object_frames, first_frames}
 use Rattle.aos_sound.specs.Sound.{frame_cells}
@@ -140,6 +140,10 @@ module _ (image : Image) (laid : IsLaidOut image) where
       ends_have (Some v) [] h = tt
       ends_have (Some v) (g ∷ gs) h = h
 
+      awaits_have : (b : Bool) (c : ℕ) → Have (machine.awaits following b (machine.lock_in (numbered image.shapes.items f.procedure) f) c at k s f fs mem)
+      awaits_have true c = (have, none)
+      awaits_have false c = (have, none)
+
       answer_has : (q : Question) → Have (machine.answer following image.shapes.items image.types.items q at k s f fs mem)
       answer_has (Reads kind a) = reads_have kind (load a.root a.cell (rooted (f ∷ fs) mem))
       answer_has (Stores a v) = writes_have (is_some (load a.root a.cell (rooted (f ∷ fs) mem))) a (v ∷ [])
@@ -152,6 +156,7 @@ module _ (image : Image) (laid : IsLaidOut image) where
       answer_has (Starts v) = starts_have v
       answer_has Enters = (have, none)
       answer_has Leaves = (have, none)
+      answer_has (Awaits c) = awaits_have f.is_open c
       answer_has (PutsInt v n) = prints_have (machine.written v n)
       answer_has (PutsChar v) = writes_out_have (option_map (λ c. c ∷ []) (machine.code_in following v))
       answer_has (PutsString a n) = writes_out_have (machine.text_at following a n (rooted (f ∷ fs) mem))
@@ -167,6 +172,7 @@ module _ (image : Image) (laid : IsLaidOut image) where
     goes_has mem (Work q at k s) = answer_has at k s mem q
     goes_has mem (Ended (Begins at p s) k) = (have, none)
     goes_has mem (Ended (Fails n c) k) = (have, none)
+    goes_has mem (Ended (Decides a) k) = (have, none)
 
   opened_has : (fs : List Frame) (following : List ℕ) → AllHaveCells image fs → AllNameNone image following → HaveCells image (opened_by fs following)
   opened_has [] [] h none = (tt, tt)

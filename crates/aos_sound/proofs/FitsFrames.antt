@@ -5,8 +5,8 @@ use Rattle.aos_base.specs.declared.place.Root.{Root}
 use Rattle.aos_base.specs.declared.place.Root.TheVariants.{Frame as FrameRoot, Module as ModuleRoot, Object as ObjectRoot}
 use Rattle.aos_base.specs.declared.number.Relation.{Relation}
 use Rattle.aos_base.specs.declared.kernel.Did.{Did}
-use Rattle.aos_base.specs.declared.kernel.Did.TheVariants.{Enter, Leave, Trapped}
-use Rattle.aos_base.specs.Question.{Reads, Stores, Copies, PutsText, ComparesTexts, Calls, Ends, Makes, Starts, Enters, Leaves, PutsInt, PutsChar, PutsString, PutsNothing, PutsLn, Places, Lengths, Opens, Sizes, Tests}
+use Rattle.aos_base.specs.declared.kernel.Did.TheVariants.{Enter, Leave, Await, Trapped}
+use Rattle.aos_base.specs.Question.{Reads, Stores, Copies, PutsText, ComparesTexts, Calls, Ends, Makes, Starts, Enters, Leaves, Awaits, PutsInt, PutsChar, PutsString, PutsNothing, PutsLn, Places, Lengths, Opens, Sizes, Tests}
 use Rattle.aos_base.specs.Operators.{flag}
 use Rattle.aos_base.specs.Number.{holds, array_lengths}
 use Rattle.aos_base.specs.Text.{order}
@@ -23,7 +23,7 @@ use Rattle.aos_code.specs.declared.image.TypeDesc.{TypeDesc}
 use Rattle.aos_code.specs.declared.image.Image.{Image}
 use Rattle.aos_code.specs.Numbered.{numbered}
 use Rattle.aos_code.specs.Memory.{Addr, Memory, new_number, has_room, type_of_object}
-use Rattle.aos_code.specs.Silent.{Stack, Keeps, Question, Begins, Fails, Stop, Work, Ended, is_of, Here, walk, silent}
+use Rattle.aos_code.specs.Silent.{Stack, Keeps, Question, Begins, Fails, Decides, Stop, Work, Ended, is_of, Here, walk, silent}
 use Rattle.aos_code.specs.Machine as machine
 use Rattle.aos_code.specs.Machine.{Frame, Frames, here_of, Turned, Handed, first_cell, made_in, rooted, called_frame, frames_with, behind, body_frame, bodies, code_in_body, code_of, stop_of, opened, opened_by, turn, turn_at, past, past_stop, is_passed, body_of, object_frames, first_frames}
 use Rattle.aos_sound.specs.Sound as sound
@@ -46,6 +46,9 @@ at_enter shapes types made own here cells code at k s is = ap (λ l. walk shapes
 
 at_leave : (shapes : List ProcShape) (types : List TypeDesc) (made : ℕ → Option Made) (own : ℕ) (here : Here) (cells : List Cell) (code : List Instr) (at : ℕ) (k : Keeps) (s : Stack) → slice_get code at ≡ Some instr.Leave → silent shapes types made own here cells code at k s ≡ Work Leaves at k s
 at_leave shapes types made own here cells code at k s is = ap (λ l. walk shapes types made own here cells code l 0 at k s) (behind_is at code instr.Leave is)
+
+at_await : (shapes : List ProcShape) (types : List TypeDesc) (made : ℕ → Option Made) (own : ℕ) (here : Here) (cells : List Cell) (code : List Instr) (at : ℕ) (k : Keeps) (s : Stack) (c : ℕ) → slice_get code at ≡ Some (instr.Await c) → silent shapes types made own here cells code at k s ≡ Work (Awaits c) at k s
+at_await shapes types made own here cells code at k s c is = ap (λ l. walk shapes types made own here cells code l 0 at k s) (behind_is at code (instr.Await c) is)
 
 at_start : (shapes : List ProcShape) (types : List TypeDesc) (made : ℕ → Option Made) (own : ℕ) (here : Here) (cells : List Cell) (code : List Instr) (at : ℕ) (k : Keeps) (s : Stack) (o : ℕ) → slice_get code at ≡ Some instr.Start → silent shapes types made own here cells code at k (Ref o ∷ s) ≡ Work (Starts (Ref o)) at k s
 at_start shapes types made own here cells code at k s o is = ap (λ l. walk shapes types made own here cells code l 0 at k (Ref o ∷ s)) (behind_is at code instr.Start is)
@@ -164,6 +167,11 @@ module _ (image : Image) (whole : IsSoundImage image) where
       leave_fits : slice_get (code_of image f.procedure) at ≡ Some instr.Leave → On at s → On (at + 1) s → Fit (machine.answer following image.shapes.items image.types.items Leaves at k s f fs mem)
       leave_fits is st behind_st = left_fits Leaves (Leave (machine.lock_in (numbered image.shapes.items f.procedure) f)) (at_leave image.shapes.items image.types.items (λ o. None) f.procedure (here_of f fs) f.cells (code_of image f.procedure) at k s is) st behind_st
 
+      -- and where no region is open it goes on at once
+      awaits_fit : (b : Bool) (c : ℕ) → slice_get (code_of image f.procedure) at ≡ Some (instr.Await c) → On at s → On (at + 1) s → Fit (machine.awaits following b (machine.lock_in (numbered image.shapes.items f.procedure) f) c at k s f fs mem)
+      awaits_fit true c is st behind_st = left_fits (Awaits c) (Await (machine.lock_in (numbered image.shapes.items f.procedure) f) c) (at_await image.shapes.items image.types.items (λ o. None) f.procedure (here_of f fs) f.cells (code_of image f.procedure) at k s c is) st behind_st
+      awaits_fit false c is st behind_st = ((on s behind_st, follow), λ e. absurd (cc e))
+
       stores_text_fit : (o : Option (List ℕ)) (to : Addr) (x : Rooted (List Cell)) → On (at + 1) s → Fit (machine.stores_text following o to x at k s f fs mem)
       stores_text_fit None to x st = ((fit, follow), λ e. absurd (cc e))
       stores_text_fit (Some cs) to x st = writes_fit (is_some (machine.cells_at (length cs) to x)) to (machine.character_cells following cs) st
@@ -203,6 +211,7 @@ module _ (image : Image) (whole : IsSoundImage image) where
       answer_fits (Starts v) st = starts_fit v st.0 st.1 st.2
       answer_fits Enters st = enter_fits st.0 st.1 st.2
       answer_fits Leaves st = leave_fits st.0 st.1 st.2
+      answer_fits (Awaits c) st = awaits_fit f.is_open c st.0 st.1 st.2
       answer_fits (PutsInt v n) st = prints_fit (machine.written v n) st
       answer_fits (PutsChar v) st = writes_out_fit (option_map (λ c. c ∷ []) (machine.code_in following v)) st
       answer_fits (PutsString a n) st = writes_out_fit (machine.text_at following a n (rooted (f ∷ fs) mem)) st
@@ -218,6 +227,7 @@ module _ (image : Image) (whole : IsSoundImage image) where
     goes_fits mem (Work q at k s) st = answer_fits at k s mem q st
     goes_fits mem (Ended (Begins at p s) k) st = (((fit.0, st.2, fit.2), follow), λ e. absurd (cc e))
     goes_fits mem (Ended (Fails n c) k) st = ((fit, follow), λ e. absurd (cc e))
+    goes_fits mem (Ended (Decides a) k) st = ((fit, follow), λ e. absurd (cc e))
 
   -- where no frame is left the next body begins
   opened_fit : (fs : List Frame) (following : List ℕ) → FitFor image None fs → AreToFollow image following → FramesFit image (opened_by fs following)

@@ -24,7 +24,7 @@ use Rattle.aos_code.specs.declared.image.ProcShape.{ProcShape}
 use Rattle.aos_code.specs.declared.image.Image.{Image}
 use Rattle.aos_code.specs.Numbered.{numbered}
 use Rattle.aos_code.specs.Silent as silent
-use Rattle.aos_code.specs.Silent.{Stack, Fails, Act, Goes, Puts, Look, AtCell, AtElements, IsType, AsType, AsMethod, Sees, Stops, lost, kinds_of, on_callable, on_kind, on_number, on_object, counted_on, gives, extends, on_place, on_text, lengths_on, in_rows, gives_picked, keeps_in, Here, asserts, lands, jumps, jumps_on_false, act}
+use Rattle.aos_code.specs.Silent.{Stack, Fails, Act, Goes, Puts, Look, AtCell, AtElements, IsType, AsType, AsMethod, Sees, Stops, lost, kinds_of, on_callable, on_kind, on_object, gives, extends, on_place, on_text, lengths_on, in_rows, gives_picked, keeps_in, Here, asserts, lands, jumps, jumps_on_false, act}
 use Rattle.aos_sound.specs.declared.stand.Role.{Role}
 use Rattle.aos_sound.specs.Sound.{Kinds, without, row, given, taken, taken_applied, called, sent, applied, returned, is_begin, is_procedure, may_jump, may_stand, after, IsSound}
 use Rattle.aos_sound.specs.Fits.{AreOf, StandsOn}
@@ -329,6 +329,8 @@ module _ (image : Image) (own : ℕ) (role : Role) (code : List Instr) (here : H
   undecided instr.Start s t stack may are e = kind_holds Keeps R [] s t (λ o s1. Sees (Starts o) s1) stack are e (λ v u rest o are1 e1 f. cc f)
   undecided instr.Enter s t stack may are e = λ f. cc f
   undecided instr.Leave s t stack may are e = λ f. cc f
+  undecided (instr.Await n) s t stack may are e = λ f. cc f
+  undecided instr.Verdict s t stack may are e = number_found [] s t stack (Answer instr.Verdict) are e (λ z u rest are1 e1 f. cc f)
   undecided instr.Return s t stack may are e = returns_keep (numbered image.shapes.items own) s t stack are e
   undecided instr.OutChar s t stack may are e = kind_holds Keeps N [] s t (λ v s1. Sees (PutsChar v) s1) stack are e (λ v u rest o are1 e1 f. cc f)
   undecided instr.OutInt s t stack may are e =

@@ -14,8 +14,8 @@ use Rattle.aos_code.specs.declared.image.ProcShape.{ProcShape}
 use Rattle.aos_code.specs.declared.image.Image.{Image}
 use Rattle.aos_code.specs.Numbered.{numbered}
 use Rattle.aos_code.specs.Silent as silent
-use Rattle.aos_code.specs.Silent.{Stack, Fails, Act, Goes, Puts, Takes, Look, AtCell, AtElements, IsType, AsType, AsMethod, Sees, Stops, is_of, on_kind, on_number, on_object, on_place, on_callable, on_text, counted_on, gives, extends, gives_place, lengths_on, in_rows, gives_picked, keeps_in, Here, asserts, lands, jumps, jumps_on_false, act}
-use Rattle.aos_sound.specs.Sound.{Kinds, without, row, given, taken, taken_applied, called, sent, applied, returned, is_begin, next_of, Leads, after, Comes, Finds, ArePathsSound}
+use Rattle.aos_code.specs.Silent.{Stack, Fails, Decides, Act, Goes, Puts, Takes, Look, AtCell, AtElements, IsType, AsType, AsMethod, Sees, Stops, is_of, on_kind, on_number, on_object, on_place, on_callable, on_text, counted_on, gives, extends, gives_place, lengths_on, in_rows, gives_picked, keeps_in, Here, asserts, lands, jumps, jumps_on_false, act}
+use Rattle.aos_sound.specs.Sound.{Kinds, without, row, given, taken, taken_applied, called, sent, applied, returned, is_begin, next_of, Leads, after, Comes, ArePathsSound}
 use Rattle.aos_sound.specs.Sound as sound
 use Rattle.aos_sound.specs.Fits.{AreOf, IsResult, result_of, told_kinds, StandsOn, StandsGiven, StandsTold, StandsLooked, StandsAfter, StandsBegun}
 use Rattle.aos_sound.proofs.FitsOperands.{first_taken, topped_is, all_topped_is, retyped, with_top, are_both, kind_holds, on_number_holds, on_object_holds, on_callable_holds, value_holds, looks_hold, on_place_holds, on_text_holds, lengths_hold, counted_hold, call_holds, send_holds, twice_holds, drop_holds, swap_holds, given_holds, if_holds, element_holds, rows_hold, picked_holds, ends_hold}
@@ -309,6 +309,8 @@ module _ (image : Image) (own : ℕ) (code : List Instr) (here : Here) (at : ℕ
   stands_after instr.Start s t stack is c are e = starts_stand s t stack is c are e (onward instr.Start s t is c e refl)
   stands_after instr.Enter s t stack is c are e = (is, (s, c, are), onward instr.Enter s t is c e refl stack (retyped s t stack e are))
   stands_after instr.Leave s t stack is c are e = (is, (s, c, are), onward instr.Leave s t is c e refl stack (retyped s t stack e are))
+  stands_after (instr.Await n) s t stack is c are e = (is, (s, c, are), onward (instr.Await n) s t is c e refl stack (retyped s t stack e are))
+  stands_after instr.Verdict s t stack is c are e = on_number_holds After [] s t (λ a s1. Stops (Decides a)) stack are e (λ z u rest are1 e1. tt)
   stands_after instr.Return s t stack is c are e = returns_stand (numbered image.shapes.items own) s t stack refl are e
   stands_after instr.OutChar s t stack is c are e =
       let on = onward instr.OutChar s t is c e refl in

@@ -16,7 +16,7 @@ use Rattle.aos_code.specs.declared.image.ProcShape.{ProcShape}
 use Rattle.aos_code.specs.declared.image.TypeDesc.{TypeDesc}
 use Rattle.aos_code.specs.declared.image.Image.{Image}
 use Rattle.aos_code.specs.Numbered.{numbered}
-use Rattle.aos_code.specs.Silent.{Here, same_formals, bound, stands_for, invoked, method_at, Invokes, AtSlot, Stack, Keeps, Question, Begins, Fails, Stop, Work, Act, Goes, Puts, Takes, Looks, Look, AtCell, AtElements, IsType, AsType, AsMethod, Sees, Stops, Ended, lost, is_of, act, noted, noted_as, on_noted, Noted, Visible, Answered, Unknown, Told, Tells, Refuses, Unheard, told_by, on_told, length_cells, extends, on_act, kept, walk, silent}
+use Rattle.aos_code.specs.Silent.{Here, same_formals, bound, stands_for, invoked, method_at, Invokes, AtSlot, Stack, Keeps, Question, Begins, Fails, Decides, Stop, Work, Act, Goes, Puts, Takes, Looks, Look, AtCell, AtElements, IsType, AsType, AsMethod, Sees, Stops, Ended, lost, is_of, act, noted, noted_as, on_noted, Noted, Visible, Answered, Unknown, Told, Tells, Refuses, Unheard, told_by, on_told, length_cells, extends, on_act, kept, walk, silent}
 use Rattle.aos_sound.specs.declared.effect.Effect.{Effect}
 use Rattle.aos_sound.specs.declared.effect.Effect.TheVariants.{Gives, Twice}
 use Rattle.aos_sound.specs.Sound.{Kinds, row, effect_of, next_of, left_by, Leads, after, Goes as PathGoes, ArePathsSound}
@@ -44,7 +44,7 @@ one A = Place (FrameRoot 0) 0 0
 
 -- What an object tells is of its kinds, and only where it's called by a slot a method is called, which gives what the one gives for
 -- which it stands.
-abbrev HeardSo : List ProcShape → Look → Told → Type 0
+abbrev pub HeardSo : List ProcShape → Look → Told → Type 0
 HeardSo shapes (AtSlot k p vs) (Tells ws) = ⊥
 HeardSo shapes (AtSlot k p vs) (Invokes q ws) = result_of (numbered shapes p) ≡ result_of (numbered shapes q)
 HeardSo shapes (AtSlot k p vs) told = Unit {0}
@@ -65,7 +65,7 @@ invoked_so shapes k p (Some q) o vs = by (stands_for (numbered shapes q) (number
     by true e = stands_result (numbered shapes q) (numbered shapes p) e
     by false e = tt
 
-heard_so : (shapes : List ProcShape) (types : List TypeDesc) (l : Look) (o : ℕ) (m : Option Made) → HeardSo shapes l (told_by shapes types l o m)
+pub heard_so : (shapes : List ProcShape) (types : List TypeDesc) (l : Look) (o : ℕ) (m : Option Made) → HeardSo shapes l (told_by shapes types l o m)
 heard_so shapes types (AtCell c) o None = tt
 heard_so shapes types (AtElements j) o None = tt
 heard_so shapes types (IsType t) o None = tt
@@ -114,6 +114,7 @@ module _ (image : Image) (own : ℕ) (code : List Instr) (depth : ℕ) (paths : 
   more_on (instr.Fail n) e = absurd (cc e)
   more_on (instr.Halt n) e = absurd (cc e)
   more_on instr.Return e = absurd (cc e)
+  more_on instr.Verdict e = absurd (cc e)
   more_on (instr.Jump to) e = absurd (cc e)
   more_on (instr.JumpFalse to) e = absurd (cc e)
   more_on i e = refl
@@ -207,6 +208,7 @@ module _ (image : Image) (own : ℕ) (code : List Instr) (depth : ℕ) (paths : 
     act_stands (Sees q s) next at keeps st go = asked_stands q next at keeps s st (λ s1 st1. go 0 keeps s1 (let z : at + 1 ≡ at + 1 + 0 = omega arith in subst (λ p. StandsOn image own code p s1) z st1))
     act_stands (Stops (Begins to p s)) next at keeps st go = st
     act_stands (Stops (Fails n c)) next at keeps st go = tt
+    act_stands (Stops (Decides a)) next at keeps st go = tt
 
     pub walk_stands : (rest : List Instr) (over at : ℕ) (keeps : Keeps) (stack : Stack) → drop at code ≡ rest → StandsOn image own code (at + over) stack → StandsStopped image own code (walk image.shapes.items image.types.items made own here cells code rest over at keeps stack)
     walk_stands [] over at keeps stack d st = tt
@@ -314,6 +316,7 @@ module _ (image : Image) (own : ℕ) (code : List Instr) (depth : ℕ) (paths : 
         let z : s ≡ t = cc in
         subst (λ u. StandsBegun image own code to u) z (subst (λ u. StandsBegun image own code u s) y st)
     act_begins (Stops (Fails n c)) at keeps l t to p st e = absurd (cc e)
+    act_begins (Stops (Decides a)) at keeps l t to p st e = absurd (cc e)
 
     pub begins_stands : (at : ℕ) (i : Instr) (keeps : Keeps) (stack : Stack) → slice_get code at ≡ Some i → StandsOn image own code at stack → (to : ℕ) (p : Pos) (l : Keeps) (t : Stack) →
         ((next : ℕ → ℕ → Keeps → Stack → Stop) → on_act image.shapes.items image.types.items made cells (act image.shapes.items image.types.items own here i code at stack) next at keeps ≡ Ended (Begins to p t) l) → StandsBegun image own code to t

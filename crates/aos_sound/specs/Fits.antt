@@ -1,17 +1,17 @@
 -- What a frame's operands are on the paths of its procedure's code, and what instructions and silent work leave of them.
 use Rattle.std.specs.Prelude.{◌≡◌, ◌<◌, ◌≤◌, ◌+◌, ℕ, suc, List, [], ◌∷◌, ◌++◌, Bool, true, false, Option, Some, None, length, drop, slice_get, IsTrue}
 use Rattle.aos_base.specs.declared.text.Pos.{Pos}
-use Rattle.aos_base.specs.Question.{Reads, Stores, Copies, PutsText, ComparesTexts, Calls, Ends, Makes, Starts, Enters, Leaves, PutsInt, PutsChar, PutsString, PutsNothing, PutsLn, Places, Lengths, Opens, Sizes, Tests}
+use Rattle.aos_base.specs.Question.{Reads, Stores, Copies, PutsText, ComparesTexts, Calls, Ends, Makes, Starts, Enters, Leaves, Awaits, PutsInt, PutsChar, PutsString, PutsNothing, PutsLn, Places, Lengths, Opens, Sizes, Tests}
 use Rattle.aos_base.specs.Rooted.{Made}
 use Rattle.aos_code.specs.declared.instr.Cell.{Cell}
 use Rattle.aos_code.specs.declared.instr.Kind.{Kind}
 use Rattle.aos_code.specs.declared.instr.Kind.TheVariants.{N, R, C, A}
 use Rattle.aos_code.specs.declared.instr.Instr.{Instr}
-use Rattle.aos_code.specs.declared.instr.Instr.TheVariants.{Start, Enter, Leave}
+use Rattle.aos_code.specs.declared.instr.Instr.TheVariants.{Start, Enter, Leave, Await}
 use Rattle.aos_code.specs.declared.image.ProcShape.{ProcShape}
 use Rattle.aos_code.specs.declared.image.Image.{Image}
 use Rattle.aos_code.specs.Numbered.{numbered}
-use Rattle.aos_code.specs.Silent.{Stack, Keeps, Question, Begins, Fails, Stop, Work, Ended, Act, Goes, Puts, Takes, Looks, Sees, Stops, Look, AtCell, AtElements, IsType, AsType, AsMethod, AtSlot, Here, lost, is_of, act, on_act, walk, silent}
+use Rattle.aos_code.specs.Silent.{Stack, Keeps, Question, Begins, Fails, Decides, Stop, Work, Ended, Act, Goes, Puts, Takes, Looks, Sees, Stops, Look, AtCell, AtElements, IsType, AsType, AsMethod, AtSlot, Here, lost, is_of, act, on_act, walk, silent}
 use Rattle.aos_sound.specs.declared.effect.Effect.{Effect}
 use Rattle.aos_sound.specs.declared.effect.Effect.TheVariants.{Gives, Twice}
 use Rattle.aos_sound.specs.Sound.{Kinds, Comes, row, is_begin, effect_of}
@@ -60,6 +60,7 @@ answer_kind shapes (Ends result) = None
 answer_kind shapes (Starts v) = None
 answer_kind shapes Enters = None
 answer_kind shapes Leaves = None
+answer_kind shapes (Awaits c) = None
 answer_kind shapes (PutsInt v n) = None
 answer_kind shapes (PutsChar v) = None
 answer_kind shapes (PutsString a n) = None
@@ -98,6 +99,7 @@ module _ (image : Image) (own : ℕ) (code : List Instr) where
   StandsAsked (Starts v) at stack = (slice_get code at ≡ Some Start) × StandsOn at (v ∷ stack) × StandsOn (at + 1) stack
   StandsAsked Enters at stack = (slice_get code at ≡ Some Enter) × StandsOn at stack × StandsOn (at + 1) stack
   StandsAsked Leaves at stack = (slice_get code at ≡ Some Leave) × StandsOn at stack × StandsOn (at + 1) stack
+  StandsAsked (Awaits c) at stack = (slice_get code at ≡ Some (Await c)) × StandsOn at stack × StandsOn (at + 1) stack
   StandsAsked q at stack = StandsGiven (answer_kind image.shapes.items q) (at + 1) stack
 
   -- a statement begins there, and these stand before it and behind it
@@ -119,12 +121,14 @@ module _ (image : Image) (own : ℕ) (code : List Instr) where
   StandsAfter at (Sees q s) = StandsAsked q at s
   StandsAfter at (Stops (Begins to p s)) = StandsBegun to s
   StandsAfter at (Stops (Fails n c)) = Unit {0}
+  StandsAfter at (Stops (Decides a)) = Unit {0}
 
   -- and so does what silent work has come to
   abbrev pub StandsStopped : Stop → Type 0
   StandsStopped (Work q at k s) = StandsAsked q at s
   StandsStopped (Ended (Begins to p s) k) = StandsBegun to s
   StandsStopped (Ended (Fails n c) k) = Unit {0}
+  StandsStopped (Ended (Decides a) k) = Unit {0}
 
 -- What holds of code whose paths are sound, as the procedure of this number and with this depth.
 pub record KeepsToPaths (image : Image) (own : ℕ) (code : List Instr) (depth : ℕ) : Type 0 where

@@ -3,7 +3,7 @@ use Rattle.std.specs.Prelude.{◌≡◌, ◌≤◌, ℕ, zero, suc, ◌+◌, ◌
 use Rattle.aos_code.specs.declared.instr.Kind.{Kind}
 use Rattle.aos_code.specs.declared.instr.Kind.TheVariants.{N, R, C, A}
 use Rattle.aos_code.specs.declared.instr.Instr.{Instr}
-use Rattle.aos_code.specs.declared.instr.Instr.TheVariants.{Num, Nil, NilCall, Proc, SelfRef, Virtual, CallValue, Deref, OpenRef, EqRef, EqCall, Bind, Is, IsPlace, Guard, GuardPlace, NewArray, Dup, Drop, Swap, Frame, Module, Param, Length, Offset, Index, IndexOpen, PickLen, Unary, Binary, Keep, Kept, Fail, Assert, Halt, Jump, JumpFalse, Begin, Load, Store, Copy, PutText, CmpText, Call, NewObject, Start, Enter, Leave, Return, OutChar, OutInt, OutString, OutLn, OutOpen}
+use Rattle.aos_code.specs.declared.instr.Instr.TheVariants.{Num, Nil, NilCall, Proc, SelfRef, Virtual, CallValue, Deref, OpenRef, EqRef, EqCall, Bind, Is, IsPlace, Guard, GuardPlace, NewArray, Dup, Drop, Swap, Frame, Module, Param, Length, Offset, Index, IndexOpen, PickLen, Unary, Binary, Keep, Kept, Fail, Assert, Halt, Jump, JumpFalse, Begin, Load, Store, Copy, PutText, CmpText, Call, NewObject, Start, Enter, Leave, Await, Verdict, Return, OutChar, OutInt, OutString, OutLn, OutOpen}
 use Rattle.aos_code.specs.declared.image.ModuleDesc.{ModuleDesc}
 use Rattle.aos_code.specs.declared.image.ProcShape.{ProcShape}
 use Rattle.aos_code.specs.declared.image.TypeDesc.{TypeDesc}
@@ -71,6 +71,8 @@ effect_of (NewArray t j) = Makes j
 effect_of Start = Takes R
 effect_of Enter = Pass
 effect_of Leave = Pass
+effect_of (Await c) = Pass
+effect_of Verdict = Takes N
 effect_of Return = Returns
 effect_of OutChar = Takes N
 effect_of OutInt = TakesTwo N N
@@ -83,6 +85,7 @@ abbrev pub next_of : Instr → Next
 next_of (Fail n) = Ends
 next_of (Halt c) = Ends
 next_of Return = Ends
+next_of Verdict = Ends
 next_of (Jump to) = To to
 next_of (JumpFalse to) = Either to
 next_of _ = On
@@ -241,7 +244,7 @@ is_type_or_none image (suc t) = is_some (numbered image.types.items (suc t))
 -- in an image, as the procedure of this number
 module _ (image : Image) (own : ℕ) where
   -- what may stand at a place, on a path or not: numbers name what the image and the procedure have, and a condition has no visible
-  -- work but Load and CmpText, and keeps nothing
+  -- work but Load and CmpText, keeps nothing, and alone has a Verdict
   abbrev pub may_stand : Role → List Instr → (at : ℕ) → Instr → Bool
   may_stand role code at (Frame c) = has_own_place (numbered image.shapes.items own) c
   may_stand role code at (Module m c) = has_place (slice_get image.modules.items m) c
@@ -275,6 +278,8 @@ module _ (image : Image) (own : ℕ) where
   may_stand role code at Start = is_procedure role
   may_stand role code at Enter = is_procedure role
   may_stand role code at Leave = is_procedure role
+  may_stand role code at (Await c) = is_procedure role && nat_lt c (length image.conds.items)
+  may_stand role code at Verdict = not (is_procedure role)
   may_stand role code at Return = is_procedure role
   may_stand role code at OutChar = is_procedure role
   may_stand role code at OutInt = is_procedure role

@@ -161,6 +161,8 @@ fn may_stand(image: &Image, own: u32, role: Role, code: &[Instr], at: usize, i: 
         Instr::Start => for_procedure(role),
         Instr::Enter => for_procedure(role),
         Instr::Leave => for_procedure(role),
+        Instr::Await(c) => for_procedure(role) && (c as usize) < image.conds.len(),
+        Instr::Verdict => !for_procedure(role),
         Instr::Return => for_procedure(role),
         Instr::OutChar => for_procedure(role),
         Instr::OutInt => for_procedure(role),

@@ -57,6 +57,15 @@ returns-in-Leaves-clause-ok c =
     left_in c.args.image.now c.args.question AsksLeave Leave c.top_lock-in-Leaves.result c.args.at c.args.frames.now (memory_in c.args.store.now) c.args.output.now.items c.in-Leaves.is c.requires.stands
     (λ following f fs. refl) c.top_lock-in-Leaves.ensures
 
+pub wait-requires-clause-stands : goal.wait-requires-clause-stands
+wait-requires-clause-stands c = subst (λ q. Stands q c.args.at c.args.frames.now) c.in-Awaits.is c.requires.stands
+
+pub returns-in-Awaits-clause-ok : goal.returns-in-Awaits-clause-ok
+returns-in-Awaits-clause-ok c =
+    let out = c.args.output.now.items in
+    let mem = memory_in c.args.store.now in
+    subst (λ q. HasAnswered c.args.image.now q c.args.at c.args.frames.now c.wait.new.frames mem mem c.wait.result out out) (sym c.in-Awaits.is) (c.wait.ensures.answered mem out)
+
 pub returns-in-PutsInt-clause-ok : goal.returns-in-PutsInt-clause-ok
 returns-in-PutsInt-clause-ok c =
     has_ok c.args.image.now c.args.question (PutsInt (Num c.in-PutsInt.value) (Num c.in-PutsInt.places)) c.args.at 2 (λ s. ap (λ x. question_in x s) c.in-PutsInt.is) (ap operands_of c.in-PutsInt.is)

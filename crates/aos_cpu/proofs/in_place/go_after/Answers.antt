@@ -20,3 +20,6 @@ returns-in-Sees-clause-done c image here mem f code_is at_is step same = record 
 
 pub returns-in-Fails-clause-done : goal.returns-in-Fails-clause-done
 returns-in-Fails-clause-done c image here mem f code_is at_is step same = record { seen = λ all knows. ap (seen_at image all here) (subst (λ (d : Act). WhereStays d (frame_in c.args.frame.now ≡ f)) c.in-Fails.is same); memory = refl }
+
+pub returns-in-Decides-clause-done : goal.returns-in-Decides-clause-done
+returns-in-Decides-clause-done c image here mem f code_is at_is step same = record { seen = λ all knows. ap (seen_at image all here) (subst (λ (d : Act). WhereStays d (frame_in c.args.frame.now ≡ f)) c.in-Decides.is same); memory = refl }

@@ -1,7 +1,8 @@
-use Rattle.std.proofs.Common.{subst}
+use Rattle.std.proofs.Common.{refl, subst}
 use Rattle.aos_store.specs.Store.{list_in, memory_in}
 use Rattle.aos_base.specs.declared.kernel.Did.TheVariants.{Went, Trapped}
 use Rattle.aos_silent.specs.declared.silent.Stop.{Stop}
+use Rattle.aos_silent.specs.declared.silent.Stop.TheVariants.{Fails as AtFault, Decides as AtVerdict}
 use Rattle.aos_silent.specs.Known.{known}
 use Rattle.aos_cpu.specs.Turns.{StandsAtStop, HasAnswered, WhereLeft, Same, IsTurned}
 use Rattle.aos_silent.proofs.Oks.{ok_more, ok_both}
@@ -56,4 +57,14 @@ returns-in-Fails-clause-ok c fs h =
     let mem = memory_in c.args.store.now in
     let out = c.args.output.now.items in
     let stands = subst (λ (s : Stop). StandsAtStop image (known c.args.store.now.objects) s (list_in old.list.items)) c.in-Fails.is c.requires in
-    shown_alike image old old mem mem fs (Trapped c.in-Fails.number c.in-Fails.code) out out h (failed_shown image c.in-Fails.number c.in-Fails.code old mem out stands)
+    shown_alike image old old mem mem fs (Trapped c.in-Fails.number c.in-Fails.code) out out h (failed_shown image (AtFault c.in-Fails.number c.in-Fails.code) c.in-Fails.number c.in-Fails.code old mem out (λ following f gs. refl) stands)
+
+-- a condition's end is the end of none here
+pub returns-in-Decides-clause-ok : goal.returns-in-Decides-clause-ok
+returns-in-Decides-clause-ok c fs h =
+    let image = c.args.image.now in
+    let old = c.args.frames.now in
+    let mem = memory_in c.args.store.now in
+    let out = c.args.output.now.items in
+    let stands = subst (λ (s : Stop). StandsAtStop image (known c.args.store.now.objects) s (list_in old.list.items)) c.in-Decides.is c.requires in
+    shown_alike image old old mem mem fs (Trapped 16 0) out out h (failed_shown image (AtVerdict c.in-Decides.field-0) 16 0 old mem out (λ following f gs. refl) stands)

@@ -5,21 +5,30 @@ use Rattle.aos_base.specs.declared.kernel.Did.TheVariants.{Went, Ended, Enter, L
 use Rattle.aos_base.specs.Machine.{serve}
 use Rattle.aos_code.specs.Machine.{machine}
 use Rattle.aos_cpu.specs.Turns.{StandsAtWork}
-use Rattle.aos_kernel.specs.Shows.{Shows, IsServed, StandsBefore}
+use Rattle.aos_kernel.specs.Shows.{Shows, StandsBefore}
 use Rattle.aos_kernel.proofs.Rows.{runs_live}
 use Rattle.aos_kernel.proofs.Desks.{on_err}
 use Rattle.aos_kernel.proofs.desk.Desk.serve.Goals as goal
 
 pub returns-in-Went-clause-ok : goal.returns-in-Went-clause-ok
-returns-in-Went-clause-ok c earlier st h served work = subst (λ (x : Did). Shows c.args.image.now earlier c.args.self.now (serve (machine c.args.image.now) c.args.activity x st)) (sym c.in-Went.is) h
+returns-in-Went-clause-ok c earlier st h work = subst (λ (x : Did). Shows c.args.image.now earlier c.args.self.now (serve (machine c.args.image.now) c.args.activity x st)) (sym c.in-Went.is) h
 
 pub returns-in-Await-clause-ok : goal.returns-in-Await-clause-ok
-returns-in-Await-clause-ok c earlier st h served work = let none : IsServed (Await c.in-Await.field-0 c.in-Await.field-1) = subst (λ (x : Did). IsServed x) c.in-Await.is served in absurd none
+returns-in-Await-clause-ok c =
+    on_ok_weaker c.wait.result
+    (λ done earlier st h work. subst (λ (x : Did). Shows c.args.image.now earlier c.wait.new.self (serve (machine c.args.image.now) c.args.activity x st)) (sym c.in-Await.is) (done earlier st h (subst (λ (x : Did). StandsAtWork c.args.image.now x (st.frames c.args.activity).frames) c.in-Await.is work)))
+    c.wait.ensures.ok
+
+pub returns-in-Await-clause-left : goal.returns-in-Await-clause-left
+returns-in-Await-clause-left c = on_err c.wait.result (λ e. let z : Await c.in-Await.lock c.in-Await.condition ≡ Went = sym c.in-Await.is ∙ e in absurd (cc z))
+
+pub wait-requires-clause-before : goal.wait-requires-clause-before
+wait-requires-clause-before c = subst (λ (x : Did). StandsBefore c.args.image.now c.args.activity x c.args.self.now) c.in-Await.is c.requires.before
 
 pub returns-in-Ended-clause-ok : goal.returns-in-Ended-clause-ok
 returns-in-Ended-clause-ok c =
     on_ok_weaker c.ended.result
-    (λ done earlier st h served work. subst (λ (x : Did). Shows c.args.image.now earlier c.ended.new.self (serve (machine c.args.image.now) c.args.activity x st)) (sym c.in-Ended.is) (done c.args.image.now earlier st h))
+    (λ done earlier st h work. subst (λ (x : Did). Shows c.args.image.now earlier c.ended.new.self (serve (machine c.args.image.now) c.args.activity x st)) (sym c.in-Ended.is) (done c.args.image.now earlier st h))
     c.ended.ensures.ok
 
 pub returns-in-Ended-clause-err : goal.returns-in-Ended-clause-err
@@ -31,7 +40,7 @@ returns-in-Ended-clause-left c = on_err c.ended.result (λ e. let z : Ended ≡ 
 pub returns-in-Trapped-clause-ok : goal.returns-in-Trapped-clause-ok
 returns-in-Trapped-clause-ok c =
     on_ok_weaker c.trap.result
-    (λ done earlier st h served work. subst (λ (x : Did). Shows c.args.image.now earlier c.trap.new.self (serve (machine c.args.image.now) c.args.activity x st)) (sym c.in-Trapped.is) (done earlier st h))
+    (λ done earlier st h work. subst (λ (x : Did). Shows c.args.image.now earlier c.trap.new.self (serve (machine c.args.image.now) c.args.activity x st)) (sym c.in-Trapped.is) (done earlier st h))
     c.trap.ensures.ok
 
 pub returns-in-Trapped-clause-left : goal.returns-in-Trapped-clause-left
@@ -43,7 +52,7 @@ trap-requires-clause-live c kept at = λ e. runs_live kept.next (c.requires.befo
 pub returns-in-Enter-clause-ok : goal.returns-in-Enter-clause-ok
 returns-in-Enter-clause-ok c =
     on_ok_weaker c.enter.result
-    (λ done earlier st h served work. subst (λ (x : Did). Shows c.args.image.now earlier c.enter.new.self (serve (machine c.args.image.now) c.args.activity x st)) (sym c.in-Enter.is) (done earlier st h (subst (λ (x : Did). StandsAtWork c.args.image.now x (st.frames c.args.activity).frames) c.in-Enter.is work)))
+    (λ done earlier st h work. subst (λ (x : Did). Shows c.args.image.now earlier c.enter.new.self (serve (machine c.args.image.now) c.args.activity x st)) (sym c.in-Enter.is) (done earlier st h (subst (λ (x : Did). StandsAtWork c.args.image.now x (st.frames c.args.activity).frames) c.in-Enter.is work)))
     c.enter.ensures.ok
 
 pub returns-in-Enter-clause-left : goal.returns-in-Enter-clause-left
@@ -55,7 +64,7 @@ enter-requires-clause-before c = subst (λ (x : Did). StandsBefore c.args.image.
 pub returns-in-Leave-clause-ok : goal.returns-in-Leave-clause-ok
 returns-in-Leave-clause-ok c =
     on_ok_weaker c.leave.result
-    (λ done earlier st h served work. subst (λ (x : Did). Shows c.args.image.now earlier c.leave.new.self (serve (machine c.args.image.now) c.args.activity x st)) (sym c.in-Leave.is) (done earlier st h (subst (λ (x : Did). StandsAtWork c.args.image.now x (st.frames c.args.activity).frames) c.in-Leave.is work)))
+    (λ done earlier st h work. subst (λ (x : Did). Shows c.args.image.now earlier c.leave.new.self (serve (machine c.args.image.now) c.args.activity x st)) (sym c.in-Leave.is) (done earlier st h (subst (λ (x : Did). StandsAtWork c.args.image.now x (st.frames c.args.activity).frames) c.in-Leave.is work)))
     c.leave.ensures.ok
 
 pub returns-in-Leave-clause-left : goal.returns-in-Leave-clause-left
@@ -67,7 +76,7 @@ leave-requires-clause-before c = subst (λ (x : Did). StandsBefore c.args.image.
 pub returns-in-Start-clause-ok : goal.returns-in-Start-clause-ok
 returns-in-Start-clause-ok c =
     on_ok_weaker c.start.result
-    (λ done earlier st h served work. subst (λ (x : Did). Shows c.args.image.now earlier c.start.new.self (serve (machine c.args.image.now) c.args.activity x st)) (sym c.in-Start.is) (done earlier st h (subst (λ (x : Did). StandsAtWork c.args.image.now x (st.frames c.args.activity).frames) c.in-Start.is work)))
+    (λ done earlier st h work. subst (λ (x : Did). Shows c.args.image.now earlier c.start.new.self (serve (machine c.args.image.now) c.args.activity x st)) (sym c.in-Start.is) (done earlier st h (subst (λ (x : Did). StandsAtWork c.args.image.now x (st.frames c.args.activity).frames) c.in-Start.is work)))
     c.start.ensures.ok
 
 pub returns-in-Start-clause-left : goal.returns-in-Start-clause-left

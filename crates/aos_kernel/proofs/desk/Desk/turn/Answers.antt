@@ -13,7 +13,7 @@ returns-in-Runs-clause-ok c =
     let d = c.args.self.now in
     let told = subst (λ (xs : List Activity). (kept : Activity) → slice_get xs a ≡ Some kept → Runs ≡ kept.next) c.deref.ensures.value c.in-Runs.ensures in
     on_ok_weaker c.run.result
-    (λ done earlier st h none. turns_by c.args.image.now earlier d st a h c.requires c.run.new.self book.Runs (next_is_in c.args.image.now earlier d st a h c.requires Runs told) (done earlier st h none))
+    (λ done earlier st h none. turns_by c.args.image.now earlier d st a h c.requires.turn c.run.new.self book.Runs (next_is_in c.args.image.now earlier d st a h c.requires.turn Runs told) (done earlier st h none))
     c.run.ensures.ok
 
 pub returns-in-WillTrap-clause-ok : goal.returns-in-WillTrap-clause-ok
@@ -22,7 +22,7 @@ returns-in-WillTrap-clause-ok c =
     let d = c.args.self.now in
     let told = subst (λ (xs : List Activity). (kept : Activity) → slice_get xs a ≡ Some kept → WillTrap c.in-WillTrap.number ≡ kept.next) c.deref.ensures.value c.in-WillTrap.ensures in
     on_ok_weaker c.trap.result
-    (λ done earlier st h none. turns_by c.args.image.now earlier d st a h c.requires c.trap.new.self (book.WillTrap c.in-WillTrap.number) (next_is_in c.args.image.now earlier d st a h c.requires (WillTrap c.in-WillTrap.number) told) (done earlier st h))
+    (λ done earlier st h none. turns_by c.args.image.now earlier d st a h c.requires.turn c.trap.new.self (book.WillTrap c.in-WillTrap.number) (next_is_in c.args.image.now earlier d st a h c.requires.turn (WillTrap c.in-WillTrap.number) told) (done earlier st h))
     c.trap.ensures.ok
 
 pub returns-in-Unwinds-clause-ok : goal.returns-in-Unwinds-clause-ok
@@ -33,7 +33,7 @@ returns-in-Gone-clause-ok c earlier st h none =
     let a = c.args.activity in
     let d = c.args.self.now in
     let told = subst (λ (xs : List Activity). (kept : Activity) → slice_get xs a ≡ Some kept → Gone ≡ kept.next) c.deref.ensures.value c.in-Gone.ensures in
-    turns_by c.args.image.now earlier d st a h c.requires d book.Gone (next_is_in c.args.image.now earlier d st a h c.requires Gone told) h
+    turns_by c.args.image.now earlier d st a h c.requires.turn d book.Gone (next_is_in c.args.image.now earlier d st a h c.requires.turn Gone told) h
 
 pub run-requires-clause-runs : goal.run-requires-clause-runs
 run-requires-clause-runs c = subst (λ (xs : List Activity). (kept : Activity) → slice_get xs c.args.activity ≡ Some kept → Runs ≡ kept.next) c.deref.ensures.value c.in-Runs.ensures

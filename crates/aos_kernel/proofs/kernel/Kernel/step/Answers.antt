@@ -12,6 +12,7 @@ use Rattle.aos_code.specs.Machine.{Frames, machine}
 use Rattle.aos_base.specs.Schedule.{choices, IsEntry}
 use Rattle.aos_kernel.specs.Log.{with_step}
 use Rattle.aos_kernel.specs.Run.{Run, state_of, comes_to}
+use Rattle.aos_kernel.specs.Conditions.{HasRooms}
 use Rattle.aos_kernel.specs.Shows.{Shows}
 use Rattle.aos_kernel.proofs.Logs.{choices-with_step, entries-with_step}
 use Rattle.aos_kernel.proofs.Histories.{state_after, keeps_after, keeps_silent, steps_by, dispatches, idles, is_over, comes_over, comes_turned, comes_dispatched, comes_idle, unspent_while, is_stood, has_turn}
@@ -149,8 +150,8 @@ returns-in-None-dispatch-clause-state c =
     ap (λ (l : List Sched). state_of (record r { log = l })) c.reserve-in-None.ensures.items ∙ ap state_of c.self.view_is
     ∙ subst (λ (x : Run). state_of x ≡ happens (machine x.image) (Step w) (state_of x)) c.self.view_is (sym (idles r.image st w going on next))
 
-pub turn-requires : goal.turn-requires
-turn-requires c =
+pub turn-requires-clause-turn : goal.turn-requires-clause-turn
+turn-requires-clause-turn c =
     let k = c.self.inside in
     let r : Run = record { image = arc_value k.image; workers = k.workers; budget = k.budget; log = k.log.items } in
     let h = c.self.invariant in
@@ -171,3 +172,6 @@ invariant_of-self-in-None-dispatch c =
     let h = c.self.invariant in
     let st = state_of r in
     keeps_silent r k.desk k.events.items h c.dispatch.new.self c.reserve-in-None.new.self.items (c.in-None-dispatch.ensures.none r.image refl st.book.events st h.shows) c.reserve-in-None.ensures.items
+
+pub turn-requires-clause-stack : goal.turn-requires-clause-stack
+turn-requires-clause-stack c = subst (λ (image : Image). HasRooms image c.self.inside.desk.stack) (sym c.deref.ensures) c.self.invariant.shows.room

@@ -1,6 +1,7 @@
 use Rattle.std.proofs.Common.{◌≡◌, ◌∙◌, ◌∷◌, sym, refl, ap, arith}
 use Rattle.std.specs.Prelude.{Some, None, Vec}
 use Rattle.std.specs.declared.alloc.Global.{Global}
+use Rattle.aos_base.specs.Lock.{Entry}
 use Rattle.aos_base.specs.Book as book
 use Rattle.aos_base.specs.Book.{leave_line}
 use Rattle.aos_lock.specs.Heirs.{entered_owner, entered_list}
@@ -100,11 +101,6 @@ leave-requires c =
 pub join-requires-clause-number : goal.join-requires-clause-number
 join-requires-clause-number c = ap (λ ns. number_of ns c.args.lock) c.leave.ensures.numbers ∙ c.in_ok-number.ensures.number
 
-pub join-requires-clause-owned : goal.join-requires-clause-owned
-join-requires-clause-owned c =
-    let n = c.in_ok-number.number in
-    (c.in-Some.owner, ap (λ ls. owner_of ls n) c.leave.ensures.locks ∙ sym c.owner.ensures ∙ c.in-Some.is, c.if-owner-activity.false)
-
 pub returns-else-owner-activity-clause-entered : goal.returns-else-owner-activity-clause-entered
 returns-else-owner-activity-clause-entered c line owner h =
     let mid = c.number.new.self in
@@ -113,5 +109,5 @@ returns-else-owner-activity-clause-entered c line owner h =
       c.in-Some.owner,
       sym here.2 ∙ sym c.owner.ensures ∙ c.in-Some.is,
       c.if-owner-activity.false,
-      c.join.ensures.stands (leave_line c.args.activity line) owner (c.leave.ensures.stands line owner g),
+      c.join.ensures.stands (leave_line c.args.activity line) owner (c.leave.ensures.stands line owner g) Entry refl,
     )

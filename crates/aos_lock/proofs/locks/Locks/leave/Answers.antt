@@ -40,4 +40,5 @@ returns g c =
       queues = subst (λ (ns : List ℕ). KeepsOthers before after ns) (sym (numbers_waiting before old lock l is)) c.release.ensures.others;
       table = c.release.ensures.table;
       verdicts = c.release.ensures.verdicts;
+      held = c.release.ensures.held;
     }

@@ -48,4 +48,5 @@ returns g c =
       queues = subst (λ (ns : List ℕ). KeepsOthers before after (a ∷ ns)) (sym (numbers_waiting before old lock l is)) c.wait.ensures.others;
       marks = c.wait.ensures.marks;
       verdicts = c.wait.ensures.verdicts;
+      held = c.wait.ensures.held;
     }
