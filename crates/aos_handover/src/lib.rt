@@ -8,7 +8,7 @@ ghost use Rattle.aos_typed.specs.Store.{Store};
 ghost use Rattle.aos_typed.specs.Source.{Frame, turn_at};
 ghost use Rattle.aos_handover.specs.Kinds.{Kind};
 
-/// A turn of an activity's topmost frame is of one of eight kinds.
+/// A turn of an activity's topmost frame is of one of nine kinds.
 pub fn turns_have_kinds()
     ensures { (p : Program) (following : List ℕ) (s : Store) (f : Frame) (fs : List Frame) →
         Kind p following s f fs (turn_at p following (f ∷ fs) s) }

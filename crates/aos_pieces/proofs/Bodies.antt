@@ -15,6 +15,8 @@ use Rattle.aos_typed.specs.declared.tree.TType.{TType}
 use Rattle.aos_typed.specs.Numbers.{id_of}
 use Rattle.aos_typed.specs.Program.{Body as Carried, Parameter, Variable, Procedure, Program}
 use Rattle.aos_typed.specs.Routines.{Routine, result_of, routines}
+use Rattle.aos_typed.specs.Conditions.{conditions, AreLinked, IsLinkedIn}
+use Rattle.aos_typed.proofs.Conditions.{linked}
 use Rattle.aos_typed.specs.WellTyped.{AreStatements, IsWellTyped}
 use Rattle.aos_sim.proofs.Lists.{all_get}
 use Rattle.aos_sim.proofs.Runs.{tables_of}
@@ -48,8 +50,8 @@ module _ (p : Program) (o : Option Procedure) (image : Image) (own depth : ℕ) 
       by (Some q) e = of_result q.name q.of q.is_initializer q.parameters q.locals q.result q.body e
 
   -- a routine is sound with room for as many operands as its statements need, where it keeps what they keep
-  pub body_sound : (b : Carried) → keeps_in (numbered image.shapes.items own) ≡ keeps_of b.statements → AreStatements p o b.statements → body_need b.statements ≤ depth → IsSound image own role.Procedure (body_code p o b) depth
-  body_sound b keeps h room =
+  pub body_sound : (b : Carried) → keeps_in (numbered image.shapes.items own) ≡ keeps_of b.statements → AreStatements p o b.statements → (home : ℕ) → AreLinked (conditions p) home o b.statements → body_need b.statements ≤ depth → IsSound image own role.Procedure (body_code p o b) depth
+  body_sound b keeps h home g room =
       let exclusive = b.is_exclusive in
       let ss = b.statements in
       let exit = length (statements_code p o b 0) in
@@ -57,7 +59,7 @@ module _ (p : Program) (o : Option Procedure) (image : Image) (own depth : ℕ) 
       let ended : 0 + length (statements_code p o b exit) ≡ exit = omega (arith, same) in
       closed_sound image own role.Procedure depth (body_code p o b)
       (closes image own role.Procedure depth
-      (block_piece p o image own depth has exclusive ss h 0 (body_ways false exit) 0 (omega (arith, same)) (omega (arith, keeps)) room)
+      (block_piece p o image own depth has home exclusive ss h g 0 (body_ways false exit) 0 (omega (arith, same)) (omega (arith, keeps)) room)
       (end_closed _)
       (λ whole kinds e. ap kinds (sym ended) ∙ e))
 
@@ -78,7 +80,7 @@ module _ (p : Program) (image : Image) (well : IsWellTyped p) (ok : IsCodeOf p i
       record {
         routine = r;
         are = s.1;
-        sound = λ need le. subst (λ c. IsSound image (k + 1) role.Procedure c need) s.2 (body_sound p r.own image (k + 1) need (has_numbers p image well ok (k + 1) r there) r.body (keeps_known p (tables_of image) (has_shapes p image ok (has_types p image.bodies.items image.shapes.items image.modules.items image.types.items well ok)) (k + 1) r there) typed le);
+        sound = λ need le. subst (λ c. IsSound image (k + 1) role.Procedure c need) s.2 (body_sound p r.own image (k + 1) need (has_numbers p image well ok (k + 1) r there) r.body (keeps_known p (tables_of image) (has_shapes p image ok (has_types p image.bodies.items image.conds.items image.shapes.items image.modules.items image.types.items well ok)) (k + 1) r there) typed r.home (all_get (IsLinkedIn p) (routines p) k r (linked p well.conditions) s.1) le);
       }
 
   -- and each with as many operands as it says, where that is what its statements need
@@ -86,7 +88,7 @@ module _ (p : Program) (image : Image) (well : IsWellTyped p) (ok : IsCodeOf p i
   bodies_sound_as_said depths k b e =
       let is = bodies_sound k b e in
       let need : Routine → ℕ = λ r. body_need r.body.statements in
-      let found : slice_get (map need (routines p)) k ≡ Some b.depth = ap (λ l. slice_get l k) (sym depths) ∙ slice_get-map (λ (x : Body). x.depth) image.bodies.items k ∙ ap (option_map (λ (x : Body). x.depth)) e in
+      let found : slice_get (map need (routines p)) k ≡ Some b.depth = ap (λ l. slice_get l k) (sym depths.bodies) ∙ slice_get-map (λ (x : Body). x.depth) image.bodies.items k ∙ ap (option_map (λ (x : Body). x.depth)) e in
       let needed : Some (need is.routine) ≡ Some b.depth = ap (option_map need) (sym is.are) ∙ sym (slice_get-map need (routines p) k) ∙ found in
       let same : body_need is.routine.body.statements ≡ b.depth = cc in
       is.sound b.depth (omega (arith, same))

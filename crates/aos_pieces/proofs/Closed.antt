@@ -12,7 +12,7 @@ use Rattle.aos_pieces.proofs.Typed.{typed_sound}
 use Rattle.aos_pieces.proofs.Pieces.{stands_first, stands_second, lies_first, lies_second, are_ok_both}
 
 -- a list is a typing of the places of its items
-lies_all : (ss : List Kinds) (kinds : Typing) (at : ℕ) → ((k : ℕ) (s : Kinds) → slice_get ss k ≡ Some s → kinds (at + k) ≡ Some s) → Lies kinds at ss
+pub lies_all : (ss : List Kinds) (kinds : Typing) (at : ℕ) → ((k : ℕ) (s : Kinds) → slice_get ss k ≡ Some s → kinds (at + k) ≡ Some s) → Lies kinds at ss
 lies_all [] kinds at f = tt
 lies_all (s ∷ ss) kinds at f =
     let z : at + 0 ≡ at = omega arith in
@@ -52,7 +52,7 @@ module _ (image : Image) (own : ℕ) (role : Role) (depth : ℕ) where
       }
 
   -- each instruction of code that is as it should be is so
-  ok_at : (whole : List Instr) (kinds : Typing) (c : List Instr) (at k : ℕ) (i : Instr) → AreOk image own role depth whole kinds c at → slice_get c k ≡ Some i → IsOk image own role depth whole kinds i (at + k)
+  pub ok_at : (whole : List Instr) (kinds : Typing) (c : List Instr) (at k : ℕ) (i : Instr) → AreOk image own role depth whole kinds c at → slice_get c k ≡ Some i → IsOk image own role depth whole kinds i (at + k)
   ok_at whole kinds [] at k i ok e = absurd (cc e)
   ok_at whole kinds (j ∷ c) at zero i ok e =
       let n : at ≡ at + 0 = omega arith in

@@ -7,3 +7,5 @@ pub mod Handed
 pub mod Values
 pub mod Statements
 pub mod Bodies
+pub mod Awaited
+pub mod Conditions

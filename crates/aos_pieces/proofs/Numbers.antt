@@ -14,6 +14,7 @@ use Rattle.aos_types.specs.Shape.{Shape, One, shaped, size, part, inside, offset
 use Rattle.aos_types.specs.Shape as shape
 use Rattle.aos_types.specs.Contents.{contents, of_variable}
 use Rattle.aos_types.proofs.Offsets.{inside_within}
+use Rattle.aos_code.specs.declared.image.Body.{Body}
 use Rattle.aos_code.specs.declared.image.Image.{Image}
 use Rattle.aos_code.specs.declared.image.ModuleDesc.{ModuleDesc}
 use Rattle.aos_code.specs.declared.image.TypeDesc.{TypeDesc}
@@ -30,6 +31,7 @@ use Rattle.aos_typed.specs.Text.{text_shape}
 use Rattle.aos_typed.specs.Source.{module_shape}
 use Rattle.aos_typed.specs.declared.tree.TType.{TType}
 use Rattle.aos_typed.specs.declared.tree.TType.TheVariants.{Char, Named}
+use Rattle.aos_typed.specs.Conditions.{Condition, conditions}
 use Rattle.aos_typed.specs.WellTyped.{variable_type, procedure_in, IsConstantText, IsParameter, IsLocal, IsWellTyped}
 use Rattle.aos_typed.specs.Methods.{slots as slots_of, own_numbers}
 use Rattle.aos_typed.specs.Routines.{Routine, routines, self_type}
@@ -48,7 +50,7 @@ use Rattle.aos_sim.proofs.Lists.{get_left, get_right}
 use Rattle.aos_sim.proofs.Parts.{part_of_row}
 use Rattle.aos_sim.proofs.Typed.{has_types}
 use Rattle.aos_sim.proofs.Variables.{declared}
-use Rattle.aos_sim.specs.Code.{variable_cell, own_cell}
+use Rattle.aos_sim.specs.Code.{variable_cell, own_cell, condition_code}
 use Rattle.aos_sim.specs.Shows.{text_cells, first_cells, shape_of, IsCodeOf}
 
 -- a frame of this shape has so many cells from this place on
@@ -73,6 +75,7 @@ pub record HasNumbers (p : Program) (o : Option Procedure) (image : Image) (own 
   pub selfs : (s : ℕ) → self_type o ≡ Some s → is_method (numbered image.shapes.items own) ≡ true
   pub locals : (k : ℕ) (t : TType) → IsLocal p o k t → has_own_place (numbered image.shapes.items own) (own_cell p o k) ≡ true
   pub parameters : (k : ℕ) (a : Parameter) → IsParameter p o k a → IsInFrame (numbered image.shapes.items own) (own_cell p o k) (size (parameter_cells p.types a))
+  pub conditions : length image.conds.items ≡ length (conditions p)
 
 -- an element that a list of another's results has is that of the other one
 pub mapped_at : {X Y : Type 0} (f : X → Y) (xs : List X) (k : ℕ) (y : Y) → slice_get (map f xs) k ≡ Some y → (x : X) × (slice_get xs k ≡ Some x) × (f x ≡ y)
@@ -238,16 +241,16 @@ called_on p image own r x is known s e = ap is_method is ∙ by r.own (ap (λ z.
 -- so it is where the image has the code of the program
 pub has_numbers : (p : Program) (image : Image) → IsWellTyped p → IsCodeOf p image → (own : ℕ) (r : Routine) → by_number own (routines p) ≡ Some r → HasNumbers p r.own image own
 has_numbers p image well ok own r there =
-    let types = has_types p image.bodies.items image.shapes.items image.modules.items image.types.items well ok in
+    let types = has_types p image.bodies.items image.conds.items image.shapes.items image.modules.items image.types.items well ok in
     let shaped = has_shapes p image ok types in
     let x = shaped.shapes own r there in
     record {
       cells = has_cell p r.own image ok;
       constants = has_constant p r.own image ok;
       types = has_type p r.own image ok;
-      predeclared = well.predeclared;
-      objects = has_object p r.own image ok well.beside;
-      records = has_record p r.own image ok well.beside;
+      predeclared = well.parts.predeclared;
+      objects = has_object p r.own image ok well.parts.beside;
+      records = has_record p r.own image ok well.parts.beside;
       shapes = shaped;
       methods = types.methods;
       slots = λ t k n lt e. slot_there image.types.items t k n (shaped.methods t k n lt e);
@@ -255,5 +258,7 @@ has_numbers p image well ok own r there =
       selfs = λ s e. called_on p image own r x.0 x.1 x.2 s e;
       mine = own_known p (tables_of image) shaped own r there;
       locals = λ k t h. (part_in p image own r x.0 x.1 x.2 k (cells_for p.types (id_of t)) (local_part p r.own k t h)).place;
+      conditions = sym (length-map image.conds.items (λ (b : Body). b.code.items)) ∙ ap length ok.conditions
+          ∙ length-map (conditions p) (λ (c : Condition). condition_code p c.own c.expression);
       parameters = λ k a h. part_in p image own r x.0 x.1 x.2 k (parameter_cells p.types a) (parameter_part p r.own k a h);
     }

@@ -2,6 +2,7 @@
 use Rattle.std.proofs.Common.{◌≡◌, ◌≤◌, ◌<◌, inl, inr, ℕ, zero, suc, ◌+◌, ℤ, List, [], ◌∷◌, ◌++◌, Some, length, Option, None, refl, sym, ap, ◌∙◌, subst, arith, append_assoc, length-append}
 use Rattle.std.specs.Prelude.{IsTrue, Bool, true, false, if◌then◌else◌, ◌⊎◌, is_some as has_type, option_map, option_and_then, max, replicate, reverse}
 use Rattle.std.proofs.lemmas.List.{length-replicate, length-reverse}
+use Rattle.std.proofs.lemmas.Option.{slice_get_within}
 use Rattle.std.proofs.lemmas.Bool.{lt-ltb}
 use Rattle.std.proofs.Math.Nat.{le-max_left, le-max_right}
 use Rattle.aos_base.specs.declared.text.Pos.{Pos}
@@ -31,7 +32,8 @@ use Rattle.aos_types.specs.Table.{row_of, is_object}
 use Rattle.aos_typed.specs.Methods.{method_number, is_active, body_type, initializer}
 use Rattle.aos_typed.specs.Routines.{Routine, parameters_of, result_of}
 use Rattle.aos_layout.specs.Layout.{kind_of as cell_kind}
-use Rattle.aos_typed.specs.Program.{Program, Parameter, Procedure as Declared, Arguments, Place, Expr, Lit, Read, Binary, Call, Open, Char, Int, String, Ln, Stat, Assign, Copy, PutText, If, Case, While, Repeat, Loop, Exit, For, Block, Assert, Halt, Change, Perform, Return, New, Make, With, WithRecord, Out, Stats, Nothing, Then, Arms, Otherwise, Arm, Cases, NoElse, Else, OfLabels}
+use Rattle.aos_typed.specs.Program.{Program, Parameter, Procedure as Declared, Arguments, Place, Expr, Lit, Read, Binary, Call, Open, Char, Int, String, Ln, Stat, Assign, Copy, PutText, If, Case, While, Repeat, Loop, Exit, For, Block, Await, Assert, Halt, Change, Perform, Return, New, Make, With, WithRecord, Out, Stats, Nothing, Then, Arms, Otherwise, Arm, Cases, NoElse, Else, OfLabels}
+use Rattle.aos_typed.specs.Conditions.{Condition, conditions, IsLinked, AreLinked, AreArmsLinked, AreCasesLinked}
 use Rattle.aos_typed.specs.WellTyped.{Includes, amount_type, IsPlaceOf, IsOf, AreArguments, AreLengthsOf, IsInitialized, IsCall, IsReturn, IsStatement, AreStatements, AreArms, AreCases}
 use Rattle.aos_sim.specs.Code.{Within, NoRegion, AroundLoop, InLoop, Ways, loop_within, loop_ways, block_ways, block_at, block_code, exit_code, return_code, begin, kind_of, cells_of, place_code, arguments_code, value_code, values_code, make_instr, make_code, out_code, stash, unstash, initial_kinds, initialize_code, carry_out_instr, store_code, new_code, assign_code, change_code, changed_code, for_head, step_code, body_place, stat_code, stats_code, arms_code, cases_code, arm_place}
 use Rattle.aos_sim.specs.Search.{Search, Nowhere, At as Labels, Split, arms_in, search_of, label_code, search_size, search_code}
@@ -352,176 +354,182 @@ module _ (p : Program) (o : Option Declared) (image : Image) (own : ℕ) (depth 
       (value_piece p o image own Procedure depth has refl e t h at [] (omega (arith, room)))
       (left_piece u (omega (arith, room, k)) (λ at'. stops i.Return [] ends refl (omega (arith, room, k)) (λ whole q. refl)))
 
-  mutual
-    -- a statement; an EXIT in it leads behind it, to what has the same operands
-    pub stat_piece : (t : Stat) → IsStatement p o t → (at : ℕ) (x : Ways) (d : ℕ) → at + length (stat_code p o t at x d) ≤ x.exit → stat_level t d ≤ keeps → stat_need t ≤ depth → Piece image own Procedure depth (At x.exit []) (stat_code p o t at x d) at [] []
-    stat_piece (Assign here t y e) h at x d le kept room = assign_piece here t y e h.0 h.2 at [] (omega (arith, room))
-    stat_piece (Copy here t y z) h at x d le kept room =
-        begins here (omega (arith, room)) (both
-        (place_piece p o image own Procedure depth has refl y t h.0 (at + 1) [] (omega (arith, room)))
-        (then_one
-        (place_piece p o image own Procedure depth has refl z h.1.0 h.1.1 (at + 1 + length (place_code p o y (at + 1))) (A ∷ []) (omega (arith, room)))
-        (i.Copy (cells_of p o t)) refl refl (let k = some_place z in omega (arith, room, k)) (λ whole q. refl)))
-    stat_piece (PutText here strict a b) h at x d le kept room =
-        begins here (omega (arith, room)) (texts_piece p o image own Procedure depth has refl a b h.0 h.1 (i.PutText strict) (at + 1) [] (omega (arith, room)) refl refl (λ whole q. refl))
-    stat_piece (If here arms) h at x d le kept room =
-        let end = at + 1 + length (arms_code p o arms (at + 1) 0 x d) in
-        let same = arms_length p o arms (at + 1) end 0 x.within x.exit x.exit d in
-        begins here (omega (arith, room)) (arms_piece arms h (at + 1) end x d (omega (arith, same)) (omega (arith, le)) kept room)
-    stat_piece (Case here e cases) h at x d le kept room =
-        let c = value_code p o e (at + 1) in
-        let from = at + 1 + length c + 1 in
-        let first = from + search_size (search_of cases) in
-        let end = first + length (cases_code p o cases first 0 x d) in
-        let place = arm_place p o cases first x d in
-        let search = search_code place (arms_in cases) (search_of cases) d from in
-        let arms = cases_code p o cases first end x d in
-        let same = cases_length p o cases first end 0 x.within x.exit x.exit d in
-        let size = search_length place (arms_in cases) (search_of cases) d from in
-        let l1 = length-append c (i.Keep d N ∷ (search ++ arms)) in
-        let l2 = length-append search arms in
-        let k = some_need e in
-        let lt : d < keeps = omega (arith, kept, le-max_left (suc d) (cases_level cases d)) in
-        let z : first ≡ from + length search = omega (arith, size) in
-        let all = subst (λ n. Entries image own Procedure depth (At x.exit []) arms n place [] []) z
-        (cases_piece cases h.2 first end x d (omega (arith, same)) (omega (arith, le, same, size, l1, l2)) (omega (arith, kept, le-max_right (suc d) (cases_level cases d))) (omega (arith, room))) in
-        begins here (omega (arith, room)) (both (selector_piece e h.0 (at + 1) [] (omega (arith, room)))
-        (one_then (i.Keep d N) refl refl (omega (arith, room, k)) (may_keep d lt)
-        (followed (labels_piece place cases d from lt (arm_ahead p o cases first x d) (omega (arith, room))) all.0 (λ whole kinds l g q. all.1 kinds l g))))
-    stat_piece (While here e body) h at x d le kept room =
-        let c = value_code p o e (at + 1) in
-        let first = at + 1 + length c + 1 in
-        let b = stats_code p o body first x d in
-        let k = some_need e in
-        let counted = length-append c (i.JumpFalse (first + length b + 1) ∷ (b ++ i.Jump at ∷ [])) in
-        repeats here.line here.col (first + length b + 1) refl refl (omega (arith, room, k))
-        (value_piece p o image own Procedure depth has refl e type.Boolean h.0 (at + 1) [] (omega (arith, room)))
-        (stats_piece body h.1 first x d (omega (arith, le, counted, length-append b (i.Jump at ∷ []))) kept (omega (arith, room)))
-    stat_piece (Repeat here body e) h at x d le kept room =
-        let b = stats_code p o body (at + 1) x d in
-        let c = value_code p o e (at + 1 + length b) in
-        let k = some_need e in
-        repeats_until here.line here.col refl (omega (arith, room, k))
-        (stats_piece body h.0 (at + 1) x d (omega (arith, le, length-append b (c ++ i.JumpFalse at ∷ []))) kept (omega (arith, room)))
-        (value_piece p o image own Procedure depth has refl e type.Boolean h.1 (at + 1 + length b) [] (omega (arith, room)))
-    stat_piece (Loop here body) h at x d le kept room =
-        let out = at + 1 + length (stats_code p o body (at + 1) (loop_ways 0 x) d) + 1 in
-        let same = stats_length p o body (at + 1) (loop_within x.within) out 0 d in
-        loops here.line here.col out (omega (arith, same)) refl (omega (arith, room))
-        (stats_piece body h (at + 1) (loop_ways out x) d (omega (arith, same)) kept (omega (arith, room)))
-    stat_piece (Exit here) h at x d le kept room = begins here (omega (arith, room)) (exit_piece x.within x.exit (at + 1) (omega (arith, le)))
-    stat_piece (For here w y from to step body) h at x d le kept room =
-        let last = value_code p o to (at + 1) in
-        let k = some_need to in
-        let head = for_head p o here w y from to at d in
-        let t = at + length head in
-        let v = value_code p o (Read (type.Integer w) y) (t + 1) in
-        let tail = i.Kept d N ∷ (i.Binary (binary.Cmp (until step)) ∷ []) in
-        let test = v ++ tail in
-        let first = body_place p o w y t in
-        let b = stats_code p o body first x (suc d) in
-        let n = step_code p o here w y step (first + length b) in
-        let end = t + 1 + length test + 1 + length b + length n + 1 in
-        let above = stats_above body (suc d) in
-        let may = may_keep d (omega (arith, kept, above)) in
-        let l1 = length-append v tail in
-        let l2 = length-append b n in
-        let l3 = length-append test (i.JumpFalse end ∷ (b ++ (n ++ i.Jump t ∷ []))) in
-        let l4 = length-append b (n ++ i.Jump t ∷ []) in
-        let l5 = length-append head (begin here ∷ (test ++ (i.JumpFalse end ∷ (b ++ (n ++ i.Jump t ∷ []))))) in
-        both
-        (begins here (omega (arith, room)) (both
-        (value_piece p o image own Procedure depth has refl to (type.Integer w) h.3 (at + 1) [] (omega (arith, room)))
-        (one_then (i.Keep d N) refl refl (omega (arith, room, k)) may
-        (assign_piece here (type.Integer w) y from h.1 h.2 (at + 1 + length last + 1) [] (omega (arith, room))))))
-        (recoded (ap (λ l. begin here ∷ (test ++ (i.JumpFalse end ∷ l))) (append_assoc b n (i.Jump t ∷ [])))
-        (repeats here.line here.col {c = test} {b = b ++ n} end (omega (arith, l2)) refl (omega (arith, room))
-        (both (value_piece p o image own Procedure depth has refl (Read (type.Integer w) y) (type.Integer w) (h.1, refl, inl (included_self w)) (t + 1) [] (omega (arith, room)))
-        (one_then (i.Kept d N) refl refl (omega (arith, room)) may
-        (one (i.Binary (binary.Cmp (until step))) refl refl (omega (arith, room)) (λ whole q. refl))))
-        (both
-        (moved (omega (arith, l1)) (stats_piece body h.5 first x (suc d) (omega (arith, le, l1, l2, l3, l4, l5)) kept (omega (arith, room))))
-        (moved (omega (arith, l1)) (assign_piece here (type.Integer w) y (Binary (binary.Add w) (Read (type.Integer w) y) (Lit (literal.Int step))) h.1 (((h.1, refl, inl (included_self w)), inl h.4), included_self w) (first + length b) [] (omega (arith, room)))))))
-    stat_piece (Block here false body) h at x d le kept room = begins here (omega (arith, room)) (stats_piece body h (at + 1) x d (omega (arith, le)) kept room)
-    stat_piece (Block here true body) h at x d le kept room =
-        let b = stats_code p o body (at + 1 + 1) (block_ways true x) d in
-        begins here (omega (arith, room)) (region_piece (stats_piece body h (at + 1 + 1) (block_ways true x) d (omega (arith, le, length-append b (i.Leave ∷ []))) kept room))
-    stat_piece (Assert here e code) h at x d le kept room =
-        let k = some_need e in
-        begins here (omega (arith, room)) (then_one (value_piece p o image own Procedure depth has refl e type.Boolean h.0 (at + 1) [] (omega (arith, room))) (i.Assert code) refl refl (omega (arith, room, k)) (λ whole q. refl))
-    stat_piece (Halt here code) h at x d le kept room = begins here (omega (arith, room)) (stops (i.Halt code) [] refl refl (omega (arith, room)) (λ whole q. refl))
-    stat_piece (Change here c y e) h at x d le kept room = changed_piece here c y e h.0 h.1 at [] (omega (arith, room))
-    stat_piece (Perform here c more) h at x d le kept room =
-        let gives = ap (λ r. given (option_map (λ t. cell_kind p.types (id_of t)) r) (Some [])) h.2 in
-        begins here (omega (arith, room)) (call_piece p o image own Procedure depth has refl c h.0 h.1 more h.3 (at + 1) [] gives (omega (arith, room)) (omega (arith, room)))
-    stat_piece (Return here None) h at x d le kept room =
-        begins here (omega (arith, room)) (left_piece x.within (omega (arith, room)) (λ at'. stops i.Return [] (nothing_returned (result_of o) refl h) refl (omega (arith, room)) (λ whole q. refl)))
-    stat_piece (Return here (Some e)) h at x d le kept room = begins here (omega (arith, room)) (return_piece x.within e (result_of o) refl h (at + 1) room)
-    stat_piece (New here y t more) h at x d le kept room =
-        let one_kept = le-max_left (suc d) (d + operands more) in
-        let all_kept = le-max_right (suc d) (d + operands more) in
-        begins here (omega (arith, room)) (new_piece y t more h.0 h.1 h.2 (at + 1) d [] (omega (arith, kept, one_kept)) (omega (arith, kept, all_kept)) (omega (arith, room)))
-    stat_piece (Make here y t ns) h at x d le kept room = begins here (omega (arith, room)) (make_piece y h.0.0 t ns h.0.1 h.1 h.3 (at + 1) [] (omega (arith, room)))
-    stat_piece (With here e body) h at x d le kept room =
-        let c = value_code p o e (at + 1) in
-        let b = stats_code p o body (at + 1 + length c + 1) x d in
-        let k = some_need e in
-        begins here (omega (arith, room)) (both (value_piece p o image own Procedure depth has refl e h.0.0 h.0.1 (at + 1) [] (omega (arith, room)))
-        (one_then i.Drop refl refl (omega (arith, room, k)) (λ whole q. refl)
-        (stats_piece body h.1 (at + 1 + length c + 1) x d (omega (arith, le, length-append c (i.Drop ∷ b))) kept (omega (arith, room)))))
-    stat_piece (WithRecord here y body) h at x d le kept room =
-        let c = place_code p o y (at + 1) in
-        let b = stats_code p o body (at + 1 + length c + 1) x d in
-        let k = some_place y in
-        begins here (omega (arith, room)) (both (place_piece p o image own Procedure depth has refl y h.0.0 h.0.1 (at + 1) [] (omega (arith, room)))
-        (one_then i.Drop refl refl (omega (arith, room, k)) (λ whole q. refl)
-        (stats_piece body h.1 (at + 1 + length c + 1) x d (omega (arith, le, length-append c (i.Drop ∷ b))) kept (omega (arith, room)))))
-    stat_piece (Out here call) h at x d le kept room = begins here (omega (arith, room)) (out_piece call h (at + 1) [] (omega (arith, room)))
+  -- in a routine of this module
+  module _ (home : ℕ) where
+    mutual
+      -- a statement; an EXIT in it leads behind it, to what has the same operands
+      pub stat_piece : (t : Stat) → IsStatement p o t → IsLinked (conditions p) home o t → (at : ℕ) (x : Ways) (d : ℕ) → at + length (stat_code p o t at x d) ≤ x.exit → stat_level t d ≤ keeps → stat_need t ≤ depth → Piece image own Procedure depth (At x.exit []) (stat_code p o t at x d) at [] []
+      stat_piece (Assign here t y e) h g at x d le kept room = assign_piece here t y e h.0 h.2 at [] (omega (arith, room))
+      stat_piece (Copy here t y z) h g at x d le kept room =
+          begins here (omega (arith, room)) (both
+          (place_piece p o image own Procedure depth has refl y t h.0 (at + 1) [] (omega (arith, room)))
+          (then_one
+          (place_piece p o image own Procedure depth has refl z h.1.0 h.1.1 (at + 1 + length (place_code p o y (at + 1))) (A ∷ []) (omega (arith, room)))
+          (i.Copy (cells_of p o t)) refl refl (let k = some_place z in omega (arith, room, k)) (λ whole q. refl)))
+      stat_piece (PutText here strict a b) h g at x d le kept room =
+          begins here (omega (arith, room)) (texts_piece p o image own Procedure depth has refl a b h.0 h.1 (i.PutText strict) (at + 1) [] (omega (arith, room)) refl refl (λ whole q. refl))
+      stat_piece (If here arms) h g at x d le kept room =
+          let end = at + 1 + length (arms_code p o arms (at + 1) 0 x d) in
+          let same = arms_length p o arms (at + 1) end 0 x.within x.exit x.exit d in
+          begins here (omega (arith, room)) (arms_piece arms h g (at + 1) end x d (omega (arith, same)) (omega (arith, le)) kept room)
+      stat_piece (Case here e cases) h g at x d le kept room =
+          let c = value_code p o e (at + 1) in
+          let from = at + 1 + length c + 1 in
+          let first = from + search_size (search_of cases) in
+          let end = first + length (cases_code p o cases first 0 x d) in
+          let place = arm_place p o cases first x d in
+          let search = search_code place (arms_in cases) (search_of cases) d from in
+          let arms = cases_code p o cases first end x d in
+          let same = cases_length p o cases first end 0 x.within x.exit x.exit d in
+          let size = search_length place (arms_in cases) (search_of cases) d from in
+          let l1 = length-append c (i.Keep d N ∷ (search ++ arms)) in
+          let l2 = length-append search arms in
+          let k = some_need e in
+          let lt : d < keeps = omega (arith, kept, le-max_left (suc d) (cases_level cases d)) in
+          let z : first ≡ from + length search = omega (arith, size) in
+          let all = subst (λ n. Entries image own Procedure depth (At x.exit []) arms n place [] []) z
+          (cases_piece cases h.2 g first end x d (omega (arith, same)) (omega (arith, le, same, size, l1, l2)) (omega (arith, kept, le-max_right (suc d) (cases_level cases d))) (omega (arith, room))) in
+          begins here (omega (arith, room)) (both (selector_piece e h.0 (at + 1) [] (omega (arith, room)))
+          (one_then (i.Keep d N) refl refl (omega (arith, room, k)) (may_keep d lt)
+          (followed (labels_piece place cases d from lt (arm_ahead p o cases first x d) (omega (arith, room))) all.0 (λ whole kinds l g q. all.1 kinds l g))))
+      stat_piece (While here e body) h g at x d le kept room =
+          let c = value_code p o e (at + 1) in
+          let first = at + 1 + length c + 1 in
+          let b = stats_code p o body first x d in
+          let k = some_need e in
+          let counted = length-append c (i.JumpFalse (first + length b + 1) ∷ (b ++ i.Jump at ∷ [])) in
+          repeats here.line here.col (first + length b + 1) refl refl (omega (arith, room, k))
+          (value_piece p o image own Procedure depth has refl e type.Boolean h.0 (at + 1) [] (omega (arith, room)))
+          (stats_piece body h.1 g first x d (omega (arith, le, counted, length-append b (i.Jump at ∷ []))) kept (omega (arith, room)))
+      stat_piece (Repeat here body e) h g at x d le kept room =
+          let b = stats_code p o body (at + 1) x d in
+          let c = value_code p o e (at + 1 + length b) in
+          let k = some_need e in
+          repeats_until here.line here.col refl (omega (arith, room, k))
+          (stats_piece body h.0 g (at + 1) x d (omega (arith, le, length-append b (c ++ i.JumpFalse at ∷ []))) kept (omega (arith, room)))
+          (value_piece p o image own Procedure depth has refl e type.Boolean h.1 (at + 1 + length b) [] (omega (arith, room)))
+      stat_piece (Loop here body) h g at x d le kept room =
+          let out = at + 1 + length (stats_code p o body (at + 1) (loop_ways 0 x) d) + 1 in
+          let same = stats_length p o body (at + 1) (loop_within x.within) out 0 d in
+          loops here.line here.col out (omega (arith, same)) refl (omega (arith, room))
+          (stats_piece body h g (at + 1) (loop_ways out x) d (omega (arith, same)) kept (omega (arith, room)))
+      stat_piece (Exit here) h g at x d le kept room = begins here (omega (arith, room)) (exit_piece x.within x.exit (at + 1) (omega (arith, le)))
+      stat_piece (For here w y from to step body) h g at x d le kept room =
+          let last = value_code p o to (at + 1) in
+          let k = some_need to in
+          let head = for_head p o here w y from to at d in
+          let t = at + length head in
+          let v = value_code p o (Read (type.Integer w) y) (t + 1) in
+          let tail = i.Kept d N ∷ (i.Binary (binary.Cmp (until step)) ∷ []) in
+          let test = v ++ tail in
+          let first = body_place p o w y t in
+          let b = stats_code p o body first x (suc d) in
+          let n = step_code p o here w y step (first + length b) in
+          let end = t + 1 + length test + 1 + length b + length n + 1 in
+          let above = stats_above body (suc d) in
+          let may = may_keep d (omega (arith, kept, above)) in
+          let l1 = length-append v tail in
+          let l2 = length-append b n in
+          let l3 = length-append test (i.JumpFalse end ∷ (b ++ (n ++ i.Jump t ∷ []))) in
+          let l4 = length-append b (n ++ i.Jump t ∷ []) in
+          let l5 = length-append head (begin here ∷ (test ++ (i.JumpFalse end ∷ (b ++ (n ++ i.Jump t ∷ []))))) in
+          both
+          (begins here (omega (arith, room)) (both
+          (value_piece p o image own Procedure depth has refl to (type.Integer w) h.3 (at + 1) [] (omega (arith, room)))
+          (one_then (i.Keep d N) refl refl (omega (arith, room, k)) may
+          (assign_piece here (type.Integer w) y from h.1 h.2 (at + 1 + length last + 1) [] (omega (arith, room))))))
+          (recoded (ap (λ l. begin here ∷ (test ++ (i.JumpFalse end ∷ l))) (append_assoc b n (i.Jump t ∷ [])))
+          (repeats here.line here.col {c = test} {b = b ++ n} end (omega (arith, l2)) refl (omega (arith, room))
+          (both (value_piece p o image own Procedure depth has refl (Read (type.Integer w) y) (type.Integer w) (h.1, refl, inl (included_self w)) (t + 1) [] (omega (arith, room)))
+          (one_then (i.Kept d N) refl refl (omega (arith, room)) may
+          (one (i.Binary (binary.Cmp (until step))) refl refl (omega (arith, room)) (λ whole q. refl))))
+          (both
+          (moved (omega (arith, l1)) (stats_piece body h.5 g first x (suc d) (omega (arith, le, l1, l2, l3, l4, l5)) kept (omega (arith, room))))
+          (moved (omega (arith, l1)) (assign_piece here (type.Integer w) y (Binary (binary.Add w) (Read (type.Integer w) y) (Lit (literal.Int step))) h.1 (((h.1, refl, inl (included_self w)), inl h.4), included_self w) (first + length b) [] (omega (arith, room)))))))
+      stat_piece (Block here false body) h g at x d le kept room = begins here (omega (arith, room)) (stats_piece body h g (at + 1) x d (omega (arith, le)) kept room)
+      stat_piece (Block here true body) h g at x d le kept room =
+          let b = stats_code p o body (at + 1 + 1) (block_ways true x) d in
+          begins here (omega (arith, room)) (region_piece (stats_piece body h g (at + 1 + 1) (block_ways true x) d (omega (arith, le, length-append b (i.Leave ∷ []))) kept room))
+      stat_piece (Await here n e) h g at x d le kept room =
+          let c : Condition = record { home = home; own = o; at = here; expression = e } in
+          let below = slice_get_within (conditions p) n c g in
+          begins here (omega (arith, room)) (one (i.Await n) refl refl (omega (arith, room)) (λ whole q. lt-ltb n (length image.conds.items) (omega (arith, below, has.conditions))))
+      stat_piece (Assert here e code) h g at x d le kept room =
+          let k = some_need e in
+          begins here (omega (arith, room)) (then_one (value_piece p o image own Procedure depth has refl e type.Boolean h.0 (at + 1) [] (omega (arith, room))) (i.Assert code) refl refl (omega (arith, room, k)) (λ whole q. refl))
+      stat_piece (Halt here code) h g at x d le kept room = begins here (omega (arith, room)) (stops (i.Halt code) [] refl refl (omega (arith, room)) (λ whole q. refl))
+      stat_piece (Change here c y e) h g at x d le kept room = changed_piece here c y e h.0 h.1 at [] (omega (arith, room))
+      stat_piece (Perform here c more) h g at x d le kept room =
+          let gives = ap (λ r. given (option_map (λ t. cell_kind p.types (id_of t)) r) (Some [])) h.2 in
+          begins here (omega (arith, room)) (call_piece p o image own Procedure depth has refl c h.0 h.1 more h.3 (at + 1) [] gives (omega (arith, room)) (omega (arith, room)))
+      stat_piece (Return here None) h g at x d le kept room =
+          begins here (omega (arith, room)) (left_piece x.within (omega (arith, room)) (λ at'. stops i.Return [] (nothing_returned (result_of o) refl h) refl (omega (arith, room)) (λ whole q. refl)))
+      stat_piece (Return here (Some e)) h g at x d le kept room = begins here (omega (arith, room)) (return_piece x.within e (result_of o) refl h (at + 1) room)
+      stat_piece (New here y t more) h g at x d le kept room =
+          let one_kept = le-max_left (suc d) (d + operands more) in
+          let all_kept = le-max_right (suc d) (d + operands more) in
+          begins here (omega (arith, room)) (new_piece y t more h.0 h.1 h.2 (at + 1) d [] (omega (arith, kept, one_kept)) (omega (arith, kept, all_kept)) (omega (arith, room)))
+      stat_piece (Make here y t ns) h g at x d le kept room = begins here (omega (arith, room)) (make_piece y h.0.0 t ns h.0.1 h.1 h.3 (at + 1) [] (omega (arith, room)))
+      stat_piece (With here e body) h g at x d le kept room =
+          let c = value_code p o e (at + 1) in
+          let b = stats_code p o body (at + 1 + length c + 1) x d in
+          let k = some_need e in
+          begins here (omega (arith, room)) (both (value_piece p o image own Procedure depth has refl e h.0.0 h.0.1 (at + 1) [] (omega (arith, room)))
+          (one_then i.Drop refl refl (omega (arith, room, k)) (λ whole q. refl)
+          (stats_piece body h.1 g (at + 1 + length c + 1) x d (omega (arith, le, length-append c (i.Drop ∷ b))) kept (omega (arith, room)))))
+      stat_piece (WithRecord here y body) h g at x d le kept room =
+          let c = place_code p o y (at + 1) in
+          let b = stats_code p o body (at + 1 + length c + 1) x d in
+          let k = some_place y in
+          begins here (omega (arith, room)) (both (place_piece p o image own Procedure depth has refl y h.0.0 h.0.1 (at + 1) [] (omega (arith, room)))
+          (one_then i.Drop refl refl (omega (arith, room, k)) (λ whole q. refl)
+          (stats_piece body h.1 g (at + 1 + length c + 1) x d (omega (arith, le, length-append c (i.Drop ∷ b))) kept (omega (arith, room)))))
+      stat_piece (Out here call) h g at x d le kept room = begins here (omega (arith, room)) (out_piece call h (at + 1) [] (omega (arith, room)))
 
-    -- a sequence of statements
-    pub stats_piece : (ss : Stats) → AreStatements p o ss → (at : ℕ) (x : Ways) (d : ℕ) → at + length (stats_code p o ss at x d) ≤ x.exit → stats_level ss d ≤ keeps → stats_need ss ≤ depth → Piece image own Procedure depth (At x.exit []) (stats_code p o ss at x d) at [] []
-    stats_piece Nothing h at x d le kept room = nothing
-    stats_piece (Then t ss) h at x d le kept room =
-        let c = stat_code p o t at x d in
-        let l = length-append c (stats_code p o ss (at + length c) x d) in
-        both
-        (stat_piece t h.0 at x d (omega (arith, le, l)) (omega (arith, kept, le-max_left (stat_level t d) (stats_level ss d))) (omega (arith, room)))
-        (stats_piece ss h.1 (at + length c) x d (omega (arith, le, l)) (omega (arith, kept, le-max_right (stat_level t d) (stats_level ss d))) (omega (arith, room)))
+      -- a sequence of statements
+      pub stats_piece : (ss : Stats) → AreStatements p o ss → AreLinked (conditions p) home o ss → (at : ℕ) (x : Ways) (d : ℕ) → at + length (stats_code p o ss at x d) ≤ x.exit → stats_level ss d ≤ keeps → stats_need ss ≤ depth → Piece image own Procedure depth (At x.exit []) (stats_code p o ss at x d) at [] []
+      stats_piece Nothing h g at x d le kept room = nothing
+      stats_piece (Then t ss) h g at x d le kept room =
+          let c = stat_code p o t at x d in
+          let l = length-append c (stats_code p o ss (at + length c) x d) in
+          both
+          (stat_piece t h.0 g.0 at x d (omega (arith, le, l)) (omega (arith, kept, le-max_left (stat_level t d) (stats_level ss d))) (omega (arith, room)))
+          (stats_piece ss h.1 g.1 (at + length c) x d (omega (arith, le, l)) (omega (arith, kept, le-max_right (stat_level t d) (stats_level ss d))) (omega (arith, room)))
 
-    arms_piece : (arms : Arms) → AreArms p o arms → (at end : ℕ) (x : Ways) (d : ℕ) → end ≡ at + length (arms_code p o arms at end x d) → end ≤ x.exit → arms_level arms d ≤ keeps → arms_need arms ≤ depth → Piece image own Procedure depth (At x.exit []) (arms_code p o arms at end x d) at [] []
-    arms_piece (Otherwise ss) h at end x d ends le kept room = stats_piece ss h at x d (omega (arith, ends, le)) kept room
-    arms_piece (Arm e ss arms) h at end x d ends le kept room =
-        let c = value_code p o e at in
-        let first = at + length c + 1 in
-        let b = stats_code p o ss first x d in
-        let next = first + length b + 1 in
-        let more = arms_code p o arms next end x d in
-        let k = some_need e in
-        let l1 = length-append c (i.JumpFalse next ∷ (b ++ (i.Jump end ∷ more))) in
-        let l2 = length-append b (i.Jump end ∷ more) in
-        choose next end refl (omega (arith, ends, l1, l2)) (omega (arith, room, k)) (omega (arith, room))
-        (value_piece p o image own Procedure depth has refl e type.Boolean h.0 at [] (omega (arith, room)))
-        (stats_piece ss h.1 first x d (omega (arith, ends, le, l1, l2)) (omega (arith, kept, le-max_left (stats_level ss d) (arms_level arms d))) (omega (arith, room)))
-        (arms_piece arms h.2 next end x d (omega (arith, ends, l1, l2)) le (omega (arith, kept, le-max_right (stats_level ss d) (arms_level arms d))) (omega (arith, room)))
+      arms_piece : (arms : Arms) → AreArms p o arms → AreArmsLinked (conditions p) home o arms → (at end : ℕ) (x : Ways) (d : ℕ) → end ≡ at + length (arms_code p o arms at end x d) → end ≤ x.exit → arms_level arms d ≤ keeps → arms_need arms ≤ depth → Piece image own Procedure depth (At x.exit []) (arms_code p o arms at end x d) at [] []
+      arms_piece (Otherwise ss) h g at end x d ends le kept room = stats_piece ss h g at x d (omega (arith, ends, le)) kept room
+      arms_piece (Arm e ss arms) h g at end x d ends le kept room =
+          let c = value_code p o e at in
+          let first = at + length c + 1 in
+          let b = stats_code p o ss first x d in
+          let next = first + length b + 1 in
+          let more = arms_code p o arms next end x d in
+          let k = some_need e in
+          let l1 = length-append c (i.JumpFalse next ∷ (b ++ (i.Jump end ∷ more))) in
+          let l2 = length-append b (i.Jump end ∷ more) in
+          choose next end refl (omega (arith, ends, l1, l2)) (omega (arith, room, k)) (omega (arith, room))
+          (value_piece p o image own Procedure depth has refl e type.Boolean h.0 at [] (omega (arith, room)))
+          (stats_piece ss h.1 g.0 first x d (omega (arith, ends, le, l1, l2)) (omega (arith, kept, le-max_left (stats_level ss d) (arms_level arms d))) (omega (arith, room)))
+          (arms_piece arms h.2 g.1 next end x d (omega (arith, ends, l1, l2)) le (omega (arith, kept, le-max_right (stats_level ss d) (arms_level arms d))) (omega (arith, room)))
 
-    cases_piece : (cases : Cases) → AreCases p o cases → (at end : ℕ) (x : Ways) (d : ℕ) → end ≡ at + length (cases_code p o cases at end x d) → end ≤ x.exit → cases_level cases d ≤ keeps → cases_need cases ≤ depth → Entries image own Procedure depth (At x.exit []) (cases_code p o cases at end x d) at (arm_place p o cases at x d) [] []
-    cases_piece NoElse h at end x d ends le kept room =
-        let q : Piece image own Procedure depth (At x.exit []) (i.Fail 4 ∷ []) at [] [] = stops (i.Fail 4) [] refl refl (omega (arith, room)) (λ whole q. refl) in
-        (q, λ kinds l e n. q.enters kinds l e)
-    cases_piece (Else ss) h at end x d ends le kept room =
-        let q = stats_piece ss h at x d (omega (arith, ends, le)) kept room in
-        (q, λ kinds l e n. q.enters kinds l e)
-    cases_piece (OfLabels rs ss cases) h at end x d ends le kept room =
-        let b = stats_code p o ss at x d in
-        let next = at + length b + 1 in
-        let la = length-append b (i.Jump end ∷ cases_code p o cases next end x d) in
-        arm end (arm_place p o (OfLabels rs ss cases) at x d) (omega (arith, ends, la)) refl (omega (arith, room))
-        (stats_piece ss h.1 at x d (omega (arith, ends, le, la)) (omega (arith, kept, le-max_left (stats_level ss d) (cases_level cases d))) (omega (arith, room)))
-        (cases_piece cases h.2 next end x d (omega (arith, ends, la)) le (omega (arith, kept, le-max_right (stats_level ss d) (cases_level cases d))) (omega (arith, room)))
+      cases_piece : (cases : Cases) → AreCases p o cases → AreCasesLinked (conditions p) home o cases → (at end : ℕ) (x : Ways) (d : ℕ) → end ≡ at + length (cases_code p o cases at end x d) → end ≤ x.exit → cases_level cases d ≤ keeps → cases_need cases ≤ depth → Entries image own Procedure depth (At x.exit []) (cases_code p o cases at end x d) at (arm_place p o cases at x d) [] []
+      cases_piece NoElse h g at end x d ends le kept room =
+          let q : Piece image own Procedure depth (At x.exit []) (i.Fail 4 ∷ []) at [] [] = stops (i.Fail 4) [] refl refl (omega (arith, room)) (λ whole q. refl) in
+          (q, λ kinds l e n. q.enters kinds l e)
+      cases_piece (Else ss) h g at end x d ends le kept room =
+          let q = stats_piece ss h g at x d (omega (arith, ends, le)) kept room in
+          (q, λ kinds l e n. q.enters kinds l e)
+      cases_piece (OfLabels rs ss cases) h g at end x d ends le kept room =
+          let b = stats_code p o ss at x d in
+          let next = at + length b + 1 in
+          let la = length-append b (i.Jump end ∷ cases_code p o cases next end x d) in
+          arm end (arm_place p o (OfLabels rs ss cases) at x d) (omega (arith, ends, la)) refl (omega (arith, room))
+          (stats_piece ss h.1 g.0 at x d (omega (arith, ends, le, la)) (omega (arith, kept, le-max_left (stats_level ss d) (cases_level cases d))) (omega (arith, room)))
+          (cases_piece cases h.2 g.1 next end x d (omega (arith, ends, la)) le (omega (arith, kept, le-max_right (stats_level ss d) (cases_level cases d))) (omega (arith, room)))
 
-  -- the statements of a body, which are a region where it is exclusive
-  pub block_piece : (exclusive : Bool) (ss : Stats) → AreStatements p o ss → (at : ℕ) (x : Ways) (d : ℕ) → at + length (block_code exclusive (stats_code p o ss (block_at exclusive at) (block_ways exclusive x) d)) ≤ x.exit → stats_level ss d ≤ keeps → stats_need ss ≤ depth → Piece image own Procedure depth (At x.exit []) (block_code exclusive (stats_code p o ss (block_at exclusive at) (block_ways exclusive x) d)) at [] []
-  block_piece false ss h at x d le kept room = stats_piece ss h at x d le kept room
-  block_piece true ss h at x d le kept room =
-      let b = stats_code p o ss (at + 1) (block_ways true x) d in
-      region_piece (stats_piece ss h (at + 1) (block_ways true x) d (omega (arith, le, length-append b (i.Leave ∷ []))) kept room)
+    -- the statements of a body, which are a region where it is exclusive
+    pub block_piece : (exclusive : Bool) (ss : Stats) → AreStatements p o ss → AreLinked (conditions p) home o ss → (at : ℕ) (x : Ways) (d : ℕ) → at + length (block_code exclusive (stats_code p o ss (block_at exclusive at) (block_ways exclusive x) d)) ≤ x.exit → stats_level ss d ≤ keeps → stats_need ss ≤ depth → Piece image own Procedure depth (At x.exit []) (block_code exclusive (stats_code p o ss (block_at exclusive at) (block_ways exclusive x) d)) at [] []
+    block_piece false ss h g at x d le kept room = stats_piece ss h g at x d le kept room
+    block_piece true ss h g at x d le kept room =
+        let b = stats_code p o ss (at + 1) (block_ways true x) d in
+        region_piece (stats_piece ss h g (at + 1) (block_ways true x) d (omega (arith, le, length-append b (i.Leave ∷ []))) kept room)

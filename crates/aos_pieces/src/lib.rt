@@ -6,7 +6,7 @@ ghost use Rattle.aos_code.specs.declared.image.Image.{Image};
 ghost use Rattle.aos_typed.specs.WellTyped.{IsWellTyped};
 ghost use Rattle.aos_sim.specs.Need.{HasDepthsOf};
 ghost use Rattle.aos_sim.specs.Shows.{IsCodeOf};
-ghost use Rattle.aos_pieces.specs.Bodies.{AreBodiesSound, AreSound};
+ghost use Rattle.aos_pieces.specs.Bodies.{AreBodiesSound, AreSound, AreConditionsSound};
 
 /// Each body of an image that has a well-typed program's code is sound as the procedure of its
 /// number, with room for as many operands as its statements need; and so with as many as it says,
@@ -15,4 +15,10 @@ pub fn law_of_soundness()
     ensures room { (p : Program) (image : Image) → IsWellTyped p → IsCodeOf p image → AreBodiesSound p image }
     ensures depths { (p : Program) (image : Image) →
         IsWellTyped p → IsCodeOf p image → HasDepthsOf p image → AreSound image }
+{}
+
+/// Each condition of an image that has a well-typed program's code is sound as a condition of the procedure over whose frames it is
+/// evaluated, with room for as many operands as its expression needs.
+pub fn law_of_conditions()
+    ensures { (p : Program) (image : Image) → IsWellTyped p → IsCodeOf p image → AreConditionsSound p image }
 {}

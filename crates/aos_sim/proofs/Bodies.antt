@@ -8,6 +8,8 @@ use Rattle.aos_typed.specs.Numbers.{id_of}
 use Rattle.aos_typed.specs.Program.{Procedure, Method, ObjectType, Module, Program}
 use Rattle.aos_typed.specs.Methods.{slots, own_numbers}
 use Rattle.aos_typed.specs.Routines.{Routine, result_of, routine_of, bodies_from, procedures_from, methods_from, routines}
+use Rattle.aos_typed.specs.Conditions.{IsLinkedIn}
+use Rattle.aos_typed.proofs.Conditions.{linked}
 use Rattle.aos_typed.specs.WellTyped.{AreStatements, IsProcedure, AreObjectTypes, IsWellTyped}
 use Rattle.aos_layout.specs.Layout.{kind_of}
 use Rattle.aos_layout.specs.Seen.{seen_shape}
@@ -114,9 +116,9 @@ module _ (p : Program) where
   pub routines_typed : IsWellTyped p → All IsTyped (routines p)
   routines_typed well =
       let others = procedures_from 0 p.modules ++ methods_from p.objects in
-      All-append IsTyped (bodies_from 0 p.modules) (map of_object p.objects ++ others) (bodies_typed 0 p.modules well.bodies)
-      (All-append IsTyped (map of_object p.objects) others (objects_typed 0 p.objects well.objects)
-      (All-append IsTyped (procedures_from 0 p.modules) (methods_from p.objects) (procedures_typed 0 p.modules well.procedures) (methods_typed 0 p.objects well.objects)))
+      All-append IsTyped (bodies_from 0 p.modules) (map of_object p.objects ++ others) (bodies_typed 0 p.modules well.parts.bodies)
+      (All-append IsTyped (map of_object p.objects) others (objects_typed 0 p.objects well.parts.objects)
+      (All-append IsTyped (procedures_from 0 p.modules) (methods_from p.objects) (procedures_typed 0 p.modules well.parts.procedures) (methods_typed 0 p.objects well.parts.objects)))
 
   module _ (image : Image) (ok : IsCodeOf p image) where
     routine_shapes : (q : ℕ) (r : Routine) → by_number q (routines p) ≡ Some r → (x : ProcShape) × (numbered image.shapes.items q ≡ Some x) × (seen_shape x ≡ shape_of p.types r)
@@ -148,4 +150,5 @@ module _ (p : Program) where
     routines_run well has (suc k) r e here =
         let b = alike_at (λ (b : Body). b.code.items) (λ r. body_code p r.own r.body) image.bodies.items (routines p) ok.bodies k r e in
         let keeps = keeps_known p (tables_of image) has (suc k) r e in
-        body_goes p r.own (tables_of image) (suc k) here (code_of image (suc k)) r.body (λ c. Num (pos 0)) (all_get IsTyped (routines p) k r (routines_typed well) e) (omega (arith, keeps)) (ap code_in_body b.1 ∙ b.2)
+        body_goes p r.own (tables_of image) (suc k) here (code_of image (suc k)) r.body (λ c. Num (pos 0)) (all_get IsTyped (routines p) k r (routines_typed well) e) r.home
+        (all_get (IsLinkedIn p) (routines p) k r (linked p well.conditions) e) (omega (arith, keeps)) (ap code_in_body b.1 ∙ b.2)

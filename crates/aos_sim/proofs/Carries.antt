@@ -19,6 +19,7 @@ use Rattle.aos_typed.specs.Routines.{result_of}
 use Rattle.aos_typed.specs.Sort.{Sort}
 use Rattle.aos_typed.specs.Value.{Value}
 use Rattle.aos_typed.specs.Meaning.{Here, Item, Do, Rounds, Round, Until, Region, End, Gives, After, Into, Returns, Exits, leave, leave_all, items_of, item_of, stat_of, pos_of}
+use Rattle.aos_typed.specs.Conditions.{conditions, IsLinked, AreLinked}
 use Rattle.aos_typed.specs.WellTyped.{IsPlaceOf, IsStatement, AreStatements}
 use Rattle.aos_typed.specs.Source.{locks_in}
 use Rattle.aos_layout.specs.Layout.{kind_of}
@@ -113,15 +114,19 @@ module _ (program : Program) (own : Option Procedure) (tables : Tables) (number 
   abbrev pub Holds : ℕ → Type 0
   Holds n = n ≤ keeps_in (numbered tables.procedures number)
 
-  -- the code of a well-typed statement stands at this place, and of well-typed statements
+  -- the code of a well-typed statement stands at this place, and of well-typed statements, whose AWAITs lead to their conditions
   pub record HasStatement (s : Stat) (at : ℕ) (ways : Ways) (level : ℕ) : Type 0 where
     pub stands : Stands code at (stat_code program own s at ways level)
     pub typed : IsStatement program own s
+    pub home : ℕ
+    pub linked : IsLinked (conditions program) home own s
     pub holds : Holds (stat_level s level)
 
   pub record HasStatements (ss : Stats) (at : ℕ) (ways : Ways) (level : ℕ) : Type 0 where
     pub stands : Stands code at (stats_code program own ss at ways level)
     pub typed : AreStatements program own ss
+    pub home : ℕ
+    pub linked : AreLinked (conditions program) home own ss
     pub holds : Holds (stats_level ss level)
 
   -- and of the rounds of a FOR
@@ -130,12 +135,16 @@ module _ (program : Program) (own : Option Procedure) (tables : Tables) (number 
     pub place : IsPlaceOf program own p (Integer w)
     pub within : IsWithin w step
     pub body : AreStatements program own b
+    pub home : ℕ
+    pub linked : AreLinked (conditions program) home own b
     pub holds : Holds (stats_level b (suc level))
 
   -- and of a region
   pub record HasRegion (ss : Stats) (at : ℕ) (ways : Ways) (level : ℕ) : Type 0 where
     pub stands : Stands code at (block_code true (stats_code program own ss (at + 1) (block_ways true ways) level))
     pub typed : AreStatements program own ss
+    pub home : ℕ
+    pub linked : AreLinked (conditions program) home own ss
     pub holds : Holds (stats_level ss level)
 
   -- The code at a place carries out these items, and then the end of the frame. EXIT leads where what is behind the innermost LOOP is
@@ -306,8 +315,8 @@ module _ (program : Program) (own : Option Procedure) (tables : Tables) (number 
       let cr = stats_code program own ss (at + length cs) x d in
       let rest = has.stands.rest in
       let split : drop at code ≡ cs ++ (cr ++ rest) = has.stands.here ∙ append_assoc cs cr rest in
-      let first : HasStatement s at x d = record { stands = record { rest = cr ++ rest; here = split }; typed = has.typed.0; holds = omega (arith, has.holds, le-max_left (stat_level s d) (stats_level ss d)) } in
-      let others : HasStatements ss (at + length cs) x d = record { stands = record { rest = rest; here = drop_past cs at code (cr ++ rest) split }; typed = has.typed.1; holds = omega (arith, has.holds, le-max_right (stat_level s d) (stats_level ss d)) } in
+      let first : HasStatement s at x d = record { stands = record { rest = cr ++ rest; here = split }; typed = has.typed.0; home = has.home; linked = has.linked.0; holds = omega (arith, has.holds, le-max_left (stat_level s d) (stats_level ss d)) } in
+      let others : HasStatements ss (at + length cs) x d = record { stands = record { rest = rest; here = drop_past cs at code (cr ++ rest) split }; typed = has.typed.1; home = has.home; linked = has.linked.1; holds = omega (arith, has.holds, le-max_right (stat_level s d) (stats_level ss d)) } in
       let len : at + length (cs ++ cr) ≡ at + length cs + length cr = omega (arith, length-append cs cr) in
       let le : at ≤ x.exit = omega (arith, bound after (at + length (cs ++ cr)) x d k c) in
       (at, le, (λ k s. refl), first, carries_all ss (at + length cs) x d k after others (subst (λ n. Carries after n x d k) len c))

@@ -17,6 +17,7 @@ use Rattle.aos_typed.specs.Program.{Expr, Case, Cases, NoElse, Else, OfLabels, P
 use Rattle.aos_typed.specs.Sort.{Sort}
 use Rattle.aos_typed.specs.Value.{Value, number_of}
 use Rattle.aos_typed.specs.Meaning.{Here, Doing, Item, After, Into, items_of, value_of, is_in, case_of, stat_of}
+use Rattle.aos_typed.specs.Conditions.{conditions, AreCasesLinked}
 use Rattle.aos_typed.specs.WellTyped.{is_basic, IsOf, AreCases}
 use Rattle.aos_code.specs.declared.instr.Cell.TheVariants.{Num}
 use Rattle.aos_code.specs.declared.instr.Instr.{Instr}
@@ -116,12 +117,12 @@ module _ (program : Program) (own : Option Procedure) (tables : Tables) (number 
       Carried p = Carries program own tables number here code after p x d k
 
       -- the arm that has the value leads on to the same end as the others
-      pub cases_do : (cases : Cases) (p end : ℕ) (w : World Sort) → AreCases program own cases → Holds program own tables number here code (cases_level cases d) → Stands code p (cases_code program own cases p end x d) → end ≡ p + length (cases_code program own cases p end x d) → Carries program own tables number here code after end x d k → Does program here (Behind program own tables number here code after) w (run tables number here code (arm_place program own cases p x d (arm_of z cases)) k []) (case_of z cases)
-      cases_do NoElse p end w ok holds st len c = (from_here program own tables number here code p (i.Fail 4 ∷ st.rest) k [] st.here, omega arith)
-      cases_do (Else ss) p end w ok holds st len c =
-          let has : HasStatements program own tables number here code ss p x d = record { stands = st; typed = ok; holds = holds } in
+      pub cases_do : (cases : Cases) (p end : ℕ) (w : World Sort) → AreCases program own cases → (home : ℕ) → AreCasesLinked (conditions program) home own cases → Holds program own tables number here code (cases_level cases d) → Stands code p (cases_code program own cases p end x d) → end ≡ p + length (cases_code program own cases p end x d) → Carries program own tables number here code after end x d k → Does program here (Behind program own tables number here code after) w (run tables number here code (arm_place program own cases p x d (arm_of z cases)) k []) (case_of z cases)
+      cases_do NoElse p end w ok home links holds st len c = (from_here program own tables number here code p (i.Fail 4 ∷ st.rest) k [] st.here, omega arith)
+      cases_do (Else ss) p end w ok home links holds st len c =
+          let has : HasStatements program own tables number here code ss p x d = record { stands = st; typed = ok; home = home; linked = links; holds = holds } in
           record { at = p; ways = x; level = d; keeps = k; runs = refl; carries = carries_all program own tables number here code ss p x d k after has (subst Carried len c) }
-      cases_do (OfLabels rs ss cases) p end w ok holds st len c =
+      cases_do (OfLabels rs ss cases) p end w ok home links holds st len c =
           let b = stats_code program own ss p x d in
           let pj = p + length b in
           let next = pj + 1 in
@@ -133,11 +134,11 @@ module _ (program : Program) (own : Option Procedure) (tables : Tables) (number 
           let len2 : end ≡ next + length more = omega (arith, len, length-append b (i.Jump end ∷ more)) in
           let le : end ≤ x.exit = bound program own tables number here code after end x d k c in
           let over : Same program own tables number here code pj end = λ k' s. from_here program own tables number here code pj (i.Jump end ∷ rest2) k' s h2 ∙ jumps_on program own tables number here code rest2 end pj k' s (omega (arith, len2)) h3 in
-          let has : HasStatements program own tables number here code ss p x d = record { stands = record { rest = i.Jump end ∷ rest2; here = h1 }; typed = ok.1; holds = omega (arith, holds, le-max_left (stats_level ss d) (cases_level cases d)) } in
+          let has : HasStatements program own tables number here code ss p x d = record { stands = record { rest = i.Jump end ∷ rest2; here = h1 }; typed = ok.1; home = home; linked = links.0; holds = omega (arith, holds, le-max_left (stats_level ss d) (cases_level cases d)) } in
           let row = carries_all program own tables number here code ss p x d k after has (moved program own tables number here code after pj end x d k (omega (arith, len2, le)) over c) in
           taken (list_any (is_in z) rs)
           (record { at = p; ways = x; level = d; keeps = k; runs = refl; carries = row })
-          (cases_do cases next end w ok.2 (omega (arith, holds, le-max_right (stats_level ss d) (cases_level cases d))) (record { rest = st.rest; here = h3 }) len2 c)
+          (cases_do cases next end w ok.2 home links.1 (omega (arith, holds, le-max_right (stats_level ss d) (cases_level cases d))) (record { rest = st.rest; here = h3 }) len2 c)
         where
           taken : (b : Bool) → Goes (items_of ss ++ after) (from p k) → Does program here (Leaves after) w (from (arm_place program own cases (p + length (stats_code program own ss p x d) + 1) x d (arm_of z cases)) k) (case_of z cases) → Does program here (Leaves after) w (from (arm_place program own (OfLabels rs ss cases) p x d (if b then 0 else suc (arm_of z cases))) k) (if b then Val (Into (items_of ss)) else case_of z cases)
           taken true on_hit others = on_hit
@@ -179,7 +180,7 @@ module _ (program : Program) (own : Option Procedure) (tables : Tables) (number 
         (e' ∙ keeps_number program own tables number here code d n tail pk k [] room ∙ sym (from_here program own tables number here code ps tail k' [] h3)
         ∙ search_runs n d k' room here_kept place (arms_in cases) t ps (cs ++ rest) (arm_ahead program own cases pa x d) h3
         ∙ ap (λ a. from (place a) k') (found_first n cases has.typed.1))
-        (cases_do n d k' room here_kept x after cases pa end w' has.typed.2 more (record { rest = rest; here = h4 }) z
+        (cases_do n d k' room here_kept x after cases pa end w' has.typed.2 has.home has.linked more (record { rest = rest; here = h4 }) z
         (survives program own tables number here code after end x d k k' (kept_below d d (Num n) k (omega arith)) (subst (λ q. Carries program own tables number here code after q x d k) len c)))))
 
     pub case_does : (there : Pos) (e : Expr) (cases : Cases) → StatementDoes program own tables number here code x d k after (Case there e cases)

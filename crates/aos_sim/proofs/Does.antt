@@ -6,7 +6,7 @@ use Rattle.std.specs.Option.{unwrap_or}
 use Rattle.std.proofs.lemmas.Option.{slice_get-map}
 use Rattle.std.proofs.lemmas.List.{map-append}
 use Rattle.aos_base.specs.declared.number.Width.TheVariants.{W64}
-use Rattle.aos_base.specs.Question.{Tree, Val, Asks, Traps, bind, feed, Reads, Stores, Copies, PutsText, ComparesTexts, Calls, Ends, Makes, Starts, Enters, Leaves, PutsInt, PutsChar, PutsString, PutsNothing, PutsLn, Places, Lengths, Opens, Sizes, Tests, ByName}
+use Rattle.aos_base.specs.Question.{Tree, Val, Asks, Traps, bind, feed, Reads, Stores, Copies, PutsText, ComparesTexts, Calls, Ends, Makes, Starts, Enters, Leaves, Awaits, PutsInt, PutsChar, PutsString, PutsNothing, PutsLn, Places, Lengths, Opens, Sizes, Tests, ByName}
 use Rattle.aos_base.specs.declared.place.Root.TheVariants.{Frame, Module, Object as ObjectRoot}
 use Rattle.aos_base.specs.Rooted.{Made, by_number}
 use Rattle.aos_base.specs.Number.{array_lengths}
@@ -33,7 +33,8 @@ use Rattle.aos_typed.specs.Typing.{Is, IsPlace, OnPlace, IsPlain, IsInteger, IsF
 use Rattle.aos_typed.specs.Source.{module_shape, made_shape, object_place, length_in, known}
 use Rattle.aos_typed.specs.Source as S
 use Rattle.aos_typed.specs.Store.{scalar_in}
-use Rattle.aos_typed.specs.WellTyped.{is_value, is_whole, IsLength, procedure_in, IsParameter, IsLocal}
+use Rattle.aos_typed.specs.Conditions.{Condition, conditions, HasNoCalls}
+use Rattle.aos_typed.specs.WellTyped.{IsOf, is_value, is_whole, IsLength, procedure_in, IsParameter, IsLocal}
 use Rattle.aos_typed.specs.Meaning as source
 use Rattle.aos_typed.specs.Meaning.{Here, Doing}
 use Rattle.aos_code.specs.declared.instr.Cell.{Cell}
@@ -217,6 +218,7 @@ module _ (program : Program) where
   placed w (Starts v) = Starts (cell_of w v)
   placed w Enters = Enters
   placed w Leaves = Leaves
+  placed w (Awaits c) = Awaits c
   placed w (PutsInt v n) = PutsInt (cell_of w v) (cell_of w n)
   placed w (PutsChar v) = PutsChar (cell_of w v)
   placed w (PutsString p n) = PutsString (addr_of w p) (cell_of w n)
@@ -294,8 +296,8 @@ module _ (program : Program) where
   module _ (here : Here) where
     -- a question is at places that there are, and its values are of the sorts that it takes: what is read is a scalar, whose cell
     -- is of the kind that its code takes, what is copied is a record or an array, a text is so many characters, of which one that is
-    -- put somewhere has room for a 0X, what is called gets what its parameters take, and what a parameter stands for is asked of the
-    -- frame itself; no program asks for an end, which follows its statements, nor for a region
+    -- put somewhere has room for a 0X, what is called gets what its parameters take, a condition is one over the frame, and what a
+    -- parameter stands for is asked of the frame itself; no program asks for an end, which follows its statements, nor for a region
     abbrev pub Valid : World Sort → source.Question → Type 0
     Valid w (Reads t p) = (is_value program.types t ≡ true) × HasScalar w p (Plain (id_of t))
     Valid w (Stores p v) = (k : Sort) × IsPlain k × HasScalar w p k × Is program w k v
@@ -306,6 +308,9 @@ module _ (program : Program) where
     Valid w (Starts v) = IsMade v
     Valid w Enters = ⊥
     Valid w Leaves = ⊥
+    Valid w (Awaits c) =
+        (d : Condition) × (slice_get (conditions program) c ≡ Some d) × IsOf program d.own d.expression type.Boolean × HasNoCalls d.expression
+        × Knows program d.own here w
     Valid w (PutsInt v n) = IsInteger W64 v × IsInteger W64 n
     Valid w (PutsChar v) = IsCharacter v
     Valid w PutsNothing = Unit {0}
@@ -474,6 +479,7 @@ module _ (program : Program) (here : Here) where
     placed_same (Starts v) h = ap Starts (made_cell v h)
     placed_same Enters h = absurd h
     placed_same Leaves h = absurd h
+    placed_same (Awaits c) h = refl
     placed_same (PutsInt v n) h = λ i. PutsInt (integer_cell v h.0 i) (integer_cell n h.1 i)
     placed_same (PutsChar v) h = ap PutsChar (value_cell type.Char v (character_is v h))
     placed_same PutsNothing h = refl
@@ -501,6 +507,7 @@ module _ (program : Program) (here : Here) where
     valid_grows (Starts v) h = h
     valid_grows Enters h = absurd h
     valid_grows Leaves h = absurd h
+    valid_grows (Awaits c) h = (h.0, h.1, h.2, h.3, knows_grows program h.0.own here w w' g h.4)
     valid_grows (PutsInt v n) h = h
     valid_grows (PutsChar v) h = h
     valid_grows PutsNothing h = tt
@@ -708,6 +715,7 @@ module _ (program : Program) (here : Here) where
       calm_does m (Asks (Starts v) f) d = visible_does R m (Starts v) f refl d
       calm_does m (Asks Enters f) d = visible_does R m Enters f refl d
       calm_does m (Asks Leaves f) d = visible_does R m Leaves f refl d
+      calm_does m (Asks (Awaits n) f) d = visible_does R m (Awaits n) f refl d
       calm_does m (Asks (PutsInt v n) f) d = visible_does R m (PutsInt v n) f refl d
       calm_does m (Asks (PutsChar v) f) d = visible_does R m (PutsChar v) f refl d
       calm_does m (Asks (PutsString p n) f) d = visible_does R m (PutsString p n) f refl d
@@ -756,6 +764,7 @@ module _ (program : Program) (here : Here) where
           heard_on m (Asks (Starts v) f) d = refl
           heard_on m (Asks Enters f) d = refl
           heard_on m (Asks Leaves f) d = refl
+          heard_on m (Asks (Awaits n) f) d = refl
           heard_on m (Asks (PutsInt v n) f) d = refl
           heard_on m (Asks (PutsChar v) f) d = refl
           heard_on m (Asks (PutsString p n) f) d = refl
@@ -821,6 +830,7 @@ module _ {A : Type 0} (rows : List TypeRow) (made : ℕ → Option Made) (c : Co
   calm_again (Asks (Starts v) f) = refl
   calm_again (Asks Enters f) = refl
   calm_again (Asks Leaves f) = refl
+  calm_again (Asks (Awaits n) f) = refl
   calm_again (Asks (PutsInt v n) f) = refl
   calm_again (Asks (PutsChar v) f) = refl
   calm_again (Asks (PutsString p n) f) = refl
@@ -846,6 +856,7 @@ module _ {A : Type 0} (rows : List TypeRow) (made : ℕ → Option Made) (c : Co
   feed_noted (Asks (Starts v) f) = refl
   feed_noted (Asks Enters f) = refl
   feed_noted (Asks Leaves f) = refl
+  feed_noted (Asks (Awaits n) f) = refl
   feed_noted (Asks (PutsInt v n) f) = refl
   feed_noted (Asks (PutsChar v) f) = refl
   feed_noted (Asks (PutsString p n) f) = refl
@@ -871,6 +882,7 @@ module _ {A : Type 0} (rows : List TypeRow) (made : ℕ → Option Made) (c : Co
   calm_seen (Asks (Starts v) f) = tt
   calm_seen (Asks Enters f) = tt
   calm_seen (Asks Leaves f) = tt
+  calm_seen (Asks (Awaits n) f) = tt
   calm_seen (Asks (PutsInt v n) f) = tt
   calm_seen (Asks (PutsChar v) f) = tt
   calm_seen (Asks (PutsString p n) f) = tt
@@ -894,6 +906,7 @@ module _ {A : Type 0} (rows : List TypeRow) (made : ℕ → Option Made) (c : Co
   calm_visible_same (Starts v) f h = refl
   calm_visible_same Enters f h = refl
   calm_visible_same Leaves f h = refl
+  calm_visible_same (Awaits c) f h = refl
   calm_visible_same (PutsInt v n) f h = refl
   calm_visible_same (PutsChar v) f h = refl
   calm_visible_same (PutsString p n) f h = refl
@@ -927,6 +940,7 @@ module _ {A : Type 0} (rows : List TypeRow) (made : ℕ → Option Made) (c : Co
     calm_bind (Asks (Starts v) f) = refl
     calm_bind (Asks Enters f) = refl
     calm_bind (Asks Leaves f) = refl
+    calm_bind (Asks (Awaits n) f) = refl
     calm_bind (Asks (PutsInt v n) f) = refl
     calm_bind (Asks (PutsChar v) f) = refl
     calm_bind (Asks (PutsString p n) f) = refl
@@ -952,6 +966,7 @@ module _ {A : Type 0} (rows : List TypeRow) (made : ℕ → Option Made) (c : Co
     feed_noted_bind (Asks (Starts v) f) = refl
     feed_noted_bind (Asks Enters f) = refl
     feed_noted_bind (Asks Leaves f) = refl
+    feed_noted_bind (Asks (Awaits n) f) = refl
     feed_noted_bind (Asks (PutsInt v n) f) = refl
     feed_noted_bind (Asks (PutsChar v) f) = refl
     feed_noted_bind (Asks (PutsString p n) f) = refl

@@ -1,10 +1,11 @@
 -- A turn of the source makes objects, and those that there are stay as they were made.
+use Rattle.aos_base.specs.declared.kernel.LockName.{LockName}
 use Rattle.std.proofs.Common.{◌≡◌, ℕ, zero, suc, List, [], ◌∷◌, ◌++◌, map, Bool, true, false, Option, Some, None, if◌then◌else◌, refl, sym, append-nil}
 use Rattle.std.specs.Prelude.{unsigned_abs}
 use Rattle.aos_base.specs.declared.place.Root.{Root}
 use Rattle.aos_base.specs.declared.place.Root.TheVariants.{Frame as FrameRoot, Module as ModuleRoot, Object as ObjectRoot}
 use Rattle.aos_base.specs.Rooted.{Made, by_number}
-use Rattle.aos_base.specs.Question.{Val, Asks, Traps, feed, Reads, Stores, Copies, PutsText, ComparesTexts, Calls, Ends, Makes, Starts, Enters, Leaves, PutsInt, PutsChar, PutsString, PutsLn, PutsNothing, Places, Lengths, Opens, Sizes, Tests}
+use Rattle.aos_base.specs.Question.{Val, Asks, Traps, feed, Reads, Stores, Copies, PutsText, ComparesTexts, Calls, Ends, Makes, Starts, Enters, Leaves, Awaits, PutsInt, PutsChar, PutsString, PutsLn, PutsNothing, Places, Lengths, Opens, Sizes, Tests}
 use Rattle.aos_types.specs.Shape.{Shape}
 use Rattle.aos_base.specs.Number.{array_lengths}
 use Rattle.aos_types.specs.Content.{Content, Scalar, placed, overlay, first_content}
@@ -18,7 +19,7 @@ use Rattle.aos_typed.specs.Text.{text_in, with_text, fitted}
 use Rattle.aos_typed.specs.Value.{Value, Int, Flag, Char, Set, Object, Callable, Place, number_of, is_true}
 use Rattle.aos_typed.specs.Store.{Store, store_with, has_room, made_in}
 use Rattle.aos_typed.specs.Meaning.{Question, Doing, Item, Do, Rounds, Round, Until, Region, End, Gives, After, Into, Returns, Exits, leave, leave_all, item_of, value_of}
-use Rattle.aos_typed.specs.Source.{here_of, Frame, Turned, answered, done, all_rooted, begins, ends, tests, finishes, settles, first_value, made_shape, written, prints, makes, makes_with, starts, copies, stores_text, calm, noted, is_deep, enters, called_frame, calls, answer, goes, item_turn, turn_at}
+use Rattle.aos_typed.specs.Source.{here_of, Frame, Turned, answered, done, all_rooted, begins, ends, tests, finishes, settles, first_value, made_shape, written, prints, makes, makes_with, starts, copies, stores_text, calm, noted, is_deep, enters, called_frame, calls, answer, goes, item_turn, turn_at, awaits, locks_in, lock_of}
 
 -- more objects than before
 abbrev pub Grown : List Made → List Made → Type 0
@@ -55,6 +56,10 @@ module _ (following : List ℕ) where
   starts_grown (Callable p o) f fs s = none s.made
   starts_grown (Place p) f fs s = none s.made
 
+  awaits_grown : (locks : List LockName) (c : ℕ) (f : Frame) (fs : List Frame) (s : Store) → Grown s.made (awaits following locks c f fs s).store.made
+  awaits_grown [] c f fs s = none s.made
+  awaits_grown (l ∷ locks) c f fs s = none s.made
+
   copies_grown : (c : Shape Sort) (from to : Option (Content Value)) (p : Spot) (fs : List Frame) (s : Store) → Grown s.made (copies following c from to p fs s).store.made
   copies_grown c (Some new) (Some old) p fs s = writes_grown p.root (placed p.path (overlay c new old)) s
   copies_grown c (Some new) None p fs s = none s.made
@@ -88,6 +93,7 @@ module _ (program : Program) (following : List ℕ) where
   answer_grown (Starts v) f fs s = starts_grown following v f fs s
   answer_grown Enters f fs s = none s.made
   answer_grown Leaves f fs s = none s.made
+  answer_grown (Awaits c) f fs s = awaits_grown following (locks_in (lock_of f) f.items) c f fs s
   answer_grown (PutsInt v n) f fs s = prints_grown following (written v n) f fs s
   answer_grown (Reads t p) f fs s = none s.made
   answer_grown (PutsChar v) f fs s = none s.made

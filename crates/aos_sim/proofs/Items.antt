@@ -1,7 +1,7 @@
 -- The code of each statement does what the statement does, and the code that carries out items comes to their beginnings.
 use Rattle.std.proofs.Common.{◌≡◌, ℕ, ◌+◌, true, Option, List, [], ◌∷◌, ◌++◌, length, drop, refl, sym, ap, ◌∙◌, subst, arith, append_assoc, length-append}
 use Rattle.aos_types.specs.World.{World}
-use Rattle.aos_typed.specs.Program.{Stat, Assign, Copy, PutText, If, Case, While, Repeat, Loop, Exit, For, Block, Assert, Halt, Change, Perform, Return, New, Make, With, WithRecord, Out, Procedure, Program}
+use Rattle.aos_typed.specs.Program.{Stat, Assign, Copy, PutText, If, Case, While, Repeat, Loop, Exit, For, Block, Await, Assert, Halt, Change, Perform, Return, New, Make, With, WithRecord, Out, Procedure, Program}
 use Rattle.aos_typed.specs.Sort.{Sort}
 use Rattle.aos_typed.specs.Meaning.{Here, Item, Do, Rounds, Round, Until, Region, End, Gives, item_of, pos_of}
 use Rattle.aos_code.specs.declared.instr.Instr.{Instr}
@@ -11,7 +11,7 @@ use Rattle.aos_sim.specs.Code.{Ways, NoRegion, block_ways, stat_code, stats_code
 use Rattle.aos_sim.proofs.Runs.{Run, Tables, runs, run, drop_next, drop_past}
 use Rattle.aos_sim.proofs.Does.{HasTypes, HasShapes, along, Knows}
 use Rattle.aos_sim.proofs.Carries.{Stands, IsOwn, HasStatement, HasStatements, Carries, bound, none_within, marks_behind, carries_all, Behind, StatementDoes, BeginsAt, AtNext, ItemsDo}
-use Rattle.aos_sim.proofs.Stats.{ends, begins_with, assign_does, copy_does, put_text_does, out_does, exit_does, block_does, assert_does, halt_does, perform_does, return_does}
+use Rattle.aos_sim.proofs.Stats.{ends, begins_with, assign_does, copy_does, put_text_does, out_does, exit_does, block_does, await_does, assert_does, halt_does, perform_does, return_does}
 use Rattle.aos_sim.proofs.News.{new_does}
 use Rattle.aos_sim.proofs.Making.{make_does, with_does, with_record_does}
 use Rattle.aos_sim.proofs.Loops.{if_does, while_does, repeat_does, loop_does, until_does}
@@ -32,6 +32,7 @@ module _ (program : Program) (own : Option Procedure) (tables : Tables) (number 
   statement_does (Exit there) x d k after = exit_does program own tables number here code x d k after there
   statement_does (For there w p first last step b) x d k after = for_does program own tables number here code typed shaped x d k after there w p first last step b
   statement_does (Block there exclusive b) x d k after = block_does program own tables number here code x d k after there exclusive b
+  statement_does (Await there n e) x d k after = await_does program own tables number here code x d k after there n e
   statement_does (Assert there e n) x d k after = assert_does program own tables number here code x d k after typed shaped there e n
   statement_does (Halt there n) x d k after = halt_does program own tables number here code x d k after there n
   statement_does (Change there c p e) x d k after = changed_does program own tables number here code x d k after typed shaped there c p e
@@ -72,7 +73,7 @@ module _ (program : Program) (own : Option Procedure) (tables : Tables) (number 
         let h0 : drop p code ≡ i.Enter ∷ (cs ++ behind) = c.3.stands.here ∙ ap (λ l. i.Enter ∷ l) (append_assoc cs (i.Leave ∷ []) rest) in
         let h1 : drop (p + 1) code ≡ cs ++ behind = drop_next p code i.Enter (cs ++ behind) h0 in
         let q = p + 1 + length cs in
-        let has : HasStatements program own tables number here code ss (p + 1) (block_ways true x) d = record { stands = record { rest = behind; here = h1 }; typed = c.3.typed; holds = c.3.holds } in
+        let has : HasStatements program own tables number here code ss (p + 1) (block_ways true x) d = record { stands = record { rest = behind; here = h1 }; typed = c.3.typed; home = c.3.home; linked = c.3.linked; holds = c.3.holds } in
         let last : Stands code q (i.Leave ∷ []) = record { rest = rest; here = drop_past cs (p + 1) code behind h1 } in
         let len : p + length (i.Enter ∷ (cs ++ i.Leave ∷ [])) ≡ q + 1 = omega (arith, length-append cs (i.Leave ∷ [])) in
         let c' : Carries program own tables number here code is (q + 1) x d k = subst (λ n. Carries program own tables number here code is n x d k) len c.4 in

@@ -10,6 +10,7 @@ use Rattle.aos_typed.specs.Program.{Expr, If, While, Repeat, Loop, Stats, Arms, 
 use Rattle.aos_typed.specs.Sort.{Sort}
 use Rattle.aos_typed.specs.Value.{Value, Flag, is_true}
 use Rattle.aos_typed.specs.Meaning.{Here, Doing, Item, Do, Round, Until, After, Into, items_of, value_of, arms_of, item_of}
+use Rattle.aos_typed.specs.Conditions.{conditions, AreArmsLinked}
 use Rattle.aos_typed.specs.WellTyped.{IsOf, AreArms}
 use Rattle.aos_code.specs.declared.instr.Cell.TheVariants.{Num}
 use Rattle.aos_code.specs.declared.instr.Instr.{Instr}
@@ -80,11 +81,11 @@ module _ (program : Program) (own : Option Procedure) (tables : Tables) (number 
       Carried is p = Carries program own tables number here code is p x d k
 
       -- the arms of IF, from the first test on: each leads on to the same end
-      arms_do : (arms : Arms) (p end : ℕ) (w : World Sort) → Knows program own here w → AreArms program own arms → Holds program own tables number here code (arms_level arms d) → Stands code p (arms_code program own arms p end x d) → end ≡ p + length (arms_code program own arms p end x d) → Carried after end → Does program here (Leaves after) w (from p k []) (arms_of program here arms)
-      arms_do (Otherwise ss) p end w known ok holds st z c =
-          let has : HasStatements program own tables number here code ss p x d = record { stands = st; typed = ok; holds = holds } in
+      arms_do : (arms : Arms) (p end : ℕ) (w : World Sort) → Knows program own here w → AreArms program own arms → (home : ℕ) → AreArmsLinked (conditions program) home own arms → Holds program own tables number here code (arms_level arms d) → Stands code p (arms_code program own arms p end x d) → end ≡ p + length (arms_code program own arms p end x d) → Carried after end → Does program here (Leaves after) w (from p k []) (arms_of program here arms)
+      arms_do (Otherwise ss) p end w known ok home links holds st z c =
+          let has : HasStatements program own tables number here code ss p x d = record { stands = st; typed = ok; home = home; linked = links; holds = holds } in
           record { at = p; ways = x; level = d; keeps = k; runs = refl; carries = carries_all program own tables number here code ss p x d k after has (subst (Carried after) z c) }
-      arms_do (Arm e ss arms) p end w known ok holds st z c =
+      arms_do (Arm e ss arms) p end w known ok home links holds st z c =
           let c1 = value_code program own e p in
           let q = p + length c1 in
           let hit = q + 1 in
@@ -103,13 +104,13 @@ module _ (program : Program) (own : Option Procedure) (tables : Tables) (number 
           let z2 : end ≡ next + length more = omega (arith, z, length-append c1 tail, length-append b (i.Jump end ∷ more)) in
           let le : end ≤ x.exit = bound program own tables number here code after end x d k c in
           let over : Same program own tables number here code pj end = λ k' s. from_here program own tables number here code pj (i.Jump end ∷ rest2) k' s h2 ∙ jumps_on program own tables number here code rest2 end pj k' s (omega (arith, z2)) h3 in
-          let has : HasStatements program own tables number here code ss hit x d = record { stands = record { rest = i.Jump end ∷ rest2; here = h1 }; typed = ok.1; holds = omega (arith, holds, le-max_left (stats_level ss d) (arms_level arms d)) } in
+          let has : HasStatements program own tables number here code ss hit x d = record { stands = record { rest = i.Jump end ∷ rest2; here = h1 }; typed = ok.1; home = home; linked = links.0; holds = omega (arith, holds, le-max_left (stats_level ss d) (arms_level arms d)) } in
           let row = carries_all program own tables number here code ss hit x d k after has (moved program own tables number here code after pj end x d k (omega (arith, z2, le)) over c) in
           let taken : Goes (items_of ss ++ after) (from hit k []) = record { at = hit; ways = x; level = d; keeps = k; runs = refl; carries = row } in
           test_does e (λ v. if is_true v then Val (Into (items_of ss)) else arms_of program here arms) after p next rest1 k w known ok.0 h0
           (jumps_on program own tables number here code rest1 next q k [] (omega arith) h1)
           (λ w' up. taken)
-          (λ w' up. arms_do arms next end w' (knows_grows program own here w w' up known) ok.2 (omega (arith, holds, le-max_right (stats_level ss d) (arms_level arms d))) (record { rest = st.rest; here = h3 }) z2 c)
+          (λ w' up. arms_do arms next end w' (knows_grows program own here w w' up known) ok.2 home links.1 (omega (arith, holds, le-max_right (stats_level ss d) (arms_level arms d))) (record { rest = st.rest; here = h3 }) z2 c)
 
       pub if_does : (there : Pos) (arms : Arms) → StatementDoes program own tables number here code x d k after (If there arms)
       if_does there arms w at known has c =
@@ -118,7 +119,7 @@ module _ (program : Program) (own : Option Procedure) (tables : Tables) (number 
           let rest = has.stands.rest in
           let z : end ≡ at + 1 + length cs = ap (λ n. at + 1 + n) (arms_length program own arms (at + 1) 0 end x.within x.exit x.exit d) in
           let len : at + suc (length cs) ≡ end = omega (arith, z) in
-          arms_do arms (at + 1) end w known has.typed has.holds (record { rest = rest; here = drop_next at code (begin there) (cs ++ rest) has.stands.here }) z (subst (Carried after) len c)
+          arms_do arms (at + 1) end w known has.typed has.home has.linked has.holds (record { rest = rest; here = drop_next at code (begin there) (cs ++ rest) has.stands.here }) z (subst (Carried after) len c)
 
       pub while_does : (there : Pos) (e : Expr) (b : Stats) → StatementDoes program own tables number here code x d k after (While there e b)
       while_does there e b w at known has c =
@@ -142,7 +143,7 @@ module _ (program : Program) (own : Option Procedure) (tables : Tables) (number 
           let c' : Carried after end = subst (Carried after) len c in
           let le : end ≤ x.exit = bound program own tables number here code after end x d k c' in
           let again : Carried (Do l ∷ after) pj = (at, omega (arith, le), back, has, c) in
-          let inner : HasStatements program own tables number here code b pb x d = record { stands = record { rest = i.Jump at ∷ rest; here = h3 }; typed = has.typed.1; holds = has.holds } in
+          let inner : HasStatements program own tables number here code b pb x d = record { stands = record { rest = i.Jump at ∷ rest; here = h3 }; typed = has.typed.1; home = has.home; linked = has.linked; holds = has.holds } in
           let body : Carried ((items_of b ++ Do l ∷ []) ++ after) pb = subst (λ is. Carried is pb) (sym (append_assoc (items_of b) (Do l ∷ []) after)) (carries_all program own tables number here code b pb x d k (Do l ∷ after) inner again) in
           test_does e (λ v. Val (Into (if is_true v then items_of b ++ Do l ∷ [] else []))) after (at + 1) end rest1 k w known has.typed.0 h1
           (jumps_on program own tables number here code rest1 end p k [] (omega arith) h3)
@@ -164,7 +165,7 @@ module _ (program : Program) (own : Option Procedure) (tables : Tables) (number 
           let h2 : drop pj code ≡ i.Jump at ∷ rest = drop_past b1 (at + 1) code (i.Jump at ∷ rest) h1 in
           let len : out ≡ at + suc (length (b1 ++ i.Jump at ∷ [])) = omega (arith, size, length-append b1 (i.Jump at ∷ [])) in
           let back : Same program own tables number here code pj at = λ k' s. from_here program own tables number here code pj (i.Jump at ∷ rest) k' s h2 ∙ jumps_back program own tables number here code at pj there rest (b1 ++ (i.Jump at ∷ rest)) k' s (omega arith) h0 in
-          let inner : HasStatements program own tables number here code b (at + 1) y d = record { stands = record { rest = i.Jump at ∷ rest; here = h1 }; typed = has.typed; holds = has.holds } in
+          let inner : HasStatements program own tables number here code b (at + 1) y d = record { stands = record { rest = i.Jump at ∷ rest; here = h1 }; typed = has.typed; home = has.home; linked = has.linked; holds = has.holds } in
           let again : Carries program own tables number here code (Round l ∷ after) pj y d k = (at, omega (arith, size), back, (x, has, ap (λ n. loop_ways n x) len, subst (Carried after) (sym len) c)) in
           let all = carries_all program own tables number here code b (at + 1) y d k (Round l ∷ after) inner again in
           record { at = at + 1; ways = y; level = d; keeps = k; runs = refl; carries = subst (λ is. Carries program own tables number here code is (at + 1) y d k) (sym (append_assoc (items_of b) (Round l ∷ []) after)) all }
@@ -198,7 +199,7 @@ module _ (program : Program) (own : Option Procedure) (tables : Tables) (number 
           let tail = value_code program own e (at + 1 + length b1) ++ i.JumpFalse at ∷ [] in
           let h1 : drop (at + 1) code ≡ b1 ++ (tail ++ rest) = drop_next at code (begin there) ((b1 ++ tail) ++ rest) has.stands.here ∙ append_assoc b1 tail rest in
           let le : at + suc (length (b1 ++ tail)) ≤ x.exit = bound program own tables number here code after (at + suc (length (b1 ++ tail))) x d k c in
-          let inner : HasStatements program own tables number here code b (at + 1) x d = record { stands = record { rest = tail ++ rest; here = h1 }; typed = has.typed.0; holds = has.holds } in
+          let inner : HasStatements program own tables number here code b (at + 1) x d = record { stands = record { rest = tail ++ rest; here = h1 }; typed = has.typed.0; home = has.home; linked = has.linked; holds = has.holds } in
           let behind : Carried (Until there b e ∷ after) (at + 1 + length b1) = (at, omega (arith, le, length-append b1 tail), (λ k' s. refl), has, c) in
           let all = carries_all program own tables number here code b (at + 1) x d k (Until there b e ∷ after) inner behind in
           record { at = at + 1; ways = x; level = d; keeps = k; runs = refl; carries = subst (λ is. Carried is (at + 1)) (sym (append_assoc (items_of b) (Until there b e ∷ []) after)) all }

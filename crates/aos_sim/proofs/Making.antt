@@ -29,6 +29,7 @@ use Rattle.aos_typed.specs.Spot.{Spot}
 use Rattle.aos_typed.specs.Typing.{Extends, HasLengths}
 use Rattle.aos_typed.specs.Value.{Value, number_of}
 use Rattle.aos_typed.specs.Meaning.{Here, Doing, Item, After, Into, items_of, place_of, value_of, values_of}
+use Rattle.aos_typed.specs.Conditions.{conditions, AreLinked}
 use Rattle.aos_typed.specs.WellTyped.{is_value, AreStatements, target_in, target, is_any, IsLength, NamesType, AreLengthsOf}
 use Rattle.aos_code.specs.declared.instr.Cell.{Cell}
 use Rattle.aos_code.specs.declared.instr.Cell.TheVariants.{Num}
@@ -299,15 +300,15 @@ module _ (program : Program) (own : Option Procedure) (tables : Tables) (number 
               ) there_after cont
 
       -- WITH: what is guarded is dropped
-      guarded_does : {A : Type 0} (P : World Sort → A → Type 0) (c : World Sort → A → Cell) (there : Pos) (xs : List Instr) (r : Doing A) (b : Stats) (w : World Sort) (at : ℕ) → Knows program own here w → ComesTo program own tables number here code P c xs r (at + 1) → (st : List Instr) → drop at code ≡ begin there ∷ ((xs ++ i.Drop ∷ stats_code program own b (at + 1 + length xs + 1) x d) ++ st) → AreStatements program own b → Holds program own tables number here code (stats_level b d) → Carried (at + suc (length (xs ++ i.Drop ∷ stats_code program own b (at + 1 + length xs + 1) x d))) → Does program here (Leaves after) w (from (at + 1) k []) (bind r (λ _. Val (Into (items_of b))))
-      guarded_does P c there xs r b w at known ha st here_is ok holds cont =
+      guarded_does : {A : Type 0} (P : World Sort → A → Type 0) (c : World Sort → A → Cell) (there : Pos) (xs : List Instr) (r : Doing A) (b : Stats) (w : World Sort) (at : ℕ) → Knows program own here w → ComesTo program own tables number here code P c xs r (at + 1) → (st : List Instr) → drop at code ≡ begin there ∷ ((xs ++ i.Drop ∷ stats_code program own b (at + 1 + length xs + 1) x d) ++ st) → AreStatements program own b → (home : ℕ) → AreLinked (conditions program) home own b → Holds program own tables number here code (stats_level b d) → Carried (at + suc (length (xs ++ i.Drop ∷ stats_code program own b (at + 1 + length xs + 1) x d))) → Does program here (Leaves after) w (from (at + 1) k []) (bind r (λ _. Val (Into (items_of b))))
+      guarded_does P c there xs r b w at known ha st here_is ok home links holds cont =
           let p = at + 1 + length xs in
           let cs = stats_code program own b (p + 1) x d in
           let tail = i.Drop ∷ cs in
           let h1 : drop (at + 1) code ≡ (xs ++ tail) ++ st = drop_next at code (begin there) ((xs ++ tail) ++ st) here_is in
           let h2 : drop p code ≡ i.Drop ∷ (cs ++ st) = drop_past xs (at + 1) code (tail ++ st) (h1 ∙ append_assoc xs tail st) in
           let h3 : drop (p + 1) code ≡ cs ++ st = drop_next p code i.Drop (cs ++ st) h2 in
-          let inner : HasStatements program own tables number here code b (p + 1) x d = record { stands = record { rest = st; here = h3 }; typed = ok; holds = holds } in
+          let inner : HasStatements program own tables number here code b (p + 1) x d = record { stands = record { rest = st; here = h3 }; typed = ok; home = home; linked = links; holds = holds } in
           let len : at + suc (length (xs ++ tail)) ≡ p + 1 + length cs = omega (arith, length-append xs tail) in
           let all = carries_all program own tables number here code b (p + 1) x d k after inner (subst Carried len cont) in
           along program here (Leaves after) w _ _ (bind r (λ _. Val (Into (items_of b)))) (from_here program own tables number here code (at + 1) ((xs ++ tail) ++ st) k [] h1)
@@ -318,10 +319,10 @@ module _ (program : Program) (own : Option Procedure) (tables : Tables) (number 
       with_does there e b w at known has c =
           let u = has.typed.0.0 in
           guarded_does (OfSort program own tables number here code u) cell_of there (value_code program own e (at + 1)) (value_of program here e) b w at known
-          (yields_do program own tables number here code typed shaped e u has.typed.0.1 (at + 1)) has.stands.rest has.stands.here has.typed.1 has.holds c
+          (yields_do program own tables number here code typed shaped e u has.typed.0.1 (at + 1)) has.stands.rest has.stands.here has.typed.1 has.home has.linked has.holds c
 
       pub with_record_does : (there : Pos) (p : Place) (b : Stats) → StatementDoes program own tables number here code x d k after (WithRecord there p b)
       with_record_does there p b w at known has c =
           let u = has.typed.0.0 in
           guarded_does (IsFound program (NamesType program own p u) u) place_in there (place_code program own p (at + 1)) (place_of program here p) b w at known
-          (place_does program own tables number here code typed shaped p u has.typed.0.1 (at + 1)) has.stands.rest has.stands.here has.typed.1 has.holds c
+          (place_does program own tables number here code typed shaped p u has.typed.0.1 (at + 1)) has.stands.rest has.stands.here has.typed.1 has.home has.linked has.holds c

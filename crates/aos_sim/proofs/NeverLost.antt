@@ -1,6 +1,6 @@
 -- No meaning of a program has trap 16, so no execution of an image that shows the program has one.
 use Rattle.std.proofs.Common.{◌≡◌, ℕ, zero, suc, ◌<◌, List, [], ◌∷◌, ◌++◌, Bool, true, false, refl, sym, subst, arith}
-use Rattle.std.specs.Prelude.{map, All, ℤ, pos, ◌+ℤ◌, ◌-ℤ◌, ◌*ℤ◌, neg_ℤ, unsigned_abs, int_lt, ◌&&◌, int_le, if◌then◌else◌, Option, Some, None}
+use Rattle.std.specs.Prelude.{map, All, ℤ, pos, ◌+ℤ◌, ◌-ℤ◌, ◌*ℤ◌, neg_ℤ, unsigned_abs, int_lt, ◌&&◌, int_le, if◌then◌else◌, Option, Some, None, slice_get}
 use Rattle.std.specs.Option.{option_zip}
 use Rattle.std.specs.List.{list_any}
 use Rattle.std.specs.Int.{int_div_euclid, int_rem_euclid}
@@ -14,14 +14,14 @@ use Rattle.aos_base.specs.declared.operator.Given.TheVariants.{Number, Trap, Und
 use Rattle.aos_base.specs.Operators.{or_trap, or_undefined, set_of, on_sets, natural, unary as unary_of, binary as binary_of}
 use Rattle.aos_base.specs.Machine.{Choice, execution}
 use Rattle.aos_base.specs.Observation.{Observation, observation}
-use Rattle.aos_base.specs.Rooted.{Made, by_number}
-use Rattle.aos_base.specs.Question.{Val, Asks, Traps, bind, ask, feed, Reads, Stores, Copies, PutsText, ComparesTexts, Calls, Ends, Makes, Starts, Enters as EntersRegion, Leaves as LeavesRegion, PutsInt, PutsChar, PutsString, PutsLn, PutsNothing, Places, Lengths, Opens, Sizes, Tests}
+use Rattle.aos_base.specs.Rooted.{Made, by_number, Rooted}
+use Rattle.aos_base.specs.Question.{Val, Asks, Traps, bind, ask, feed, Reads, Stores, Copies, PutsText, ComparesTexts, Calls, Ends, Makes, Starts, Enters as EntersRegion, Leaves as LeavesRegion, Awaits, PutsInt, PutsChar, PutsString, PutsLn, PutsNothing, Places, Lengths, Opens, Sizes, Tests}
 use Rattle.aos_types.specs.declared.row.TypeRow.{TypeRow}
 use Rattle.aos_types.specs.Shape.{Shape}
 use Rattle.aos_types.specs.Content.{Content, first_content}
 use Rattle.aos_types.specs.World.{read}
 use Rattle.aos_code.specs.declared.image.Image.{Image}
-use Rattle.aos_typed.specs.Program.{Place, ModuleVar, Local, Passed, Field, Index, Of, Deref, Typed, Guarded, Rows, Known as KnownRows, Opened, Row, Spread, Longer, Arguments, NoMore, Scalar, Whole, Opening, Callee, Plain, Dispatched, Upper, Expr, Lit, SelfRef, Read, Unary, Binary, And, Or, Element, Ord, Chr, CompareTexts, Len, LenBehind, Function, Same, Is, IsRecord, Guard, Had, Call, Open as OutOpen, Char as OutChar, Int as OutInt, String as OutString, Ln as OutLn, Stat, Assign, Copy, PutText, If, Case, While, Repeat, Loop, Exit, For, Block, Assert, Halt, Change, Perform, Return, New, Make, With, WithRecord, Out, Arms, Otherwise, Arm, Cases, NoElse, Else, OfLabels, Program, Through, ProcedureOf, MethodOf, SameProcedure}
+use Rattle.aos_typed.specs.Program.{Place, ModuleVar, Local, Passed, Field, Index, Of, Deref, Typed, Guarded, Rows, Known as KnownRows, Opened, Row, Spread, Longer, Arguments, NoMore, Scalar, Whole, Opening, Callee, Plain, Dispatched, Upper, Expr, Lit, SelfRef, Read, Unary, Binary, And, Or, Element, Ord, Chr, CompareTexts, Len, LenBehind, Function, Same, Is, IsRecord, Guard, Had, Call, Open as OutOpen, Char as OutChar, Int as OutInt, String as OutString, Ln as OutLn, Stat, Assign, Copy, PutText, If, Case, While, Repeat, Loop, Exit, For, Block, Await, Assert, Halt, Change, Perform, Return, New, Make, With, WithRecord, Out, Arms, Otherwise, Arm, Cases, NoElse, Else, OfLabels, Program, Through, ProcedureOf, MethodOf, SameProcedure}
 use Rattle.aos_typed.specs.declared.tree.Change.{Change as Changing}
 use Rattle.aos_typed.specs.declared.tree.Change.TheVariants as change
 use Rattle.aos_typed.specs.declared.tree.TType.TheVariants as type
@@ -34,9 +34,12 @@ use Rattle.aos_typed.specs.Value.{Value, Int, Flag, Char, Set, Object, Callable,
 use Rattle.aos_typed.specs.Store.{Store, has_room, made_in}
 use Rattle.aos_typed.specs.Routines.{Routine, routines}
 use Rattle.aos_typed.specs.Meaning.{Here, Question, Doing, object_in, by_number as by_object, dereferenced, sizes_from, spread, is_instance, guarded, has_type, record_guarded, place_in, dispatched, calls as calls_of, receiver_of, called, Item, Do, Rounds, Round, Until, Region, End, Gives as GivesItem, After, Into, Exits, Returns, leave, leave_all, is_in, element_of, Found, row_at, lengths_from, place_of, rows_of, arguments_of, value_of, values_of, changed, arms_of, case_of, out_of, stat_of, item_of, bound, bound_to, carried_out, initialized, procedure_in}
-use Rattle.aos_typed.specs.Source.{here_of, Frame, Turned, answered, done, all_rooted, begins, ends, finishes, tests, settles, first_value, made_shape, written, prints, makes, makes_with, starts, copies, stores_text, is_deep, enters, called_frame, calls, known, length_in, object_place, has_type_in, calm, noted, answer, goes, item_turn, turn_at, opened, source, first_state, first_store, first_frames}
+use Rattle.aos_typed.specs.Source.{here_of, Frame, Turned, answered, done, all_rooted, begins, ends, finishes, tests, settles, first_value, made_shape, written, prints, makes, makes_with, starts, copies, stores_text, is_deep, enters, called_frame, calls, known, length_in, object_place, has_type_in, calm, noted, answer, goes, item_turn, turn_at, opened, source, first_state, first_store, first_frames, awaits, locks_in, lock_of, judged, verdict_over}
+use Rattle.aos_base.specs.declared.kernel.Verdict.TheVariants.{Holds, Fails}
+use Rattle.aos_base.specs.declared.kernel.LockName.{LockName}
+use Rattle.aos_typed.specs.Conditions.{Condition, conditions}
 use Rattle.aos_sim.specs.Shows.{Shows, NeverLost}
-use Rattle.aos_sim.proofs.Traps.{Leaves, traps_with}
+use Rattle.aos_sim.proofs.Traps.{Leaves, Judges, traps_with}
 use Rattle.aos_typed.specs.Methods.{body_type, initializer, is_active}
 
 -- the number of a trap of the language
@@ -327,6 +330,7 @@ module _ (program : Program) (here : Here) where
   stat_comes (Exit at) = tt
   stat_comes (For at w p from to step body) = comes_then (value_of program here to) _ (value_comes to) (λ x. tt)
   stat_comes (Block at exclusive body) = tt
+  stat_comes (Await at n e) = λ v. tt
   stat_comes (Assert at e code) = comes_then (value_of program here e) _ (value_comes e) (λ x. either_comes (is_true x) _ _ tt (omega arith))
   stat_comes (Halt at code) = omega arith
   stat_comes (Change at c p e) =
@@ -378,6 +382,7 @@ module _ (rows : List TypeRow) (made : ℕ → Option Made) (c : Content Value) 
   calm_comes (Asks (Starts v) k) h = h
   calm_comes (Asks EntersRegion k) h = h
   calm_comes (Asks LeavesRegion k) h = h
+  calm_comes (Asks (Awaits n) k) h = h
   calm_comes (Asks (PutsInt v n) k) h = h
   calm_comes (Asks (PutsChar v) k) h = h
   calm_comes (Asks (PutsString a n) k) h = h
@@ -412,6 +417,10 @@ module _ (following : List ℕ) where
   starts_known (Callable p o) f fs s = tt
   starts_known (Spotted p) f fs s = tt
 
+  awaits_known : (locks : List LockName) (c : ℕ) (f : Frame) (fs : List Frame) (s : Store) → Known (awaits following locks c f fs s)
+  awaits_known [] c f fs s = tt
+  awaits_known (l ∷ locks) c f fs s = tt
+
   copies_known : (c : Shape ScalarSort) (from to : Option (Content Value)) (p : Spot) (fs : List Frame) (s : Store) → Known (copies following c from to p fs s)
   copies_known c (Some new) (Some old) p fs s = tt
   copies_known c (Some new) None p fs s = tt
@@ -445,6 +454,7 @@ module _ (program : Program) (following : List ℕ) where
   answer_known (Starts v) f fs s = starts_known following v f fs s
   answer_known EntersRegion f fs s = tt
   answer_known LeavesRegion f fs s = tt
+  answer_known (Awaits c) f fs s = awaits_known following (locks_in (lock_of f) f.items) c f fs s
   answer_known (PutsInt v n) f fs s = prints_known following (written v n) f fs s
   answer_known (Reads t p) f fs s = tt
   answer_known (Stores p v) f fs s = tt
@@ -514,10 +524,49 @@ module _ (program : Program) (following : List ℕ) where
   turn_at_known [] s = tt
   turn_at_known (f ∷ fs) s = item_known f.answers f.items f fs s
 
+-- Verdicts
+
+module _ (rows : List TypeRow) (made : ℕ → Option Made) (c : Content Value) (x : Rooted (Content Value)) where
+  judged_known : (t : Doing Value) → Comes t → Judges IsKnown (judged rows made c x t)
+  judged_known (Val v) h = by (is_true v)
+    where
+      by : (b : Bool) → Judges IsKnown (if b then Holds else Fails)
+      by true = tt
+      by false = tt
+  judged_known (Traps n code) h = h
+  judged_known (Asks (Reads t q) k) h = judged_known (k _) (h _)
+  judged_known (Asks (ComparesTexts r a n b m) k) h = judged_known (k _) (h _)
+  judged_known (Asks (Places s) k) h = judged_known (k _) (h _)
+  judged_known (Asks (Lengths s) k) h = judged_known (k _) (h _)
+  judged_known (Asks (Opens v) k) h = judged_known (k _) (h _)
+  judged_known (Asks (Sizes v d) k) h = judged_known (k _) (h _)
+  judged_known (Asks (Tests v t) k) h = judged_known (k _) (h _)
+  judged_known (Asks (Stores q v) k) h = tt
+  judged_known (Asks (Copies t a b) k) h = tt
+  judged_known (Asks (PutsText strict a n b m) k) h = tt
+  judged_known (Asks (Calls how q vs) k) h = tt
+  judged_known (Asks (Ends r) k) h = tt
+  judged_known (Asks (Makes t vs) k) h = tt
+  judged_known (Asks (Starts v) k) h = tt
+  judged_known (Asks EntersRegion k) h = tt
+  judged_known (Asks LeavesRegion k) h = tt
+  judged_known (Asks (Awaits n) k) h = tt
+  judged_known (Asks (PutsInt v n) k) h = tt
+  judged_known (Asks (PutsChar v) k) h = tt
+  judged_known (Asks (PutsString a n) k) h = tt
+  judged_known (Asks PutsNothing k) h = tt
+  judged_known (Asks PutsLn k) h = tt
+
+verdict_known : (p : Program) (s : Store) (o : Option Condition) (fs : List Frame) → Judges IsKnown (verdict_over p o fs s)
+verdict_known p s None fs = tt
+verdict_known p s (Some c) [] = tt
+verdict_known p s (Some c) (f ∷ fs) =
+    judged_known p.types (made_in s) f.variables (all_rooted (f ∷ fs) s) (value_of p (here_of f fs) c.expression) (value_comes p (here_of f fs) c.expression)
+
 source_traps : (p : Program) (budget : ℕ) (cs : List Choice) → All (λ t. t.number < 16) (observation (source p) (execution (source p) cs (first_state p budget))).traps
 unfolding observation
 source_traps p budget cs =
-    traps_with IsKnown (source p) (omega arith) (omega arith) (record { turn = λ s fs. turn_at_known p (opened p fs).following (opened p fs).frames s; verdict = λ s f c. tt }) (first_store p) (first_frames p) budget cs
+    traps_with IsKnown (source p) (omega arith) (omega arith) (record { turn = λ s fs. turn_at_known p (opened p fs).following (opened p fs).frames s; verdict = λ s fs c. verdict_known p s (slice_get (conditions p) c) fs.frames }) (first_store p) (first_frames p) budget cs
 
 pub never_lost : (p : Program) (image : Image) → Shows p image → NeverLost image
 never_lost p image shows budget cs =

@@ -1,6 +1,6 @@
 -- A program's machine keeps its regions: a turn leaves them to the kernel, and whoever goes past the entry of one, or its end, is in
 -- it, or is no longer.
-use Rattle.std.proofs.Common.{◌≡◌, ℕ, zero, suc, List, [], ◌∷◌, ◌++◌, Bool, true, false, Option, Some, None, refl, sym, ap, ◌∙◌, subst, append_assoc}
+use Rattle.std.proofs.Common.{◌≡◌, ℕ, zero, suc, ◌<◌, arith, List, [], ◌∷◌, ◌++◌, Bool, true, false, Option, Some, None, refl, sym, ap, ◌∙◌, subst, append_assoc}
 use Rattle.std.specs.Prelude.{map, slice_get, option_and_then, length, nat_eq, if◌then◌else◌, unsigned_abs}
 use Rattle.std.specs.List.{list_any}
 use Rattle.aos_base.specs.declared.kernel.LockName.{LockName}
@@ -10,13 +10,13 @@ use Rattle.aos_base.specs.declared.place.Root.{Root}
 use Rattle.aos_base.specs.declared.place.Root.TheVariants.{Frame as FrameRoot, Module as ModuleRoot, Object as ObjectRoot}
 use Rattle.aos_base.specs.Number.{holds, array_lengths}
 use Rattle.aos_base.specs.Rooted.{Made, by_number, change_from_last}
-use Rattle.aos_base.specs.Question.{Val, Asks, Traps, bind, feed, Reads, Stores, Copies, PutsText, ComparesTexts, Calls, Ends, Makes, Starts, Enters, Leaves, PutsInt, PutsChar, PutsString, PutsLn, PutsNothing, Places, Lengths, Opens, Sizes, Tests}
+use Rattle.aos_base.specs.Question.{Val, Asks, Traps, bind, feed, Reads, Stores, Copies, PutsText, ComparesTexts, Calls, Ends, Makes, Starts, Enters, Leaves, Awaits, PutsInt, PutsChar, PutsString, PutsLn, PutsNothing, Places, Lengths, Opens, Sizes, Tests}
 use Rattle.aos_types.specs.declared.row.TypeRow.{TypeRow}
 use Rattle.aos_types.specs.Shape.{Shape}
 use Rattle.aos_types.specs.Content.{Content, first_content}
 use Rattle.aos_types.specs.World.{read}
 use Rattle.aos_typed.specs.declared.tree.TType.TheVariants.{Integer}
-use Rattle.aos_typed.specs.Program.{Read, Stat, Assign, Copy, PutText, If, Case, While, Repeat, Loop, Exit, For, Block, Assert, Halt, Change, Perform, Return, New, Make, With, WithRecord, Out, Stats, Nothing, Then, Arms, Otherwise, Arm, Cases, NoElse, Else, OfLabels, Call, Open, Char as CharCall, Int as IntCall, String, Ln, Body, ObjectType, Module, Program}
+use Rattle.aos_typed.specs.Program.{Read, Stat, Assign, Copy, PutText, If, Case, While, Repeat, Loop, Exit, For, Block, Await, Assert, Halt, Change, Perform, Return, New, Make, With, WithRecord, Out, Stats, Nothing, Then, Arms, Otherwise, Arm, Cases, NoElse, Else, OfLabels, Call, Open, Char as CharCall, Int as IntCall, String, Ln, Body, ObjectType, Module, Program}
 use Rattle.aos_typed.specs.Numbers.{id_of}
 use Rattle.aos_typed.specs.Routines.{Routine, routines}
 use Rattle.aos_typed.specs.Sort.{Sort, variable_shape}
@@ -26,8 +26,9 @@ use Rattle.aos_typed.specs.Value.{Value, Int, Flag, Char, Set, Object, Callable,
 use Rattle.aos_typed.specs.Store.{Store, has_room, made_in, type_of_object}
 use Rattle.aos_typed.specs.Meaning.{Here, Question, Doing, Item, Do, Rounds, Round, Until, Region, End, Gives, After, Into, Exits, Returns, leave, leave_all, items_of, block_items, body_items, is_in, place_of, rows_of, value_of, values_of, arguments_of, called, changed, case_of, arms_of, rounds_of, out_of, stat_of, item_of, initialized, carried_out, until, next_value}
 use Rattle.aos_typed.specs.Methods.{body_type, initializer}
-use Rattle.aos_typed.specs.Source.{Frame, Frames, Turned, here_of, lock_of, answered, done, all_rooted, frames_with, begins, with_result, ends, prints, makes, starts, copies, stores_text, is_deep, enters, called_frame, calls, makes_with, first_value, made_shape, written, calm, noted, answer, tests, finishes, settles, goes, item_turn, turn_at, body_frame, object_frames, opened, opened_by, next_body, past_by, locks_in, regions_of, made_body, source, turn}
-use Rattle.aos_concurrency.specs.Regions.{Outside, Passes, KeepsFits, KeepsRegions}
+use Rattle.aos_typed.specs.Source.{awaits, Frame, Frames, Turned, here_of, lock_of, answered, done, all_rooted, frames_with, begins, with_result, ends, prints, makes, starts, copies, stores_text, is_deep, enters, called_frame, calls, makes_with, first_value, made_shape, written, calm, noted, answer, tests, finishes, settles, goes, item_turn, turn_at, body_frame, object_frames, opened, opened_by, next_body, past_by, locks_in, regions_of, made_body, source, turn}
+use Rattle.aos_concurrency.proofs.Tables.{lock, is_itself}
+use Rattle.aos_concurrency.specs.Regions.{times, Outside, Passes, KeepsFits, KeepsRegions}
 
 -- Marks among items.
 
@@ -128,6 +129,7 @@ module _ (rows : List TypeRow) (made : ℕ → Option Made) (c : Content Value) 
   each_calm P (Asks (Starts v) k) h = h
   each_calm P (Asks Enters k) h = h
   each_calm P (Asks Leaves k) h = h
+  each_calm P (Asks (Awaits n) k) h = h
   each_calm P (Asks (PutsInt v n) k) h = h
   each_calm P (Asks (PutsChar v) k) h = h
   each_calm P (Asks (PutsString s n) k) h = h
@@ -175,6 +177,7 @@ module _ (p : Program) (here : Here) where
   stat_plain (Exit at) = tt
   stat_plain (For at w q from to step body) = each_bind Plain (value_of p here to) _ (λ v l rest. refl)
   stat_plain (Block at exclusive body) = λ l rest. block_plain l exclusive body rest
+  stat_plain (Await at n e) = λ v l rest. refl
   stat_plain (Assert at e code) = each_bind Plain (value_of p here e) _ (λ v. by (is_true v))
     where
       by : (b : Bool) → Each Plain (if b then Val (Into []) else Traps 7 code)
@@ -239,6 +242,9 @@ IsRegion is = (ss : Stats) × (rest : List Item) × (is ≡ Region ss ∷ rest)
 abbrev pub IsEnd : List Item → Type 0
 IsEnd is = (rest : List Item) × (is ≡ End ∷ rest)
 
+abbrev pub HasBegun : Frame → Type 0
+HasBegun f = (vs : List Value) × (f.answers ≡ Some vs)
+
 abbrev pub IsAt : Did → List Frame → Type 0
 IsAt Went fs = Unit {0}
 IsAt Ended fs = fs ≡ []
@@ -246,18 +252,16 @@ IsAt (Enter l) [] = ⊥
 IsAt (Enter l) (f ∷ fs) = StandsAt l f IsRegion
 IsAt (Leave l) [] = ⊥
 IsAt (Leave l) (f ∷ fs) = StandsAt l f IsEnd
-IsAt (Await l c) fs = ⊥
+IsAt (Await l c) [] = ⊥
+IsAt (Await l c) (f ∷ fs) = HasBegun f × ((locks : List LockName) × (locks_in (lock_of f) f.items ≡ l ∷ locks))
 IsAt (Start o) [] = ⊥
-IsAt (Start o) (f ∷ fs) = (vs : List Value) × (f.answers ≡ Some vs)
+IsAt (Start o) (f ∷ fs) = HasBegun f
 IsAt (Trapped n c) fs = Unit {0}
 
 -- a turn leaves these regions open, and stands at the work that it leaves
 pub record Keeps (locks : List LockName) (t : Turned) : Type 0 where
   pub regions : regions_of t.frames.frames ≡ locks
   pub at : IsAt t.left t.frames.frames
-
-abbrev HasBegun : Frame → Type 0
-HasBegun f = (vs : List Value) × (f.answers ≡ Some vs)
 
 -- the locks of these items of a frame, and of the frames below
 abbrev locks_with : List Item → Frame → List Frame → List LockName
@@ -305,6 +309,10 @@ module _ (following : List ℕ) where
   starts_keep (Set x) f fs s h = record { regions = refl; at = tt }
   starts_keep (Callable q o) f fs s h = record { regions = refl; at = tt }
   starts_keep (Place q) f fs s h = record { regions = refl; at = tt }
+
+  awaits_keep : (locks : List LockName) (c : ℕ) (f : Frame) (fs : List Frame) (s : Store) → locks_in (lock_of f) f.items ≡ locks → HasBegun f → Keeps (regions_of (f ∷ fs)) (awaits following locks c f fs s)
+  awaits_keep [] c f fs s e h = record { regions = refl; at = tt }
+  awaits_keep (l ∷ locks) c f fs s e h = record { regions = refl; at = (h, (locks, e)) }
 
   copies_keep : (c : Shape Sort) (from to : Option (Content Value)) (q : Spot) (f : Frame) (fs : List Frame) (s : Store) → Keeps (regions_of (f ∷ fs)) (copies following c from to q (answered done f ∷ fs) s)
   copies_keep c (Some new) (Some old) q f fs s = record { regions = with_same q.root _ (answered done f ∷ fs); at = tt }
@@ -360,6 +368,7 @@ module _ (p : Program) (following : List ℕ) where
   answer_keeps (Ends r) f fs s h = record { regions = refl; at = tt }
   answer_keeps Enters f fs s h = record { regions = refl; at = tt }
   answer_keeps Leaves f fs s h = record { regions = refl; at = tt }
+  answer_keeps (Awaits c) f fs s h = awaits_keep following (locks_in (lock_of f) f.items) c f fs s refl h
 
   tests_keep : (d : Doing Value) (if_true if_false : Turned) (f : Frame) (fs : List Frame) (s : Store) → HasBegun f → Keeps (regions_of (f ∷ fs)) if_true → Keeps (regions_of (f ∷ fs)) if_false → Keeps (regions_of (f ∷ fs)) (tests p following d if_true if_false f fs s)
   tests_keep (Val v) if_true if_false f fs s h a b = by (is_true v)
@@ -445,6 +454,13 @@ module _ (p : Program) where
   abbrev pub Stands : Store → Did → Frames → Type 0
   Stands s work fs = IsAt work fs.frames
 
+  -- past a question of an item that has begun
+  begun_passes : (f : Frame) (fs : List Frame) → HasBegun f → regions_of (past_by f.answers f ∷ fs) ≡ regions_of (f ∷ fs)
+  begun_passes f fs h = by f.answers h.0 h.1
+    where
+      by : (answers : Option (List Value)) (vs : List Value) → answers ≡ Some vs → regions_of (past_by answers (record f { answers = answers }) ∷ fs) ≡ regions_of (record f { answers = answers } ∷ fs)
+      by answers vs e = subst (λ a. regions_of (past_by a (record f { answers = a }) ∷ fs) ≡ regions_of (record f { answers = a } ∷ fs)) (sym e) refl
+
   passes : (work : Did) (ms : List ℕ) (fs : List Frame) → IsAt work fs → Passes (source p) work (record { following = ms; frames = fs })
   passes Went ms fs h = tt
   passes Ended ms fs h = ap regions_of h
@@ -464,12 +480,16 @@ module _ (p : Program) where
           subst (λ a. regions_of (record f { answers = a; items = is } ∷ fs) ≡ l ∷ regions_of (past_by a (record f { answers = a; items = is }) ∷ fs)) (sym none)
           (subst (λ xs. regions_of (record f { answers = None; items = xs } ∷ fs) ≡ l ∷ regions_of (past_by None (record f { answers = None; items = xs }) ∷ fs)) (sym e)
           (ap (λ k. k ∷ (locks_in (lock_of f) rest ++ regions_of fs)) (sym h.lock)))
-  passes (Await l c) ms fs h = absurd h
-  passes (Start o) ms [] h = absurd h
-  passes (Start o) ms (f ∷ fs) h = started f.answers h.0 h.1
+  passes (Await l c) ms [] h = absurd h
+  passes (Await l c) ms (f ∷ fs) h = (begun_passes f fs h.0, inside h.1.0 h.1.1)
     where
-      started : (answers : Option (List Value)) (vs : List Value) → answers ≡ Some vs → regions_of (past_by answers (record f { answers = answers }) ∷ fs) ≡ regions_of (record f { answers = answers } ∷ fs)
-      started answers vs e = subst (λ a. regions_of (past_by a (record f { answers = a }) ∷ fs) ≡ regions_of (record f { answers = a } ∷ fs)) (sym e) refl
+      inside : (locks : List LockName) → locks_in (lock_of f) f.items ≡ l ∷ locks → 0 < times l (regions_of (f ∷ fs))
+      inside locks e =
+          let once : times l (regions_of (f ∷ fs)) ≡ suc (times l (locks ++ regions_of fs)) = ap (λ ls. times l (ls ++ regions_of fs)) e
+          ∙ ap (λ (b : Bool). if b then suc (times l (locks ++ regions_of fs)) else times l (locks ++ regions_of fs)) (is_itself lock l) in
+          omega (arith, once)
+  passes (Start o) ms [] h = absurd h
+  passes (Start o) ms (f ∷ fs) h = begun_passes f fs h
   passes (Trapped n c) ms fs h = tt
 
   body_closed : (o : ℕ) (t : Option ObjectType) → regions_of (object_frames o t).frames ≡ []

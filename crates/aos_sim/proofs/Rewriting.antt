@@ -9,7 +9,7 @@ use Rattle.aos_base.specs.declared.operator.Binary.TheVariants.{SetSpan}
 use Rattle.aos_base.specs.declared.operator.Given.{Given}
 use Rattle.aos_base.specs.declared.operator.Given.TheVariants.{Number, Trap, Undefined}
 use Rattle.aos_base.specs.Operators.{natural, unary as unary_of, binary as binary_of}
-use Rattle.aos_base.specs.Question.{Tree, Val, Asks, Traps, bind, feed, ask, Reads, Stores, Copies, PutsText, ComparesTexts, Calls, Ends, Makes, Starts, Enters, Leaves, PutsInt, PutsChar, PutsString, PutsNothing, PutsLn, Places, Lengths, Opens, Sizes, Tests, ByName, ByType, ByValue, Upward}
+use Rattle.aos_base.specs.Question.{Tree, Val, Asks, Traps, bind, feed, ask, Reads, Stores, Copies, PutsText, ComparesTexts, Calls, Ends, Makes, Starts, Enters, Leaves, Awaits, PutsInt, PutsChar, PutsString, PutsNothing, PutsLn, Places, Lengths, Opens, Sizes, Tests, ByName, ByType, ByValue, Upward}
 use Rattle.aos_base.specs.Rooted.{Made}
 use Rattle.aos_types.specs.Content.{Content}
 use Rattle.aos_types.specs.Extension.{comes_to}
@@ -132,6 +132,7 @@ module _ (p : Program) (made : ℕ → Option Made) (c : Content Value) where
   settled_bind (Asks (Starts o) f) k = ap (Asks (Starts o)) (λ i v. settled_bind (f v) k i)
   settled_bind (Asks Enters f) k = ap (Asks Enters) (λ i v. settled_bind (f v) k i)
   settled_bind (Asks Leaves f) k = ap (Asks Leaves) (λ i v. settled_bind (f v) k i)
+  settled_bind (Asks (Awaits n) f) k = ap (Asks (Awaits n)) (λ i v. settled_bind (f v) k i)
   settled_bind (Asks (PutsInt x n) f) k = ap (Asks (PutsInt x n)) (λ i v. settled_bind (f v) k i)
   settled_bind (Asks (PutsChar x) f) k = ap (Asks (PutsChar x)) (λ i v. settled_bind (f v) k i)
   settled_bind (Asks (PutsString s n) f) k = ap (Asks (PutsString s n)) (λ i v. settled_bind (f v) k i)

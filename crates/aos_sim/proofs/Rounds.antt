@@ -70,8 +70,8 @@ module _ (program : Program) (own : Option Procedure) (tables : Tables) (number 
         let inc = step_code program own there w q step pi in
         let room : suc e ≤ stats_level b (suc e) = stats_above b (suc e) in
         let includes = includes_itself w in
-        let step_has : HasStatement program own tables number here code (next_value there w q step) pi x (suc e) = record { stands = record { rest = rest; here = drop_past b1 pb code (inc ++ rest) st }; typed = (has.place, refl, (((has.place, refl, inl includes), inl has.within), includes)); holds = omega (arith, room, has.holds) } in
-        let inner : HasStatements program own tables number here code b pb x (suc e) = record { stands = record { rest = inc ++ rest; here = st }; typed = has.body; holds = has.holds } in
+        let step_has : HasStatement program own tables number here code (next_value there w q step) pi x (suc e) = record { stands = record { rest = rest; here = drop_past b1 pb code (inc ++ rest) st }; typed = (has.place, refl, (((has.place, refl, inl includes), inl has.within), includes)); home = has.home; linked = tt; holds = omega (arith, room, has.holds) } in
+        let inner : HasStatements program own tables number here code b pb x (suc e) = record { stands = record { rest = inc ++ rest; here = st }; typed = has.body; home = has.home; linked = has.linked; holds = has.holds } in
         subst (λ is. Carried is pb x (suc e) k) (sym (append_assoc (items_of b) (next ∷ (rounds ∷ [])) after))
         (carries_all program own tables number here code b pb x (suc e) k (next ∷ (rounds ∷ after)) inner (pi, omega (arith, le), (λ k' s. refl), step_has, again))
 
@@ -153,8 +153,8 @@ module _ (program : Program) (own : Option Procedure) (tables : Tables) (number 
         let c' : Carried after (t + length c2) x d k = subst (λ n. Carried after n x d k) len c in
         let ends = bound program own tables number here code after (t + length c2) x d k c' in
         let room = stats_above b (suc d) in
-        let round_has : HasRounds program own tables number here code there w q step b t x d = record { stands = record { rest = rest; here = h4 }; place = has.typed.1; within = has.typed.4; body = has.typed.5; holds = has.holds } in
-        let first_has : HasStatement program own tables number here code (Assign there (Integer w) q first) pa x (suc d) = record { stands = record { rest = c2 ++ rest; here = h3 }; typed = (has.typed.1, refl, has.typed.2); holds = omega (arith, room, has.holds) } in
+        let round_has : HasRounds program own tables number here code there w q step b t x d = record { stands = record { rest = rest; here = h4 }; place = has.typed.1; within = has.typed.4; body = has.typed.5; home = has.home; linked = has.linked; holds = has.holds } in
+        let first_has : HasStatement program own tables number here code (Assign there (Integer w) q first) pa x (suc d) = record { stands = record { rest = c2 ++ rest; here = h3 }; typed = (has.typed.1, refl, has.typed.2); home = has.home; linked = tt; holds = omega (arith, room, has.holds) } in
         let f : Value → Doing After = λ v. Val (Into (Do (Assign there (Integer w) q first) ∷ (Rounds there w q (number_of v) step b ∷ []))) in
         along program here (Leaves after) world _ _ (bind (value_of program here to) f) (from_here program own tables number here code (at + 1) (ce ++ (i.Keep d N ∷ rest2)) k [] h1 ∙ ap (λ l. onward l 0 (at + 1) k []) (sym (append_assoc ce (i.Keep d N ∷ []) rest2)))
         (operand_does program own tables number here code (Leaves after) (Integer w) f ce (i.Keep d N ∷ []) (value_of program here to) (at + 1) rest2 k []

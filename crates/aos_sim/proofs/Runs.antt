@@ -3,9 +3,9 @@ use Rattle.std.proofs.Common.{◌≡◌, ℕ, zero, suc, ◌+◌, List, [], ◌�
 use Rattle.std.proofs.Common.{append_assoc}
 use Rattle.std.proofs.lemmas.Grind.{reverse_onto}
 use Rattle.std.proofs.Math.Dec.{leb-zero, leb-suc-zero, leb-suc-suc}
-use Rattle.std.specs.Prelude.{pos, nat_le, Option, None, is_some, slice_get, map, reverse, take}
+use Rattle.std.specs.Prelude.{ℤ, pos, nat_le, Option, None, is_some, slice_get, map, reverse, take}
 use Rattle.aos_base.specs.declared.text.Pos.{Pos}
-use Rattle.aos_base.specs.Question.{Tree, Val, Asks, Traps, feed, Reads, Stores, Copies, PutsText, ComparesTexts, ByName, Calls, Ends, Makes, Starts, Enters, Leaves, PutsInt, PutsChar, PutsString, PutsNothing, PutsLn, Places, Lengths, Opens, Sizes, Tests}
+use Rattle.aos_base.specs.Question.{Tree, Val, Asks, Traps, feed, Reads, Stores, Copies, PutsText, ComparesTexts, ByName, Calls, Ends, Makes, Starts, Enters, Leaves, Awaits, PutsInt, PutsChar, PutsString, PutsNothing, PutsLn, Places, Lengths, Opens, Sizes, Tests}
 use Rattle.aos_base.specs.Rooted.{Made}
 use Rattle.aos_base.specs.declared.place.Root.TheVariants.{Object as ObjectRoot}
 use Rattle.aos_base.specs.Operators.{flag}
@@ -17,11 +17,12 @@ use Rattle.aos_code.specs.declared.image.ProcShape.{ProcShape}
 use Rattle.aos_code.specs.declared.image.TypeDesc.{TypeDesc}
 use Rattle.aos_code.specs.declared.image.Image.{Image}
 use Rattle.aos_code.specs.Numbered.{numbered}
-use Rattle.aos_code.specs.Silent.{Here as CodeHere, Stack, Keeps, Question, End, Begins, Fails, Stop, Work, Ended, Look, AtCell, AtElements, IsType, AsType, AsMethod, AtSlot, Act, Goes, Puts, Takes, Looks, Sees, Stops, is_of, kept, extends, length_cells, Noted, Visible, Answered, Unknown, noted, on_noted, Told, Tells, Refuses, Invokes, Unheard, stands_for, invoked, bound, method_at, told_by, on_told, act, on_act, walk, silent}
+use Rattle.aos_code.specs.Silent.{Here as CodeHere, Stack, Keeps, Question, End, Begins, Fails, Decides, Stop, Work, Ended, Look, AtCell, AtElements, IsType, AsType, AsMethod, AtSlot, Act, Goes, Puts, Takes, Looks, Sees, Stops, is_of, kept, extends, length_cells, Noted, Visible, Answered, Unknown, noted, on_noted, Told, Tells, Refuses, Invokes, Unheard, stands_for, invoked, bound, method_at, told_by, on_told, act, on_act, walk, silent}
 
--- where code comes to a Begin: its place in the code and the text, what is kept, and the operands
+-- where code comes to a Begin: its place in the code and the text, what is kept, and the operands; or to the end of a condition
 pub data Left : Type 0 where
   AtBegin : ℕ → Pos → Keeps → Stack → Left
+  Decided : ℤ → Left
 
 abbrev pub Run : Type 0
 Run = Tree Question Cell Left
@@ -32,6 +33,7 @@ Onward = ℕ → ℕ → Keeps → Stack → Run
 abbrev pub ended : End → Keeps → Run
 ended (Begins at p s) k = Val (AtBegin at p k s)
 ended (Fails n c) k = Traps n c
+ended (Decides a) k = Val (Decided a)
 
 -- a procedure of this shape is a function, and leaves its result on the stack
 abbrev pub gives_result : Option ProcShape → Bool
@@ -120,6 +122,7 @@ module _ (tables : Tables) where
   past (Starts v) x at k s next = next 0 (at + 1) k s
   past Enters x at k s next = next 0 (at + 1) k s
   past Leaves x at k s next = next 0 (at + 1) k s
+  past (Awaits c) x at k s next = next 0 (at + 1) k s
   past (PutsInt v n) x at k s next = next 0 (at + 1) k s
   past (PutsChar v) x at k s next = next 0 (at + 1) k s
   past (PutsString a n) x at k s next = next 0 (at + 1) k s
@@ -239,6 +242,7 @@ past_answered tables cells (Makes t ns) v at k s next e = refl
 past_answered tables cells (Starts x) v at k s next e = absurd (cc)
 past_answered tables cells Enters v at k s next e = absurd (cc)
 past_answered tables cells Leaves v at k s next e = absurd (cc)
+past_answered tables cells (Awaits c) v at k s next e = absurd (cc)
 past_answered tables cells (PutsInt x n) v at k s next e = absurd (cc)
 past_answered tables cells (PutsChar x) v at k s next e = absurd (cc)
 past_answered tables cells (PutsString a n) v at k s next e = absurd (cc)
@@ -260,6 +264,7 @@ past_same tables (Makes t ns) x at k s next next' e = e (x ∷ s)
 past_same tables (Starts v) x at k s next next' e = e s
 past_same tables Enters x at k s next next' e = e s
 past_same tables Leaves x at k s next next' e = e s
+past_same tables (Awaits c) x at k s next next' e = e s
 past_same tables (PutsInt v n) x at k s next next' e = e s
 past_same tables (PutsChar v) x at k s next next' e = e s
 past_same tables (PutsString a n) x at k s next next' e = e s
@@ -398,6 +403,7 @@ answered_noted types made cells (Makes t ns) e = refl
 answered_noted types made cells (Starts v) e = refl
 answered_noted types made cells Enters e = refl
 answered_noted types made cells Leaves e = refl
+answered_noted types made cells (Awaits c) e = refl
 answered_noted types made cells (PutsInt v n) e = refl
 answered_noted types made cells (PutsChar v) e = refl
 answered_noted types made cells (PutsString a n) e = refl
@@ -425,6 +431,7 @@ object_unnoted cells (Makes t ns) e = absurd (cc)
 object_unnoted cells (Starts v) e = absurd (cc)
 object_unnoted cells Enters e = absurd (cc)
 object_unnoted cells Leaves e = absurd (cc)
+object_unnoted cells (Awaits c) e = absurd (cc)
 object_unnoted cells (PutsInt v n) e = absurd (cc)
 object_unnoted cells (PutsChar v) e = absurd (cc)
 object_unnoted cells (PutsString a n) e = absurd (cc)
@@ -485,6 +492,7 @@ module _ (tables : Tables) (made : ℕ → Option Made) (own : ℕ) (here : Here
   by_act rest at e ih k (Sees q s) = by_note rest at e ih q k s (noted cells q) refl (is_asked_at_once q) refl
   by_act rest at e ih k (Stops (Begins to p s)) = refl
   by_act rest at e ih k (Stops (Fails n c)) = refl
+  by_act rest at e ih k (Stops (Decides a)) = refl
 
   run_by_walk : (rest : List Instr) (at : ℕ) → drop at code ≡ rest → Leads rest at
   run_by_walk [] at e over k s = refl

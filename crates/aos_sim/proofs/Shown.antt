@@ -50,7 +50,8 @@ use Rattle.aos_sim.proofs.States.{world_of, IsFew, AreFew, number_get, SameStore
 use Rattle.aos_sim.proofs.Routines.{module_there, object_there}
 use Rattle.aos_sim.proofs.Bodies.{alike_at, range_get, range_past, has_shapes, home_known, routines_run}
 use Rattle.aos_sim.proofs.Grown.{turn_grown}
-use Rattle.aos_sim.proofs.Turns.{Together, turn_alike}
+use Rattle.aos_sim.proofs.Turns.{Awaited, awaited_grows, Together, turn_alike}
+use Rattle.aos_sim.proofs.Verdicts.{verdict_same}
 
 module _ (program : Program) (image : Image) (shaped : HasShapes program (tables_of image)) where
   -- a frame's text is of the module that its procedure's shape names
@@ -95,12 +96,12 @@ module _ (p : Program) (image : Image) (well : IsWellTyped p) (ok : IsCodeOf p i
       record {
         made = refl;
         few = All-nil (IsFew p);
-        of_modules = subst (λ ys. AllShown (Is p) cell_of (world_of p [] []) (map (S.module_shape p) ms) (S.first_store p).modules ys) (sym ok.cells) (modules_shown p (world_of p [] []) well.predeclared ms well.texts);
+        of_modules = subst (λ ys. AllShown (Is p) cell_of (world_of p [] []) (map (S.module_shape p) ms) (S.first_store p).modules ys) (sym ok.cells) (modules_shown p (world_of p [] []) well.parts.predeclared ms well.parts.texts);
         of_objects = tt;
       }
 
   abbrev typed : HasTypes p
-  typed = has_types p image.bodies.items image.shapes.items image.modules.items image.types.items well ok
+  typed = has_types p image.bodies.items image.conds.items image.shapes.items image.modules.items image.types.items well ok
 
   abbrev shaped : HasShapes p (tables_of image)
   shaped = has_shapes p image ok typed
@@ -128,7 +129,7 @@ module _ (p : Program) (image : Image) (well : IsWellTyped p) (ok : IsCodeOf p i
     body_begins : (b : ℕ) (has : HasBody p t b) → SameFrames p image made (S.body_frame has.object.home o has.object.body.body ∷ []) (I.body_frame o (body_number p b) ∷ [])
     body_begins b has =
         let x = has.object in
-        let is = object_type p well.objects b x has.there in
+        let is = object_type p well.parts.objects b x has.there in
         let extends = comes_on p.types typed.ranked (id_of_made self.1.type) (id_of_made (suc t)) (id_of_made (suc b)) self.5 has.extends in
         body_same p image run made o (body_number p b) (routine_of x.home x.body) (object_there p b x has.there) (sym (ap is_some has.body.proper)) (frame is.bare)
         (subst (λ z. IsSelf p (λ o. by_number o made) z o) (sym has.body.own) (self.0, self.1, self.2, self.3, self.4, extends))
@@ -213,13 +214,14 @@ module _ (p : Program) (image : Image) (well : IsWellTyped p) (ok : IsCodeOf p i
         record {
           now = subst (λ l. Same p image l fs' gs') (sym g.1) (same_grows p image s.made g.0 fs' gs' h'.now);
           behind = λ goes. subst (λ l. Same p image l (S.past p fs') (I.past image gs')) (sym g.1) (same_grows p image s.made g.0 (S.past p fs') (I.past image gs') (h'.behind goes));
+          awaited = subst (λ l. Awaited p image l w fs') (sym g.1) (awaited_grows p image s.made g.0 w fs' h'.awaited);
         };
-    past = λ s mem w fs gs goes stores h. record { now = h.behind goes; behind = λ k. absurd k };
-    verdict = λ s mem l c fs gs stores h. refl;
+    past = λ s mem w fs gs goes stores h. record { now = h.behind goes; behind = λ k. absurd k; awaited = tt };
+    verdict = λ s mem l c fs gs stores h. verdict_same p image typed shaped ok.conditions s mem fs gs c stores h.now h.awaited;
     regions = λ s mem w fs gs may stores h. regions_same p image shaped s.made fs.frames gs.frames h.now.frames h.now.regions;
     position = λ s mem w fs gs may stores h. position_same p image shaped s.made (S.opened p fs).frames (I.opened gs).frames (opened_same p image run s.made fs gs h.now).frames;
     anew = λ s mem w fs gs may stores h. tt;
-    body = λ s mem o fs gs stores h. record { now = object_body_same s mem o stores; behind = λ k. absurd k };
+    body = λ s mem o fs gs stores h. record { now = object_body_same s mem o stores; behind = λ k. absurd k; awaited = tt };
     priority = λ s mem o fs gs stores h. refl;
   }
 
@@ -237,7 +239,7 @@ module _ (p : Program) (image : Image) (well : IsWellTyped p) (ok : IsCodeOf p i
       execution_matches (SameStore p) (Together p image) (Outside (S.source p)) (S.source p) (machine image) simulates choices (S.first_state p budget) (I.first_state image budget)
       (sound_always (S.source p) (Stands p) (source_keeps p) (S.first_state p budget) (start_sound (S.first_store p) (S.first_frames p) budget (S.source p) (Stands p) tt refl))
       (start_matches (SameStore p) (Together p image) (Outside (S.source p)) (S.source p) (machine image) simulates (S.first_store p) (I.first_memory image) (S.first_frames p) (I.first_frames image) budget first_store_same
-      (record { now = first_same; behind = λ k. absurd k }))
+      (record { now = first_same; behind = λ k. absurd k; awaited = tt }))
 
   pub shown : Shows p image
   shown = record {

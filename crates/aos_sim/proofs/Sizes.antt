@@ -5,7 +5,7 @@ use Rattle.std.proofs.Math.Nat.{le-max_left}
 use Rattle.aos_base.specs.declared.text.Pos.{Pos}
 use Rattle.aos_base.specs.declared.number.Width.{Width}
 use Rattle.aos_typed.specs.declared.tree.TType.TheVariants.{Integer}
-use Rattle.aos_typed.specs.Program.{Place, Read, Stat, Assign, Copy, PutText, If, Case, While, Repeat, Loop, Exit, For, Block, Assert, Halt, Change, Perform, Return, New, Make, With, WithRecord, Out, Stats, Nothing, Then, Arms, Otherwise, Arm, Cases, NoElse, Else, OfLabels, Procedure, Program}
+use Rattle.aos_typed.specs.Program.{Place, Read, Stat, Assign, Copy, PutText, If, Case, While, Repeat, Loop, Exit, For, Block, Await, Assert, Halt, Change, Perform, Return, New, Make, With, WithRecord, Out, Stats, Nothing, Then, Arms, Otherwise, Arm, Cases, NoElse, Else, OfLabels, Procedure, Program}
 use Rattle.aos_code.specs.declared.instr.Instr.{Instr}
 use Rattle.aos_code.specs.declared.instr.Instr.TheVariants as i
 use Rattle.aos_code.specs.declared.instr.Kind.TheVariants.{N}
@@ -111,6 +111,7 @@ module _ (program : Program) (own : Option Procedure) where
     stat_length (Block here exclusive body) at u x y d =
         ap (λ n. suc n) (block_alike exclusive _ _ (stats_length body (block_at exclusive (at + 1)) (block_within exclusive u) x y d))
     stat_length (Assert here e code) at u x y d = refl
+    stat_length (Await here n e) at u x y d = refl
     stat_length (Halt here code) at u x y d = refl
     stat_length (Change here c p e) at u x y d = refl
     stat_length (Perform here c more) at u x y d = refl
@@ -180,6 +181,7 @@ mutual
   stat_above (For here w p from to step body) d = omega (arith, stats_above body (suc d))
   stat_above (Block here exclusive body) d = stats_above body d
   stat_above (Assert here e code) d = omega arith
+  stat_above (Await here n e) d = omega arith
   stat_above (Halt here code) d = omega arith
   stat_above (Change here c p e) d = omega arith
   stat_above (Perform here c more) d = omega arith

@@ -5,7 +5,7 @@ use Rattle.std.specs.Prelude.{Option, Some, None, Bool, true, false, nat_lt, sli
 use Rattle.aos_base.specs.declared.place.Root.{Root}
 use Rattle.aos_base.specs.declared.operator.Given.{Given}
 use Rattle.aos_base.specs.declared.operator.Given.TheVariants.{Number, Trap, Undefined}
-use Rattle.aos_base.specs.Question.{ByName, Asks, Reads, Stores, Copies, PutsText, ComparesTexts, Calls, Ends, Makes, Starts, Enters, Leaves, PutsInt, PutsChar, PutsString, PutsNothing, PutsLn, Places, Lengths, Opens, Sizes, Tests}
+use Rattle.aos_base.specs.Question.{ByName, Asks, Reads, Stores, Copies, PutsText, ComparesTexts, Calls, Ends, Makes, Starts, Enters, Leaves, Awaits, PutsInt, PutsChar, PutsString, PutsNothing, PutsLn, Places, Lengths, Opens, Sizes, Tests}
 use Rattle.aos_base.specs.Operators.{flag, unary, binary, natural}
 use Rattle.aos_code.specs.declared.instr.Cell.{Cell}
 use Rattle.aos_code.specs.declared.instr.Cell.TheVariants.{Num, Ref, Call as CallCell, Place}
@@ -16,7 +16,7 @@ use Rattle.aos_code.specs.declared.instr.Instr.TheVariants as instr
 use Rattle.aos_code.specs.declared.image.ProcShape.{ProcShape}
 use Rattle.aos_code.specs.Memory.{Addr}
 use Rattle.aos_code.specs.Numbered.{numbered}
-use Rattle.aos_code.specs.Silent.{Stack, Keeps, Question, Fails, Stop, Work, Ended, Look, AtCell, AtElements, IsType, AsType, AsMethod, Act, Goes, Puts, Takes, Looks, Sees, Stops, object_then, on_object, unless_nil, looks, on_receiver, called, callable_then, on_callable, same_formals, applies_to, applies_as, applies, calls_value, sends, gives_self, extends, Told, Tells, Refuses, Invokes, Unheard, told_by, on_told, lost, kept, is_of, on_any, on_kind, on_number, number_then, place_then, on_place, on_text, length_then, lengths_on, counted_on, gives, given, asserts, gives_place, element, cells_of, length_cells, in_rows, gives_picked, on_kinds, kinds_of, calls, ends, lands, jumps, jumps_on_false, act, Noted, Visible, Answered, Unknown, noted, on_noted, on_act, walk, silent}
+use Rattle.aos_code.specs.Silent.{Stack, Keeps, Question, Fails, Decides, Stop, Work, Ended, Look, AtCell, AtElements, IsType, AsType, AsMethod, Act, Goes, Puts, Takes, Looks, Sees, Stops, object_then, on_object, unless_nil, looks, on_receiver, called, callable_then, on_callable, same_formals, applies_to, applies_as, applies, calls_value, sends, gives_self, extends, Told, Tells, Refuses, Invokes, Unheard, told_by, on_told, lost, kept, is_of, on_any, on_kind, on_number, number_then, place_then, on_place, on_text, length_then, lengths_on, counted_on, gives, given, asserts, gives_place, element, cells_of, length_cells, in_rows, gives_picked, on_kinds, kinds_of, calls, ends, lands, jumps, jumps_on_false, act, Noted, Visible, Answered, Unknown, noted, on_noted, on_act, walk, silent}
 use Rattle.aos_base.specs.Rooted.{Made}
 use Rattle.aos_sim.proofs.Runs.{Tables, in_code, on_run, runs, run, drop_next}
 use Rattle.aos_typed.specs.Meaning.{Here}
@@ -27,6 +27,7 @@ abbrev mark : Act → ℕ
 mark (Sees (Starts v) s) = 1
 mark (Sees Enters s) = 1
 mark (Sees Leaves s) = 1
+mark (Sees (Awaits c) s) = 1
 mark _ = 0
 
 calm_if : (b : Bool) (a : Act) → mark a ≡ 0 → mark (if b then a else Stops lost) ≡ 0
@@ -202,7 +203,7 @@ start_on_top [] v s' e = absurd (cc e)
 start_on_top (w ∷ s) v s' e = start_if (is_of R w) w v s s' e
 
 -- what an instruction does is none of these, or it is one of three
-act_kind : (tables : Tables) (own : ℕ) (here : Here) (i : Instr) (code : List Instr) (at : ℕ) (s : Stack) → (mark (act tables.procedures tables.types own (in_code here) i code at s) ≡ 0) ⊎ ((i ≡ instr.Start) ⊎ ((i ≡ instr.Enter) ⊎ (i ≡ instr.Leave)))
+act_kind : (tables : Tables) (own : ℕ) (here : Here) (i : Instr) (code : List Instr) (at : ℕ) (s : Stack) → (mark (act tables.procedures tables.types own (in_code here) i code at s) ≡ 0) ⊎ ((i ≡ instr.Start) ⊎ ((i ≡ instr.Enter) ⊎ ((i ≡ instr.Leave) ⊎ ((c : ℕ) × (i ≡ instr.Await c)))))
 act_kind tables own here (instr.Num n) code at s = inl refl
 act_kind tables own here instr.Nil code at s = inl refl
 act_kind tables own here instr.SelfRef code at s = inl (calm_self here.self s)
@@ -253,7 +254,9 @@ act_kind tables own here (instr.NewObject t) code at s = inl refl
 act_kind tables own here (instr.NewArray t j) code at s = inl (calm_counted j [] _ s (λ zs r. refl))
 act_kind tables own here instr.Start code at s = inr (inl refl)
 act_kind tables own here instr.Enter code at s = inr (inr (inl refl))
-act_kind tables own here instr.Leave code at s = inr (inr (inr refl))
+act_kind tables own here instr.Leave code at s = inr (inr (inr (inl refl)))
+act_kind tables own here (instr.Await c) code at s = inr (inr (inr (inr (c, refl))))
+act_kind tables own here instr.Verdict code at s = inl (calm_number (λ a s'. Stops (Decides a)) s (λ a s'. refl))
 act_kind tables own here instr.Return code at s = inl (calm_ends (numbered tables.procedures own) s)
 act_kind tables own here instr.OutChar code at s = inl (calm_kind N _ s (λ w r. refl))
 act_kind tables own here instr.OutInt code at s = inl (calm_kind N _ s (λ w r. calm_kind N _ r (λ x y. refl)))
@@ -266,6 +269,7 @@ abbrev Found : Question → Stack → Stack → Type 0
 Found (Starts v) s s' = s ≡ v ∷ s'
 Found Enters s s' = s ≡ s'
 Found Leaves s s' = s ≡ s'
+Found (Awaits c) s s' = s ≡ s'
 Found q s s' = ⊥
 
 -- one of the three
@@ -273,12 +277,14 @@ abbrev IsWork : Question → Type 0
 IsWork (Starts v) = Unit {0}
 IsWork Enters = Unit {0}
 IsWork Leaves = Unit {0}
+IsWork (Awaits c) = Unit {0}
 IsWork q = ⊥
 
 one_marked : (q : Question) (s : Stack) → IsWork q → mark (Sees q s) ≡ 1
 one_marked (Starts v) s w = refl
 one_marked Enters s w = refl
 one_marked Leaves s w = refl
+one_marked (Awaits c) s w = refl
 one_marked (Reads k a) s w = absurd w
 one_marked (Stores a v) s w = absurd w
 one_marked (Copies n a b) s w = absurd w
@@ -312,6 +318,12 @@ start_finds Leaves (x ∷ s) s' w e = by (is_of R x) e
     by : (b : Bool) → (if b then Sees (Starts x) s else Stops lost) ≡ Sees Leaves s' → x ∷ s ≡ s'
     by true e' = absurd (cc e')
     by false e' = absurd (cc e')
+start_finds (Awaits c) [] s' w e = absurd (cc e)
+start_finds (Awaits c) (x ∷ s) s' w e = by (is_of R x) e
+  where
+    by : (b : Bool) → (if b then Sees (Starts x) s else Stops lost) ≡ Sees (Awaits c) s' → x ∷ s ≡ s'
+    by true e' = absurd (cc e')
+    by false e' = absurd (cc e')
 start_finds (Reads k a) s s' w e = absurd w
 start_finds (Stores a v) s s' w e = absurd w
 start_finds (Copies n a b) s s' w e = absurd w
@@ -341,11 +353,12 @@ region_finds r q s s' h w e =
 act_finds : (tables : Tables) (own : ℕ) (here : Here) (i : Instr) (code : List Instr) (at : ℕ) (s : Stack) (q : Question) (s' : Stack) → IsWork q → act tables.procedures tables.types own (in_code here) i code at s ≡ Sees q s' → Found q s s'
 act_finds tables own here i code at s q s' w e = by (act_kind tables own here i code at s)
   where
-    by : (mark (act tables.procedures tables.types own (in_code here) i code at s) ≡ 0) ⊎ ((i ≡ instr.Start) ⊎ ((i ≡ instr.Enter) ⊎ (i ≡ instr.Leave))) → Found q s s'
+    by : (mark (act tables.procedures tables.types own (in_code here) i code at s) ≡ 0) ⊎ ((i ≡ instr.Start) ⊎ ((i ≡ instr.Enter) ⊎ ((i ≡ instr.Leave) ⊎ ((c : ℕ) × (i ≡ instr.Await c))))) → Found q s s'
     by (inl h) = absurd (let z : 0 ≡ 1 = sym h ∙ ap mark e ∙ one_marked q s' w in cc z)
     by (inr (inl h)) = start_finds q s s' w (ap (λ x. act tables.procedures tables.types own (in_code here) x code at s) (sym h) ∙ e)
     by (inr (inr (inl h))) = region_finds Enters q s s' refl w (ap (λ x. act tables.procedures tables.types own (in_code here) x code at s) (sym h) ∙ e)
-    by (inr (inr (inr h))) = region_finds Leaves q s s' refl w (ap (λ x. act tables.procedures tables.types own (in_code here) x code at s) (sym h) ∙ e)
+    by (inr (inr (inr (inl h)))) = region_finds Leaves q s s' refl w (ap (λ x. act tables.procedures tables.types own (in_code here) x code at s) (sym h) ∙ e)
+    by (inr (inr (inr (inr h)))) = region_finds (Awaits h.0) q s s' refl w (ap (λ x. act tables.procedures tables.types own (in_code here) x code at s) (sym h.1) ∙ e)
 
 module _ (tables : Tables) (made : ℕ → Option Made) (own : ℕ) (here : Here) (cells : List Cell) (code : List Instr) (q : Question) (work : IsWork q) (p : ℕ) (k' : Keeps) (s' : Stack) where
   -- the instruction that asks, and the operands that it finds
@@ -451,3 +464,15 @@ module _ (tables : Tables) (made : ℕ → Option Made) (own : ℕ) (here : Here
       ap (λ l. runs tables own here code l 0 p k' s') there.there
       ∙ ap (λ a. on_run tables a (runs tables own here code there.rest) p k') (asks_so tables made own here cells code at k s Leaves tt p k' s' e s' (λ st h. h))
       ∙ ap (λ l. Asks Leaves (λ x. runs tables own here code l 0 (p + 1) k' s')) (sym (drop_next p code there.instruction there.rest there.there))
+
+-- and at a condition that is awaited
+module _ (tables : Tables) (made : ℕ → Option Made) (own : ℕ) (here : Here) (cells : List Cell) (code : List Instr) (at : ℕ) (k : Keeps) (s : Stack) (c : ℕ) (p : ℕ) (k' : Keeps) (s' : Stack) (e : silent tables.procedures tables.types made own (in_code here) cells code at k s ≡ Work (Awaits c) p k' s') where
+  pub silent_at_await : (known : ℕ → Option Made) → silent tables.procedures tables.types known own (in_code here) cells code p k' s' ≡ Work (Awaits c) p k' s'
+  silent_at_await = silent_at_work tables made own here cells code at k s (Awaits c) tt p k' s' e s' (λ st h. h)
+
+  pub run_at_await : run tables own here code p k' s' ≡ Asks (Awaits c) (λ x. run tables own here code (p + 1) k' s')
+  run_at_await =
+      let there = asking tables made own here cells code at k s (Awaits c) tt p k' s' e s' (λ st h. h) in
+      ap (λ l. runs tables own here code l 0 p k' s') there.there
+      ∙ ap (λ a. on_run tables a (runs tables own here code there.rest) p k') (asks_so tables made own here cells code at k s (Awaits c) tt p k' s' e s' (λ st h. h))
+      ∙ ap (λ l. Asks (Awaits c) (λ x. runs tables own here code l 0 (p + 1) k' s')) (sym (drop_next p code there.instruction there.rest there.there))

@@ -7,12 +7,12 @@ use Rattle.std.proofs.lemmas.List.{drop-drop}
 use Rattle.aos_base.specs.declared.number.Width.TheVariants.{W64}
 use Rattle.aos_base.specs.declared.text.Pos.{Pos}
 use Rattle.aos_base.specs.Operators.{flag}
-use Rattle.aos_base.specs.Question.{Val, Asks, Traps, bind, ask, Stores, Copies, PutsText, Ends, PutsInt, PutsChar, PutsString, PutsNothing, PutsLn}
+use Rattle.aos_base.specs.Question.{Val, Asks, Traps, bind, ask, Stores, Awaits, Copies, PutsText, Ends, PutsInt, PutsChar, PutsString, PutsNothing, PutsLn}
 use Rattle.aos_types.specs.Table.{row_of}
 use Rattle.aos_types.specs.World.{World}
 use Rattle.aos_typed.specs.declared.tree.TType.{TType}
 use Rattle.aos_typed.specs.declared.tree.TType.TheVariants as type
-use Rattle.aos_typed.specs.Program.{Place, Rows, Arguments, Callee, Expr, Call, Open as OutOpen, Char as OutChar, Int as OutInt, String as OutString, Ln as OutLn, Stat, Assign, Copy, PutText, If, Case, While, Repeat, Loop, Exit, For, Block, Assert, Halt, Change, Perform, Return, New, Make, With, WithRecord, Out, Stats, Body, Procedure, Program}
+use Rattle.aos_typed.specs.Program.{Place, Rows, Arguments, Callee, Expr, Call, Open as OutOpen, Char as OutChar, Int as OutInt, String as OutString, Ln as OutLn, Stat, Assign, Copy, PutText, If, Case, While, Repeat, Loop, Exit, For, Block, Await, Assert, Halt, Change, Perform, Return, New, Make, With, WithRecord, Out, Stats, Body, Procedure, Program}
 use Rattle.aos_typed.specs.Numbers.{id_of}
 use Rattle.aos_typed.specs.Routines.{result_of}
 use Rattle.aos_typed.specs.Sort.{Sort, Plain, variable_shape}
@@ -24,6 +24,7 @@ use Rattle.aos_types.specs.Shape.{Shape, join}
 use Rattle.aos_types.specs.Content.{EachSort}
 use Rattle.aos_typed.specs.Typing.{Is, IsPlain}
 use Rattle.aos_sim.proofs.Parts.{each_rest}
+use Rattle.aos_typed.specs.Conditions.{Condition, conditions, AreLinked}
 use Rattle.aos_typed.specs.WellTyped.{is_value, NamesType, IsReturn, AreStatements}
 use Rattle.aos_layout.specs.Layout.{kind_of as cell_kind}
 use Rattle.aos_code.specs.declared.instr.Cell.{Cell}
@@ -104,35 +105,35 @@ module _ (program : Program) (own : Option Procedure) (tables : Tables) (number 
 
   -- statements of a body, which are a region where it is exclusive, behind which its end stands; an EXIT that stands in no LOOP leads
   -- there
-  body_carried : (exclusive : Bool) (ss : Stats) (x : ℕ) (k : Keeps) → AreStatements program own ss → keeps_of ss ≤ keeps_in (numbered tables.procedures number) →
+  body_carried : (exclusive : Bool) (ss : Stats) (x : ℕ) (k : Keeps) → AreStatements program own ss → (home : ℕ) → AreLinked (conditions program) home own ss → keeps_of ss ≤ keeps_in (numbered tables.procedures number) →
       (let cs = block_code exclusive (stats_code program own ss (block_at exclusive 0) (body_ways exclusive x) 0) in code ≡ cs ++ end_code program own → x ≡ length cs → GoesOn program own tables number here code (block_items exclusive ss) (run tables number here code 0 k []))
-  body_carried false ss x k ok holds is len =
+  body_carried false ss x k ok home links holds is len =
       let cs = stats_code program own ss 0 (body_ways false x) 0 in
       let last = end_code program own in
       let none : 0 + length cs ≡ length cs = omega arith in
-      let has : HasStatements program own tables number here code ss 0 (body_ways false x) 0 = record { stands = record { rest = last; here = is }; typed = ok; holds = holds } in
+      let has : HasStatements program own tables number here code ss 0 (body_ways false x) 0 = record { stands = record { rest = last; here = is }; typed = ok; home = home; linked = links; holds = holds } in
       let end : Stands code (0 + length cs) last = record { rest = []; here = drop_past cs 0 code last is ∙ sym (append-nil last) } in
       let exit : Stands code x last = subst (λ n. Stands code n last) (none ∙ sym len) end in
       let all = carries_all program own tables number here code ss 0 (body_ways false x) 0 k [] has (0 + length cs, omega (arith, len), (λ k s. refl), end, exit, refl) in
       record { at = 0; ways = body_ways false x; level = 0; keeps = k; runs = refl; carries = subst (λ is. Carries program own tables number here code is 0 (body_ways false x) 0 k) (append-nil (items_of ss)) all }
-  body_carried true ss x k ok holds is len =
+  body_carried true ss x k ok home links holds is len =
       let b = stats_code program own ss 1 (body_ways true x) 0 in
       let cs = i.Enter ∷ (b ++ i.Leave ∷ []) in
       let last = end_code program own in
       let plain = body_ways false x in
-      let has : HasRegion program own tables number here code ss 0 plain 0 = record { stands = record { rest = last; here = is }; typed = ok; holds = holds } in
+      let has : HasRegion program own tables number here code ss 0 plain 0 = record { stands = record { rest = last; here = is }; typed = ok; home = home; linked = links; holds = holds } in
       let none : 0 + length cs ≡ length cs = omega arith in
       let end : Stands code (0 + length cs) last = record { rest = []; here = drop_past cs 0 code last is ∙ sym (append-nil last) } in
       let exit : Stands code x last = subst (λ n. Stands code n last) (none ∙ sym len) end in
       record { at = 0; ways = plain; level = 0; keeps = k; runs = refl; carries = (0, omega arith, (λ k s. refl), has, (0 + length cs, omega (arith, len), (λ k s. refl), end, exit, refl)) }
 
-  pub body_goes : (b : Body) (k : Keeps) → AreStatements program own b.statements → keeps_of b.statements ≤ keeps_in (numbered tables.procedures number) → code ≡ body_code program own b → GoesOn program own tables number here code (body_items b) (run tables number here code 0 k [])
-  body_goes b k ok holds is =
+  pub body_goes : (b : Body) (k : Keeps) → AreStatements program own b.statements → (home : ℕ) → AreLinked (conditions program) home own b.statements → keeps_of b.statements ≤ keeps_in (numbered tables.procedures number) → code ≡ body_code program own b → GoesOn program own tables number here code (body_items b) (run tables number here code 0 k [])
+  body_goes b k ok home links holds is =
       let e = b.is_exclusive in
       let ss = b.statements in
       let x = length (statements_code program own b 0) in
       let u = block_within e NoRegion in
-      body_carried e ss x k ok holds is (block_alike e _ _ (stats_length program own ss (block_at e 0) u 0 x 0))
+      body_carried e ss x k ok home links holds is (block_alike e _ _ (stats_length program own ss (block_at e 0) u 0 x 0))
 
   -- a statement's code begins with its Begin
   pub begins_with : (s : Stat) (at : ℕ) (x : Ways) (d : ℕ) (k : Keeps) → Stands code at (stat_code program own s at x d) → run tables number here code at k [] ≡ Val (AtBegin at (pos_of s) k [])
@@ -147,6 +148,7 @@ module _ (program : Program) (own : Option Procedure) (tables : Tables) (number 
   begins_with (Exit there) at x d k st = ap (λ l. onward l 0 at k []) st.here
   begins_with (For there w p first last step b) at x d k st = ap (λ l. onward l 0 at k []) st.here
   begins_with (Block there exclusive b) at x d k st = ap (λ l. onward l 0 at k []) st.here
+  begins_with (Await there n e) at x d k st = ap (λ l. onward l 0 at k []) st.here
   begins_with (Assert there e c) at x d k st = ap (λ l. onward l 0 at k []) st.here
   begins_with (Halt there c) at x d k st = ap (λ l. onward l 0 at k []) st.here
   begins_with (Change there c p e) at x d k st = ap (λ l. onward l 0 at k []) st.here
@@ -233,13 +235,13 @@ module _ (program : Program) (own : Option Procedure) (tables : Tables) (number 
     block_does there false b w at known has c =
         let cs = stats_code program own b (at + 1) x d in
         let rest = has.stands.rest in
-        let inner : HasStatements program own tables number here code b (at + 1) x d = record { stands = record { rest = rest; here = drop_next at code (begin there) (cs ++ rest) has.stands.here }; typed = has.typed; holds = has.holds } in
+        let inner : HasStatements program own tables number here code b (at + 1) x d = record { stands = record { rest = rest; here = drop_next at code (begin there) (cs ++ rest) has.stands.here }; typed = has.typed; home = has.home; linked = has.linked; holds = has.holds } in
         let len : at + suc (length cs) ≡ at + 1 + length cs = omega arith in
         record { at = at + 1; ways = x; level = d; keeps = k; runs = refl; carries = carries_all program own tables number here code b (at + 1) x d k after inner (subst Carried len c) }
     block_does there true b w at known has c =
         let cs = block_code true (stats_code program own b (at + 1 + 1) (block_ways true x) d) in
         let rest = has.stands.rest in
-        let inner : HasRegion program own tables number here code b (at + 1) x d = record { stands = record { rest = rest; here = drop_next at code (begin there) (cs ++ rest) has.stands.here }; typed = has.typed; holds = has.holds } in
+        let inner : HasRegion program own tables number here code b (at + 1) x d = record { stands = record { rest = rest; here = drop_next at code (begin there) (cs ++ rest) has.stands.here }; typed = has.typed; home = has.home; linked = has.linked; holds = has.holds } in
         let len : at + suc (length cs) ≡ at + 1 + length cs = omega arith in
         let c' : Carried (at + 1 + length cs) = subst Carried len c in
         let le : at + 1 ≤ x.exit = omega (arith, bound program own tables number here code after (at + 1 + length cs) x d k c') in
@@ -249,6 +251,16 @@ module _ (program : Program) (own : Option Procedure) (tables : Tables) (number 
     halt_does there n w at known has c =
         let rest = has.stands.rest in
         (from_here (at + 1) (i.Halt n ∷ rest) k [] (drop_next at code (begin there) (i.Halt n ∷ rest) has.stands.here), omega arith)
+
+    -- the condition is one over the frame
+    pub await_does : (there : Pos) (n : ℕ) (e : Expr) → StatementDoes program own tables number here code x d k after (Await there n e)
+    await_does there n e w at known has c =
+        let rest = has.stands.rest in
+        let h1 : drop (at + 1) code ≡ i.Await n ∷ rest = drop_next at code (begin there) (i.Await n ∷ rest) has.stands.here in
+        let len : at + 2 ≡ at + 1 + 1 = omega arith in
+        let is : Condition = record { home = has.home; own = own; at = there; expression = e } in
+        last_asks (Awaits n) w _ (at + 1) rest (from_here (at + 1) (i.Await n ∷ rest) k [] h1) (is, has.linked, has.typed.0, has.typed.1, known)
+        (drop_next (at + 1) code (i.Await n) rest h1) (subst Carried len c)
 
     module _ (typed : HasTypes program) (shaped : HasShapes program tables) where
       pub assign_does : (there : Pos) (t : TType) (pl : Place) (e : Expr) → StatementDoes program own tables number here code x d k after (Assign there t pl e)

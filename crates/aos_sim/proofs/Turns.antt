@@ -11,9 +11,9 @@ use Rattle.aos_base.specs.declared.place.Root.TheVariants.{Frame as FrameRoot}
 use Rattle.aos_base.specs.Text.{order}
 use Rattle.aos_base.specs.declared.text.Pos.{Pos}
 use Rattle.aos_base.specs.declared.kernel.Did.{Did}
-use Rattle.aos_base.specs.declared.kernel.Did.TheVariants.{Went, Ended as NoFrame, Enter, Leave, Trapped}
+use Rattle.aos_base.specs.declared.kernel.Did.TheVariants.{Went, Ended as NoFrame, Enter, Leave, Await, Start, Trapped}
 use Rattle.aos_base.specs.declared.kernel.LockName.{LockName}
-use Rattle.aos_base.specs.Question.{Val, Asks, Traps, bind, feed, Reads, Stores, Copies, PutsText, ComparesTexts, Calls, Ends, Makes, Starts, Enters, Leaves, PutsInt, PutsChar, PutsString, PutsNothing, PutsLn, Places, Lengths, Opens, Sizes, Tests, Manner}
+use Rattle.aos_base.specs.Question.{Val, Asks, Traps, bind, feed, Reads, Stores, Copies, PutsText, ComparesTexts, Calls, Ends, Makes, Starts, Enters, Leaves, Awaits, PutsInt, PutsChar, PutsString, PutsNothing, PutsLn, Places, Lengths, Opens, Sizes, Tests, Manner}
 use Rattle.aos_base.specs.Rooted.{Made, Rooted, by_number, spliced}
 use Rattle.aos_types.specs.Table.{row_of as type_row, is_open}
 use Rattle.aos_types.specs.Shape.{Shape, One, leaves}
@@ -42,7 +42,7 @@ use Rattle.aos_code.specs.declared.image.TypeDesc.{TypeDesc}
 use Rattle.aos_code.specs.declared.image.Image.{Image}
 use Rattle.aos_code.specs.Numbered.{numbered}
 use Rattle.aos_code.specs.Memory.{Memory, has_room as memory_room, with_object as with_cells}
-use Rattle.aos_code.specs.Silent.{Here as CodeHere, Stack, Keeps, Question, Begins, Fails, Stop, Work, Ended, silent}
+use Rattle.aos_code.specs.Silent.{Here as CodeHere, Stack, Keeps, Question, Begins, Fails, Decides, Stop, Work, Ended, silent}
 use Rattle.aos_code.specs.Machine as I
 use Rattle.aos_code.specs.Machine.{first_cell, code_of}
 use Rattle.aos_concurrency.specs.Spot.{GoesPast}
@@ -58,11 +58,11 @@ use Rattle.aos_sim.specs.Shows.{shape_of, type_kinds, made_kinds}
 use Rattle.aos_layout.specs.Layout.{kind_of as layout_kind}
 use Rattle.aos_layout.specs.Seen.{seen_shape}
 use Rattle.aos_sim.proofs.Kept.{values_kept}
-use Rattle.aos_sim.proofs.Runs.{Run, Tables, tables_of, in_code, is_asked_at_once, AtBegin, Onward, gives_result, past, calm, runs, run, resume, run_by_silent, feed-append}
+use Rattle.aos_sim.proofs.Runs.{Run, Tables, tables_of, in_code, is_asked_at_once, AtBegin, Decided, Onward, gives_result, past, calm, runs, run, resume, run_by_silent, feed-append}
 use Rattle.aos_sim.proofs.Types.{integer_is, character_is}
 use Rattle.aos_sim.proofs.Results.{natural_is}
 use Rattle.aos_sim.proofs.References.{stored_kind}
-use Rattle.aos_sim.proofs.Does.{IsSelf, IsCalledOn, scheme, addr_of, placed, HasCharacters, HasText, HasTypes, HasShapes, Knows, IsWhole, IsAnswer, IsResult, IsVisible, IsCalm, Valid, Conforms, Does, Calmly, Lasts, along, knows_grows, calm_does, heard_on, calm_heard, does_last, feed_noted, calm_seen, calm_visible_same, calm_bind, feed_noted_bind, lasts_calm, lasts_calm_on}
+use Rattle.aos_sim.proofs.Does.{IsSelf, IsCalledOn, scheme, addr_of, placed, HasCharacters, HasText, HasTypes, HasShapes, Knows, IsWhole, IsAnswer, IsResult, IsVisible, IsCalm, Valid, Conforms, Does, Calmly, Lasts, along, knows_grows, calm_does, heard_on, calm_heard, does_last, feed_noted, calm_seen, valid_grows, calm_visible_same, calm_bind, feed_noted_bind, lasts_calm, lasts_calm_on}
 use Rattle.aos_sim.proofs.Carries.{IsOwn, AtEnd, GoesOn, GivesBack, Returning, Behind, Remains, BeginsAt, AtNext, ItemsDo}
 use Rattle.aos_sim.proofs.Regions.{Each, Marked as ItsMarks, each_calm, each_fed, item_marked, leave_marks, leave_all_marks, items_plain, body_none}
 use Rattle.aos_concurrency.proofs.Tables.{lock, is_itself}
@@ -77,7 +77,7 @@ use Rattle.aos_sim.proofs.Created.{numbers_found, made_plain, made_cells, begun,
 use Rattle.aos_sim.proofs.Copied.{copied_alike}
 use Rattle.aos_sim.proofs.Objects.{some_same}
 use Rattle.aos_sim.proofs.Texts.{AreCodes, fitted_same, fitted_within, TextAlike, text_alike, stored_alike as text_stored_alike}
-use Rattle.aos_sim.proofs.Starting.{silent_at_start, run_at_start, silent_at_entry, silent_at_end, run_at_entry, run_at_end}
+use Rattle.aos_sim.proofs.Starting.{silent_at_start, run_at_start, silent_at_await, run_at_await, silent_at_entry, silent_at_end, run_at_entry, run_at_end}
 
 -- Where silent work stops, by the run from there.
 
@@ -98,31 +98,45 @@ module _ (tables : Tables) (own : ℕ) (here : Here) (code : List Instr) where
       let d : k' ≡ k = cc e in
       λ j. Ended (Begins (a j) (b j) (c j)) (d j)
   stop_begins (Ended (Fails n c) k') p at k st e = absurd (cc e)
+  stop_begins (Ended (Decides z) k') p at k st e = absurd (cc e)
+
+  -- at the end of a condition
+  pub stop_decides : (stop : Stop) (z : ℤ) → resume tables own here code stop ≡ Val (Decided z) → (k : Keeps) × (stop ≡ Ended (Decides z) k)
+  stop_decides (Work q p k st) z e = by (is_asked_at_once q) e
+    where
+      by : (b : Bool) → (if b then Traps 16 0 else Asks q (work_at q p k st)) ≡ Val (Decided z) → (k' : Keeps) × (Work q p k st ≡ Ended (Decides z) k')
+      by true e = absurd (cc e)
+      by false e = absurd (cc e)
+  stop_decides (Ended (Begins p at st) k) z e = absurd (cc e)
+  stop_decides (Ended (Fails n c) k) z e = absurd (cc e)
+  stop_decides (Ended (Decides y) k) z e = let a : y ≡ z = cc e in (k, λ j. Ended (Decides (a j)) k)
 
   -- with a trap of the language
-  stop_fails : (stop : Stop) (n c : ℕ) → n < 16 → resume tables own here code stop ≡ Traps n c → (k : Keeps) × (stop ≡ Ended (Fails n c) k)
+  pub stop_fails : (stop : Stop) (n c : ℕ) → n < 16 → resume tables own here code stop ≡ Traps n c → (k : Keeps) × (stop ≡ Ended (Fails n c) k)
   stop_fails (Work q p k st) n c l e = by (is_asked_at_once q) e
     where
       by : (b : Bool) → (if b then Traps 16 0 else Asks q (work_at q p k st)) ≡ Traps n c → (k' : Keeps) × (Work q p k st ≡ Ended (Fails n c) k')
       by true e = let h : 16 ≡ n = cc e in absurd (omega (arith, h, l))
       by false e = absurd (cc e)
   stop_fails (Ended (Begins p at st) k) n c l e = absurd (cc e)
+  stop_fails (Ended (Decides z) k) n c l e = absurd (cc e)
   stop_fails (Ended (Fails n' c') k) n c l e =
       let a : n' ≡ n = cc e in
       let b : c' ≡ c = cc e in
       (k, λ j. Ended (Fails (a j) (b j)) k)
 
   -- a stop at this question, behind which the run goes on as d says
-  record AtWork (q : Question) (d : Cell → Run) (stop : Stop) : Type 0 where
-    at : ℕ
-    keeps : Keeps
-    stack : Stack
-    is : stop ≡ Work q at keeps stack
-    on : (x : Cell) → d x ≡ past tables q x at keeps stack (λ over at' k' s'. runs tables own here code (drop at' code) over at' k' s')
+  pub record AtWork (q : Question) (d : Cell → Run) (stop : Stop) : Type 0 where
+    pub at : ℕ
+    pub keeps : Keeps
+    pub stack : Stack
+    pub is : stop ≡ Work q at keeps stack
+    pub on : (x : Cell) → d x ≡ past tables q x at keeps stack (λ over at' k' s'. runs tables own here code (drop at' code) over at' k' s')
 
-  stop_works : (stop : Stop) (q : Question) (d : Cell → Run) → resume tables own here code stop ≡ Asks q d → AtWork q d stop
+  pub stop_works : (stop : Stop) (q : Question) (d : Cell → Run) → resume tables own here code stop ≡ Asks q d → AtWork q d stop
   stop_works (Ended (Begins p at st) k) q d e = absurd (cc e)
   stop_works (Ended (Fails n c) k) q d e = absurd (cc e)
+  stop_works (Ended (Decides z) k) q d e = absurd (cc e)
   stop_works (Work q' p k st) q d e = by (is_asked_at_once q') e
     where
       by : (b : Bool) → (if b then Traps 16 0 else Asks q' (work_at q' p k st)) ≡ Asks q d → AtWork q d (Work q' p k st)
@@ -154,19 +168,59 @@ one_mark l true is marked = cc marked
 one_mark l false is marked = absurd (cc marked)
 
 module _ (program : Program) (image : Image) where
+  -- what is awaited is a condition over the topmost of these frames
+  abbrev pub IsAwaited : List Made → ℕ → List S.Frame → Type 0
+  IsAwaited made c [] = Unit {0}
+  IsAwaited made c (f ∷ fs) = Valid program (S.here_of f fs) (world_of program made (shapes_of (f ∷ fs))) (Awaits c)
+
+  abbrev pub Awaited : List Made → Did → S.Frames → Type 0
+  Awaited made Went x = Unit {0}
+  Awaited made NoFrame x = Unit {0}
+  Awaited made (Enter l) x = Unit {0}
+  Awaited made (Leave l) x = Unit {0}
+  Awaited made (Await l c) x = IsAwaited made c x.frames
+  Awaited made (Start o) x = Unit {0}
+  Awaited made (Trapped n c) x = Unit {0}
+
+  pub awaited_grows : (made more : List Made) (w : Did) (x : S.Frames) → Awaited made w x → Awaited (made ++ more) w x
+  awaited_grows made more Went x h = tt
+  awaited_grows made more NoFrame x h = tt
+  awaited_grows made more (Enter l) x h = tt
+  awaited_grows made more (Leave l) x h = tt
+  awaited_grows made more (Start o) x h = tt
+  awaited_grows made more (Trapped n c) x h = tt
+  awaited_grows made more (Await l c) x h = by x.frames h
+    where
+      by : (fs : List S.Frame) → IsAwaited made c fs → IsAwaited (made ++ more) c fs
+      by [] h = tt
+      by (f ∷ fs) h =
+          let shapes = shapes_of (f ∷ fs) in
+          valid_grows program (S.here_of f fs) (world_of program made shapes) (world_of program (made ++ more) shapes) (objects_grow (scheme program) made more shapes) (Awaits c) h
+
   -- the frames of an activity before work: the same, now and behind work that the kernel does
   pub record Together (s : Store) (mem : Memory) (w : Did) (x : S.Frames) (y : I.Frames) : Type 0 where
     pub now : Same program image s.made x y
     pub behind : GoesPast (Outside (S.source program)) w x → Same program image s.made (S.past program x) (I.past image y)
+    pub awaited : Awaited s.made w x
 
   abbrev pub Alike : S.Turned → I.Turned → Type 0
   Alike = SameTurn (SameStore program) Together
+
+  -- which isn't so of work that isn't gone past
+  none_awaited : (made : List Made) (w : Did) (x : S.Frames) → (GoesPast (Outside (S.source program)) w x → ⊥) → Awaited made w x
+  none_awaited made Went x never = tt
+  none_awaited made NoFrame x never = tt
+  none_awaited made (Enter l) x never = tt
+  none_awaited made (Leave l) x never = tt
+  none_awaited made (Await l c) x never = absurd (never tt)
+  none_awaited made (Start o) x never = tt
+  none_awaited made (Trapped n c) x never = tt
 
   -- what isn't gone past
   went : (s : Store) (mem : Memory) (bytes : List ℕ) (begun : Bool) (w : Did) (x : S.Frames) (y : I.Frames) → (GoesPast (Outside (S.source program)) w x → ⊥) → SameState program image s mem x y →
       Alike (record { store = s; frames = x; output = bytes; begun = begun; left = w }) (record { store = mem; frames = y; output = bytes; begun = begun; left = w })
   went s mem bytes begun w x y never h =
-      record { stores = h.stores; frames = record { now = h.same; behind = λ k. absurd (never k) }; left = refl; output = refl; begun = refl }
+      record { stores = h.stores; frames = record { now = h.same; behind = λ k. absurd (never k); awaited = none_awaited s.made w x never }; left = refl; output = refl; begun = refl }
 
   -- an end is that of the frame below with its answer
   ends_is : (ms : List ℕ) (r : Option Value) (fs : List S.Frame) (s : Store) → S.ends ms r fs s ≡ S.goes_on ms (S.with_result ms (answer_of program image r) fs) s
@@ -565,11 +619,43 @@ module _ (program : Program) (image : Image) where
               behind = λ z.
                   subst (λ y. Same program image s.made (S.all_frames ms (S.answered S.done top ∷ fs)) (I.all_frames ps (I.past_stop y at_start ∷ gs))) (sym stop_is)
                   (done_so q x tt refl).same;
+              awaited = tt;
             };
             left = refl;
             output = refl;
             begun = refl;
           }
+
+      -- a condition is awaited: in a region the frames stand before the instruction, and past it the code is behind it
+      awaits_alike : (c : ℕ) (x : Asking (Awaits c)) → Alike (S.answer program ms (Awaits c) top fs s) (I.answer ps shapes types (Awaits c) x.at x.keeps x.stack low gs mem)
+      awaits_alike c x =
+          subst (λ l. Alike (S.awaits ms (locks_in (S.lock_of f) (i ∷ is)) c top fs s) (I.awaits ps g.is_open l c x.at x.keeps x.stack low gs mem)) (sym (lock_is (i ∷ is) (Some t) next k st))
+          (subst (λ ls. Alike (S.awaits ms ls c top fs s) (I.awaits ps g.is_open (S.lock_of f) c x.at x.keeps x.stack low gs mem)) (sym marked) (by g.is_open))
+        where
+          by : (b : Bool) → Alike (S.awaits ms (locks_open b (S.lock_of f)) c top fs s) (I.awaits ps b (S.lock_of f) c x.at x.keeps x.stack low gs mem)
+          by false = went s mem [] false Went _ _ (λ z. z) (done_so (Awaits c) x tt refl)
+          by true =
+              let q = Awaits c in
+              let at_await = I.before ps x.at x.keeps x.stack low in
+              let stop = silent_at_await tables now.made g.procedure here g.cells code next k st c x.at x.keeps x.stack x.stop (λ o. None) in
+              let ran = run_at_await tables now.made g.procedure here g.cells code next k st c x.at x.keeps x.stack x.stop in
+              let long = sym (waiting_length program image s.made (result_of own) fs gs below) in
+              let stop_is = (λ j. silent shapes types (λ o. None) g.procedure (record { below = long j; self = place.object_is j }) g.cells code x.at x.keeps x.stack) ∙ stop in
+              let on : (w : World Sort) → Grows now w → (v : Value) → Conforms program w q v → Does program here (Leads is) w (run_from (x.at + 1) x.keeps x.stack) (x.onto v) = λ w up v c. along program here (Leads is) w (run_from (x.at + 1) x.keeps x.stack) (x.code_on (cell_of w v)) (x.onto v) (sym (x.on (cell_of w v))) (x.after w up v c) in
+              let still = subst (λ r. Does program here (Leads is) now (run_from x.at x.keeps x.stack) r) (sym x.asks) ((λ z. run_from (x.at + 1) x.keeps x.stack), ran, x.valid, on) in
+              record {
+                stores = stores;
+                frames = record {
+                  now = (went_state i is t x.at x.keeps x.stack marked still).same;
+                  behind = λ z.
+                      subst (λ y. Same program image s.made (S.all_frames ms (S.answered S.done top ∷ fs)) (I.all_frames ps (I.past_stop y at_await ∷ gs))) (sym stop_is)
+                      (done_so q x tt refl).same;
+                  awaited = x.valid;
+                };
+                left = refl;
+                output = refl;
+                begun = refl;
+              }
 
       -- a procedure is called: a frame is made on both sides, and this one waits for its end
       module _ (how : Manner) (n : ℕ) (vs : List Value) (x : Asking (Calls how n vs)) where
@@ -733,6 +819,7 @@ module _ (program : Program) (image : Image) where
           (starts_alike x.valid.0) x
       work_alike Enters x = absurd x.valid
       work_alike Leaves x = absurd x.valid
+      work_alike (Awaits c) x = awaits_alike c x
       work_alike (PutsInt v n) x =
           subst (λ o. Alike (S.prints ms (S.written v n) top fs s) (I.prints ps o x.at x.keeps x.stack low gs mem)) (written_alike now v n x.valid.0 x.valid.1)
           (prints_alike (S.written v n) x.at x.keeps x.stack (done_so (PutsInt v n) x tt refl))
@@ -886,6 +973,7 @@ module _ (program : Program) (image : Image) where
                     shown = shown;
                     regions = (items_plain (S.lock_of f) ss (End ∷ is) ∙ ap (λ ls. S.lock_of f ∷ ls) none, marks);
                   });
+              awaited = tt;
             };
             left = ap (λ l. Enter l) (sym (lock_is items answers next k st));
             output = refl;
@@ -915,6 +1003,7 @@ module _ (program : Program) (image : Image) where
                     shown = shown;
                     regions = (one_mark (S.lock_of f) g.is_open is marked_is, marks);
                   });
+              awaited = tt;
             };
             left = ap (λ l. Leave l) (sym (lock_is items answers next k st));
             output = refl;

@@ -21,7 +21,7 @@ use Rattle.aos_layout.specs.Frame.{frame, parameter_kind}
 use Rattle.aos_code.specs.Silent.{kinds_of}
 use Rattle.aos_types.specs.declared.row.TypeRow.{TypeRow}
 use Rattle.aos_types.specs.Table.{row_of, is_procedure}
-use Rattle.aos_typed.specs.Program.{Place, ModuleVar, Local, Passed, Field, Index, Of, Deref, Typed, Guarded, Rows, Known, Opened, Row, Spread, Longer, Arguments, NoMore, Scalar, Whole, Opening, Callee, Plain, Dispatched, Upper, Through, Expr, Lit, SelfRef, Read, Unary, Binary, And, Or, Element, Ord, Chr, CompareTexts, Len, LenBehind, Function, Same, Is, IsRecord, Guard, ProcedureOf, MethodOf, SameProcedure, Had, Call, Open, Char, Int, String, Ln, Stat, Assign, Copy, PutText, If, Case, While, Repeat, Loop, Exit, For, Block, Assert, Halt, Change, Perform, Return, New, Make, With, WithRecord, Out, Stats, Nothing, Then, Arms, Otherwise, Arm, Cases, NoElse, Else, OfLabels, Parameter, Body, Procedure, Program}
+use Rattle.aos_typed.specs.Program.{Place, ModuleVar, Local, Passed, Field, Index, Of, Deref, Typed, Guarded, Rows, Known, Opened, Row, Spread, Longer, Arguments, NoMore, Scalar, Whole, Opening, Callee, Plain, Dispatched, Upper, Through, Expr, Lit, SelfRef, Read, Unary, Binary, And, Or, Element, Ord, Chr, CompareTexts, Len, LenBehind, Function, Same, Is, IsRecord, Guard, ProcedureOf, MethodOf, SameProcedure, Had, Call, Open, Char, Int, String, Ln, Stat, Assign, Copy, PutText, If, Case, While, Repeat, Loop, Exit, For, Block, Await, Assert, Halt, Change, Perform, Return, New, Make, With, WithRecord, Out, Stats, Nothing, Then, Arms, Otherwise, Arm, Cases, NoElse, Else, OfLabels, Parameter, Body, Procedure, Program}
 use Rattle.aos_typed.specs.Source.{module_shape}
 use Rattle.aos_sim.specs.Search.{arms_in, search_of, search_size, search_code}
 use Rattle.aos_typed.specs.declared.tree.TType.{TType}
@@ -30,7 +30,7 @@ use Rattle.aos_typed.specs.declared.tree.TType.TheVariants.{Integer}
 use Rattle.aos_code.specs.declared.instr.Kind.{Kind}
 use Rattle.aos_code.specs.declared.instr.Kind.TheVariants.{N, R, C}
 use Rattle.aos_code.specs.declared.instr.Instr.{Instr}
-use Rattle.aos_code.specs.declared.instr.Instr.TheVariants.{Num, Nil, NilCall, Proc, Bind, EqCall, CallValue, SelfRef as SelfOf, Virtual, Deref as DerefOf, OpenRef, EqRef, Is as IsOf, IsPlace, Guard as GuardOf, GuardPlace, NewArray, Dup, Drop, Swap, Frame as FrameOf, Param, Length, IndexOpen, PickLen, Call as CallOf, Keep, Kept, Fail, Assert as AssertOf, Halt as HaltOf, Module, Offset, Index as IndexOf, Unary as OnOne, Binary as OnTwo, Jump, JumpFalse, Begin, Load, Store, Copy as CopyOf, PutText as PutTextOf, CmpText, NewObject, Start, Enter, Leave, Return as ReturnOf, OutChar, OutInt, OutString, OutLn, OutOpen}
+use Rattle.aos_code.specs.declared.instr.Instr.TheVariants.{Num, Nil, NilCall, Proc, Bind, EqCall, CallValue, SelfRef as SelfOf, Virtual, Deref as DerefOf, OpenRef, EqRef, Is as IsOf, IsPlace, Guard as GuardOf, GuardPlace, NewArray, Dup, Drop, Swap, Frame as FrameOf, Param, Length, IndexOpen, PickLen, Call as CallOf, Keep, Kept, Fail, Assert as AssertOf, Halt as HaltOf, Module, Offset, Index as IndexOf, Unary as OnOne, Binary as OnTwo, Jump, JumpFalse, Begin, Load, Store, Copy as CopyOf, PutText as PutTextOf, CmpText, NewObject, Start, Enter, Leave, Await as AwaitOf, Verdict, Return as ReturnOf, OutChar, OutInt, OutString, OutLn, OutOpen}
 
 abbrev pub begin : Pos → Instr
 begin at = Begin at.line at.col
@@ -381,6 +381,7 @@ module _ (program : Program) (own : Option Procedure) where
         head ++ rounds_with here w p step (stats_code body (body_place w p first) ways (suc level)) first level
     stat_code (Block here exclusive body) at ways level =
         begin here ∷ block_code exclusive (stats_code body (block_at exclusive (at + 1)) (block_ways exclusive ways) level)
+    stat_code (Await here n e) at ways level = begin here ∷ (AwaitOf n ∷ [])
     stat_code (Assert here e code) at ways level = begin here ∷ (value_code e (at + 1) ++ AssertOf code ∷ [])
     stat_code (Halt here code) at ways level = begin here ∷ (HaltOf code ∷ [])
     stat_code (Change here c p e) at ways level = changed_code here c p e at
@@ -442,3 +443,7 @@ module _ (program : Program) (own : Option Procedure) where
 
   abbrev pub body_code : Body → List Instr
   body_code b = statements_code b (length (statements_code b 0)) ++ end_code
+
+  -- a condition, which is evaluated over a frame of the procedure: its value, and the end that takes it
+  abbrev pub condition_code : Expr → List Instr
+  condition_code e = value_code e 0 ++ Verdict ∷ []

@@ -1,9 +1,10 @@
 -- How many operands code has at most, beyond those that are there where it begins.
 use Rattle.std.specs.Prelude.{◌≡◌, ℕ, suc, ◌+◌, List, [], ◌∷◌, map, max, length, Some, None}
 pub use Rattle.aos_typed.specs.Operands.{dimensions, operands}
-use Rattle.aos_typed.specs.Program.{Place, ModuleVar, Local, Passed, Field, Index, Of, Deref, Typed, Guarded, Rows, Known, Opened, Row, Spread, Longer, Arguments, NoMore, Scalar, Whole, Opening, Callee, Plain, Dispatched, Upper, Through, Expr, Lit, SelfRef, Read, Unary, Binary, And, Or, Element, Ord, Chr, CompareTexts, Len, LenBehind, Function, Same, Is, IsRecord, Guard, ProcedureOf, MethodOf, SameProcedure, Had, Call, Open, Char, Int, String, Ln, Stat, Assign, Copy, PutText, If, Case, While, Repeat, Loop, Exit, For, Block, Assert, Halt, Change, Perform, Return, New, Make, With, WithRecord, Out, Stats, Nothing, Then, Arms, Otherwise, Arm, Cases, NoElse, Else, OfLabels, Program}
+use Rattle.aos_typed.specs.Program.{Place, ModuleVar, Local, Passed, Field, Index, Of, Deref, Typed, Guarded, Rows, Known, Opened, Row, Spread, Longer, Arguments, NoMore, Scalar, Whole, Opening, Callee, Plain, Dispatched, Upper, Through, Expr, Lit, SelfRef, Read, Unary, Binary, And, Or, Element, Ord, Chr, CompareTexts, Len, LenBehind, Function, Same, Is, IsRecord, Guard, ProcedureOf, MethodOf, SameProcedure, Had, Call, Open, Char, Int, String, Ln, Stat, Assign, Copy, PutText, If, Case, While, Repeat, Loop, Exit, For, Block, Await, Assert, Halt, Change, Perform, Return, New, Make, With, WithRecord, Out, Stats, Nothing, Then, Arms, Otherwise, Arm, Cases, NoElse, Else, OfLabels, Program}
 use Rattle.aos_typed.specs.declared.tree.Change.{Change as Changing}
 use Rattle.aos_typed.specs.declared.tree.Change.TheVariants as change
+use Rattle.aos_typed.specs.Conditions.{conditions}
 use Rattle.aos_typed.specs.Routines.{routines}
 use Rattle.aos_code.specs.declared.image.Image.{Image}
 
@@ -118,6 +119,7 @@ abbrev mutual
       max (max (value_need to) (assign_need (place_need p) (value_need from)))
       (max (assign_need (place_need p) (max (place_need p) 2)) (stats_need body))
   stat_need (Block here exclusive body) = stats_need body
+  stat_need (Await here n e) = 0
   stat_need (Assert here e code) = value_need e
   stat_need (Halt here code) = 0
   stat_need (Change here c p e) = changed_need c (place_need p) (value_need e)
@@ -158,6 +160,7 @@ abbrev mutual
   stat_level (Exit here) d = d
   stat_level (For here w p from to step body) d = stats_level body (suc d)
   stat_level (Block here exclusive body) d = stats_level body d
+  stat_level (Await here n e) d = d
   stat_level (Assert here e code) d = d
   stat_level (Halt here code) d = d
   stat_level (Change here c p e) d = d
@@ -190,7 +193,8 @@ body_need ss = stats_need ss
 abbrev pub keeps_of : Stats → ℕ
 keeps_of ss = stats_level ss 0
 
--- each body of an image of the program has as many operands at most as its statements need
-abbrev pub HasDepthsOf : Program → Image → Type 0
-HasDepthsOf p image =
-    map (λ b. b.depth) image.bodies.items ≡ map (λ r. body_need r.body.statements) (routines p)
+-- each body of an image of the program has as many operands at most as its statements need, and that of a condition as its expression
+-- needs
+pub record HasDepthsOf (p : Program) (image : Image) : Type 0 where
+  pub bodies : map (λ b. b.depth) image.bodies.items ≡ map (λ r. body_need r.body.statements) (routines p)
+  pub conditions : map (λ b. b.depth) image.conds.items ≡ map (λ c. value_need c.expression) (conditions p)

@@ -10,6 +10,7 @@ use Rattle.aos_types.specs.Shape.{leaves, row, size}
 use Rattle.aos_typed.specs.Program.{Procedure, Module, Program}
 use Rattle.aos_typed.specs.Methods.{body_type, slots, own_numbers}
 use Rattle.aos_typed.specs.Numbers.{body_number, predeclared_types}
+use Rattle.aos_typed.specs.Conditions.{conditions}
 use Rattle.aos_typed.specs.Routines.{Routine, routines}
 use Rattle.aos_typed.specs.Source.{source, first_state}
 use Rattle.aos_code.specs.declared.instr.Cell.{Cell}
@@ -24,7 +25,7 @@ use Rattle.aos_layout.specs.Layout.{variable_cells, block}
 pub use Rattle.aos_layout.specs.Layout.{type_kinds, made_kinds, base_number}
 use Rattle.aos_layout.specs.Frame.{Known, known}
 use Rattle.aos_layout.specs.Seen.{seen_shape}
-use Rattle.aos_sim.specs.Code.{body_code}
+use Rattle.aos_sim.specs.Code.{body_code, condition_code}
 use Rattle.aos_sim.specs.Need.{keeps_of}
 
 -- as many numbers as the list has elements, from this one on
@@ -66,10 +67,11 @@ shape_of rows r = by r.own
         }
     by (Some q) = known rows r.home (keeps_of r.body.statements) q
 
--- These bodies, shapes and descriptions are the code of a program: each routine has a body and a shape, those of modules first. The
--- cells of a module have numbers of 32 bits.
-pub record IsCode (p : Program) (bs : List Body) (ss : List ProcShape) (ds : List ModuleDesc) (ts : List TypeDesc) : Type 0 where
+-- These bodies, conditions, shapes and descriptions are the code of a program: each routine has a body and a shape, those of modules
+-- first, and each condition has its code. The cells of a module have numbers of 32 bits.
+pub record IsCode (p : Program) (bs cs : List Body) (ss : List ProcShape) (ds : List ModuleDesc) (ts : List TypeDesc) : Type 0 where
   pub bodies : map (λ b. b.code.items) bs ≡ map (λ r. body_code p r.own r.body) (routines p)
+  pub conditions : map (λ b. b.code.items) cs ≡ map (λ c. condition_code p c.own c.expression) (conditions p)
   pub shapes : map seen_shape ss ≡ map (shape_of p.types) (routines p)
   pub starts : map (λ d. d.body) ds ≡ numbers_from 1 p.modules
   pub types : map (λ t. t.body) ts ≡ body_numbers p
@@ -82,7 +84,7 @@ pub record IsCode (p : Program) (bs : List Body) (ss : List ProcShape) (ds : Lis
 
 -- the image has the program's code
 abbrev pub IsCodeOf : Program → Image → Type 0
-IsCodeOf p image = IsCode p image.bodies.items image.shapes.items image.modules.items image.types.items
+IsCodeOf p image = IsCode p image.bodies.items image.conds.items image.shapes.items image.modules.items image.types.items
 
 -- for every budget and schedule both executions have the same observation and the same events
 pub record Shows (p : Program) (image : Image) : Type 0 where

@@ -22,12 +22,11 @@ pub fn image_is_never_lost()
     ensures { (p : Program) (image : Image) → IsWellTyped p → IsCodeOf p image → NeverLost image }
 {}
 
-/// In every state of every execution of a program at most one activity is in a lock's regions and
-/// doesn't wait for the lock, and it is the owner; a lock with an entrant has an owner; an activity
-/// that has ended owns nothing and stands nowhere; and each activity stands in one queue at most.
-/// Each release gives the lock to the first waiter whose condition holds or traps, else to the first
-/// entrant, else to nobody. Each trap line has a trap at its entry of the schedule, and no other entry
-/// adds one. Where an execution is Dead, each activity that hasn't ended stands in a lock's list.
+/// In every state of every execution of a program at most one activity is in a lock's regions and waits for no condition there, and it
+/// is the owner; a lock with an entrant has an owner; an activity that has ended owns nothing and stands nowhere; and each one stands in
+/// one place at most. Each release gives the lock to whom it is due, that of an activity whose condition fails too, which stands last
+/// among those who wait from then on; and a trap line is added exactly where a turn traps. Where an execution is Dead, each activity
+/// that hasn't ended stands in a lock's list.
 pub fn program_has_monitors()
     ensures { (p : Program) → HasMonitors p }
 {}

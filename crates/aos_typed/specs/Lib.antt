@@ -8,6 +8,7 @@ pub mod Meaning
 pub mod Source
 pub mod Numbers
 pub mod Routines
+pub mod Conditions
 pub mod WellTyped
 pub mod Sort
 pub mod Text

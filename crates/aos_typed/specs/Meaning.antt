@@ -14,8 +14,8 @@ use Rattle.aos_typed.specs.declared.tree.Change.{Change as Changing}
 use Rattle.aos_typed.specs.declared.tree.Change.TheVariants as change
 use Rattle.aos_typed.specs.declared.tree.LabelRange.{LabelRange}
 use Rattle.aos_typed.specs.declared.tree.TType.TheVariants.{Integer, Set}
-use Rattle.aos_base.specs.Question.{Tree, Val, Traps, bind, ask, Ask, ByName, ByType, Upward, Initially, ByCreator, ByValue, Reads, Stores, Copies, PutsText, ComparesTexts, Calls, Places, Lengths, Opens, Sizes, Tests, Makes, Starts, PutsInt, PutsChar, PutsString, PutsLn, PutsNothing}
-use Rattle.aos_typed.specs.Program.{Place, ModuleVar, Local, Passed, Field, Index, Of, Deref, Typed, Guarded, Rows, Known, Opened, Row, Spread, Longer, Arguments, NoMore, Scalar, Whole, Opening, Callee, Plain, Dispatched, Upper, Through, Expr, Lit, SelfRef, Read, Unary, Binary, And, Or, Element, Ord, Chr, CompareTexts, Len, LenBehind, Function, Same, Is, IsRecord, Guard, ProcedureOf, MethodOf, SameProcedure, Had, Call, Open as OutOpen, Char as OutChar, Int as OutInt, String as OutString, Ln as OutLn, Stat, Assign, Copy, PutText, If, Case, While, Repeat, Loop, Exit, For, Block, Assert, Halt, Change, Perform, Return, New, Make, With, WithRecord, Out, Stats, Nothing, Then, Arms, Otherwise, Arm, Cases, NoElse, Else, OfLabels, Body, Program}
+use Rattle.aos_base.specs.Question.{Tree, Val, Traps, bind, ask, Ask, ByName, ByType, Upward, Initially, ByCreator, ByValue, Reads, Stores, Copies, PutsText, ComparesTexts, Calls, Places, Lengths, Opens, Sizes, Tests, Makes, Starts, Awaits, PutsInt, PutsChar, PutsString, PutsLn, PutsNothing}
+use Rattle.aos_typed.specs.Program.{Place, ModuleVar, Local, Passed, Field, Index, Of, Deref, Typed, Guarded, Rows, Known, Opened, Row, Spread, Longer, Arguments, NoMore, Scalar, Whole, Opening, Callee, Plain, Dispatched, Upper, Through, Expr, Lit, SelfRef, Read, Unary, Binary, And, Or, Element, Ord, Chr, CompareTexts, Len, LenBehind, Function, Same, Is, IsRecord, Guard, ProcedureOf, MethodOf, SameProcedure, Had, Call, Open as OutOpen, Char as OutChar, Int as OutInt, String as OutString, Ln as OutLn, Stat, Assign, Copy, PutText, If, Case, While, Repeat, Loop, Exit, For, Block, Await, Assert, Halt, Change, Perform, Return, New, Make, With, WithRecord, Out, Stats, Nothing, Then, Arms, Otherwise, Arm, Cases, NoElse, Else, OfLabels, Body, Program}
 use Rattle.aos_types.specs.declared.row.TypeId.{TypeId}
 use Rattle.aos_types.specs.declared.row.TypeRow.{TypeRow}
 use Rattle.aos_types.specs.Extension.{comes_to}
@@ -372,6 +372,7 @@ pos_of (Loop at body) = at
 pos_of (Exit at) = at
 pos_of (For at w p from to step body) = at
 pos_of (Block at exclusive body) = at
+pos_of (Await at n e) = at
 pos_of (Assert at e code) = at
 pos_of (Halt at code) = at
 pos_of (Change at c p e) = at
@@ -430,6 +431,7 @@ module _ (p : Program) (here : Here) where
   stat_of (For at w q from to step body) =
       bind (value to) (λ v. Val (Into (Do (Assign at (Integer w) q from) ∷ Rounds at w q (number_of v) step body ∷ [])))
   stat_of (Block at exclusive body) = Val (Into (block_items exclusive body))
+  stat_of (Await at n e) = bind (ask (Awaits n)) (λ _. Val (Into []))
   stat_of (Assert at e code) = bind (value e) (λ v. if is_true v then Val (Into []) else Traps 7 code)
   stat_of (Halt at code) = Traps 8 code
   stat_of (Change at c q e) =

@@ -104,6 +104,7 @@ mutual
     Exit : Pos → Stat
     For : Pos → Width → Place → (from to : Expr) → (step : ℤ) → Stats → Stat
     Block : Pos → (exclusive : Bool) → Stats → Stat  -- an exclusive one is a region of its body's lock
+    Await : Pos → (number : ℕ) → Expr → Stat  -- a condition, with its number among those of the program
     Assert : Pos → Expr → (code : ℕ) → Stat
     Halt : Pos → (code : ℕ) → Stat
     Change : Pos → Changing → Place → Expr → Stat

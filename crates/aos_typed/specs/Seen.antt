@@ -26,7 +26,7 @@ use Rattle.aos_typed.specs.declared.tree.TMethod.{TMethod}
 use Rattle.aos_typed.specs.declared.tree.TObject.{TObject}
 use Rattle.aos_typed.specs.declared.tree.TModule.{TModule}
 use Rattle.aos_typed.specs.declared.tree.Program.{Program as TProgram}
-use Rattle.aos_typed.specs.Program.{Place, ModuleVar, Local, Passed, Field, Index, Of, Deref, Typed, Guarded, Rows, Known, Opened, Row, Spread, Longer, Arguments, NoMore, Scalar, Whole, Opening, Callee, Plain, Dispatched, Upper, Through, Expr, Lit, SelfRef, Read, Unary, Binary, And, Or, Element, Ord, Chr, CompareTexts, Len, LenBehind, Function, Same, Is, IsRecord, Guard, ProcedureOf, MethodOf, SameProcedure, Call, Open, Char, Int, String, Ln, Stat, Assign, Copy, PutText, If, Case, While, Repeat, Loop, Exit, For, Block, Assert, Halt, Change, Perform, Return, New, Make, With, WithRecord, Out, Stats, Nothing, Then, Arms, Otherwise, Arm, Cases, NoElse, Else, OfLabels, Variable, Parameter, Body, Procedure, Method, ObjectType, Module, Program}
+use Rattle.aos_typed.specs.Program.{Place, ModuleVar, Local, Passed, Field, Index, Of, Deref, Typed, Guarded, Rows, Known, Opened, Row, Spread, Longer, Arguments, NoMore, Scalar, Whole, Opening, Callee, Plain, Dispatched, Upper, Through, Expr, Lit, SelfRef, Read, Unary, Binary, And, Or, Element, Ord, Chr, CompareTexts, Len, LenBehind, Function, Same, Is, IsRecord, Guard, ProcedureOf, MethodOf, SameProcedure, Call, Open, Char, Int, String, Ln, Stat, Assign, Copy, PutText, If, Case, While, Repeat, Loop, Exit, For, Block, Await, Assert, Halt, Change, Perform, Return, New, Make, With, WithRecord, Out, Stats, Nothing, Then, Arms, Otherwise, Arm, Cases, NoElse, Else, OfLabels, Variable, Parameter, Body, Procedure, Method, ObjectType, Module, Program}
 
 abbrev mutual
   pub seen_place : TPlace → Place
@@ -109,6 +109,7 @@ abbrev mutual
   seen_stat (stat.Exit at) = Exit at
   seen_stat (stat.For' at w p from to step shape body) = For at w (seen_place p) (seen_expr from) (seen_expr to) step (seen_row body)
   seen_stat (stat.Block' at exclusive shape body) = Block at exclusive (seen_row body)
+  seen_stat (stat.Await at n e) = Await at n (seen_expr e)
   seen_stat (stat.Assert at e code) = Assert at (seen_expr e) code
   seen_stat (stat.Halt at code) = Halt at code
   seen_stat (stat.Change at c p e) = Change at c (seen_place p) (seen_expr e)

@@ -1,21 +1,23 @@
 -- A program as a machine: its store, its frames, and the turns of an activity.
-use Rattle.std.specs.Prelude.{ℕ, zero, suc, ◌+◌, nat_lt, sum_by, ◌++◌, List, [], ◌∷◌, length, drop, Bool, true, false, Option, Some, None, if◌then◌else◌, map, pos, unsigned_abs, slice_get, option_and_then}
+use Rattle.std.specs.Prelude.{ℕ, zero, suc, ◌+◌, nat_lt, sum_by, ◌++◌, List, [], ◌∷◌, length, drop, Bool, true, false, Option, Some, None, if◌then◌else◌, map, pos, unsigned_abs, slice_get, option_and_then, option_map}
 use Rattle.std.specs.List.{range_with_len}
 use Rattle.std.specs.Option.{unwrap_or}
 use Rattle.aos_base.specs.declared.text.Pos.{Pos}
 use Rattle.aos_base.specs.declared.place.Root.{Root}
 use Rattle.aos_base.specs.declared.place.Root.TheVariants.{Frame as FrameRoot, Module as ModuleRoot, Object as ObjectRoot}
 use Rattle.aos_base.specs.declared.kernel.Did.{Did}
-use Rattle.aos_base.specs.declared.kernel.Did.TheVariants.{Went, Ended, Enter, Leave, Start, Trapped}
+use Rattle.aos_base.specs.declared.kernel.Did.TheVariants.{Went, Ended, Enter, Leave, Await, Start, Trapped}
 use Rattle.aos_base.specs.declared.kernel.LockName.{LockName}
 use Rattle.aos_base.specs.declared.kernel.LockName.TheVariants.{Module as ModuleLock, Object as ObjectLock}
-use Rattle.aos_base.specs.declared.kernel.Verdict.TheVariants.{Fails}
+use Rattle.aos_base.specs.declared.kernel.Verdict.{Verdict}
+use Rattle.aos_base.specs.declared.kernel.Verdict.TheVariants.{Holds, Fails, Traps as TrapsWith}
+use Rattle.aos_base.specs.declared.number.Relation.{Relation}
 use Rattle.aos_base.specs.Number.{places_of, justified, holds, array_lengths}
 use Rattle.aos_base.specs.Text.{order}
 use Rattle.aos_base.specs.Book.{Where}
 use Rattle.aos_base.specs.Machine.{Turn, Machine, State, start_of}
 use Rattle.aos_base.specs.Rooted.{Made, Rooted, by_number, change_from_last}
-use Rattle.aos_base.specs.Question.{Val, Asks, Traps, feed, Reads, Stores, Copies, PutsText, ComparesTexts, Calls, Ends, Makes, Starts, Enters, Leaves, PutsInt, PutsChar, PutsString, PutsNothing, PutsLn, Places, Lengths, Opens, Sizes, Tests}
+use Rattle.aos_base.specs.Question.{Val, Asks, Traps, feed, Reads, Stores, Copies, PutsText, ComparesTexts, Calls, Ends, Makes, Starts, Enters, Leaves, Awaits, PutsInt, PutsChar, PutsString, PutsNothing, PutsLn, Places, Lengths, Opens, Sizes, Tests}
 use Rattle.aos_types.specs.declared.row.Basic.{Basic}
 use Rattle.aos_types.specs.declared.row.Basic.TheVariants as basic
 use Rattle.aos_types.specs.declared.row.TypeRow.{TypeRow}
@@ -30,6 +32,7 @@ use Rattle.aos_typed.specs.Program.{Body, Repeat, Variable as TypedVariable, Obj
 use Rattle.aos_typed.specs.Handed.{Part, nested, head, handed}
 use Rattle.aos_typed.specs.Numbers.{id_of, id_of_made}
 use Rattle.aos_typed.specs.Open.{open_element}
+use Rattle.aos_typed.specs.Conditions.{Condition, conditions}
 use Rattle.aos_typed.specs.Methods.{body_type}
 use Rattle.aos_typed.specs.Routines.{Routine, parameters_of, locals_of, has_self, gives, routines}
 use Rattle.aos_typed.specs.Sort.{Sort, Plain, Variable, Alias, Elements, Length, variable_shape, object_shape}
@@ -143,6 +146,18 @@ module _ (p : Program) where
   first_value (Elements t ns) = Int (pos 0)
   first_value (Length n) = Int (pos 0)
 
+-- The locks of the open regions, the latest entered first: each has its mark.
+
+abbrev pub locks_in : LockName → List Item → List LockName
+locks_in l [] = []
+locks_in l (Do st ∷ is) = locks_in l is
+locks_in l (Rounds at w p last step b ∷ is) = locks_in l is
+locks_in l (Round st ∷ is) = locks_in l is
+locks_in l (Until at b e ∷ is) = locks_in l is
+locks_in l (Region ss ∷ is) = locks_in l is
+locks_in l (End ∷ is) = l ∷ locks_in l is
+locks_in l (Gives r ∷ is) = []
+
 -- an activity's frames, of which the topmost runs
 module _ (following : List ℕ) where
   abbrev pub all_frames : List Frame → Frames
@@ -195,6 +210,12 @@ module _ (following : List ℕ) where
   starts (Object (suc k)) f fs s = leaves (Start (suc k)) (f ∷ fs) s
   starts v f fs s = goes_on (answered done f ∷ fs) s
 
+  -- a condition is left to the kernel by a frame with an open region, the first of whose locks this list has; no program that was accepted
+  -- awaits one outside a region
+  abbrev pub awaits : List LockName → ℕ → Frame → List Frame → Store → Turned
+  awaits [] c f fs s = goes_on (answered done f ∷ fs) s
+  awaits (l ∷ ls) c f fs s = leaves (Await l c) (f ∷ fs) s
+
   -- a place's contents take the parts of a shape from another's, which are read before; what isn't there is not, and no well-typed
   -- program comes to it
   abbrev pub copies : Shape Sort → (from to : Option (Content Value)) → Spot → List Frame → Store → Turned
@@ -214,6 +235,10 @@ module _ (following : List ℕ) where
   abbrev pub enters : Bool → Frame → List Frame → Store → Turned
   enters true g fs s = leaves (Trapped 11 0) fs s
   enters false g fs s = goes_on (g ∷ fs) s
+
+-- two texts compared
+abbrev pub compared : Relation → (left right : Option (Content Value)) → Value
+compared r a b = Flag (holds r (order (text_in a) (text_in b)) (pos 0))
 
 -- What a parameter stands for, and what an object tells by what it was made as, is known at once and no visible work: the one stands
 -- in the frame's own variables, the other never changes.
@@ -258,6 +283,28 @@ module _ (rows : List TypeRow) (made : ℕ → Option Made) (c : Content Value) 
   noted (Asks (Sizes v d) k) = let x = length_in d (made (object_in v)) in x ∷ noted (k x)
   noted (Asks (Tests v t) k) = let x = has_type_in t (made (object_in v)) in x ∷ noted (k x)
   noted (Asks q k) = []
+
+-- Verdicts.
+
+-- with the variables of an activity's frames and of the store too, while nothing changes
+module _ (rows : List TypeRow) (made : ℕ → Option Made) (c : Content Value) (x : Rooted (Content Value)) where
+  -- what a question is answered that changes nothing
+  abbrev pub seen_answer : Question → Option Value
+  seen_answer (Reads t q) = Some (value_at q x)
+  seen_answer (ComparesTexts r a n b m) = Some (compared r (read a.root a.path x) (read b.root b.path x))
+  seen_answer (Places s) = Some (known c s)
+  seen_answer (Lengths s) = Some (known c s)
+  seen_answer (Opens v) = Some (object_place (object_in v) (made (object_in v)))
+  seen_answer (Sizes v d) = Some (length_in d (made (object_in v)))
+  seen_answer (Tests v t) = Some (has_type_in rows made c t (made (object_in v)))
+  seen_answer q = None
+
+  -- what a condition comes to that is evaluated to its end; it fails where it asks for more, and no condition of a well-typed program
+  -- does
+  abbrev pub judged : Doing Value → Verdict
+  judged (Val v) = if is_true v then Holds else Fails
+  judged (Traps n code) = TrapsWith n
+  judged (Asks q k) = unwrap_or (option_map (λ v. judged (k v)) (seen_answer q)) Fails
 
 -- the object that a method is called on comes before its arguments
 abbrev pub self_of : (has_self : Bool) → List Value → ℕ
@@ -326,11 +373,10 @@ module _ (p : Program) (following : List ℕ) where
       stores_text following text (read to.root to.path x) to f fs s
   answer (ComparesTexts r a n b m) f fs s =
       let x = all_rooted (f ∷ fs) s in
-      let left = text_in (read a.root a.path x) in
-      let right = text_in (read b.root b.path x) in
-      goes_on following (answered (Flag (holds r (order left right) (pos 0))) f ∷ fs) s
+      goes_on following (answered (compared r (read a.root a.path x) (read b.root b.path x)) f ∷ fs) s
   answer (Calls how q vs) f fs s = calls (by_number q (routines p)) vs f fs s
   answer (PutsString a n) f fs s = puts following (text_in (read a.root a.path (all_rooted (f ∷ fs) s))) (answered done f ∷ fs) s
+  answer (Awaits c) f fs s = awaits following (locks_in (lock_of f) f.items) c f fs s
   -- known at once, before a turn comes here
   answer (Places a) f fs s = goes_on following (answered done f ∷ fs) s
   answer (Lengths a) f fs s = goes_on following (answered done f ∷ fs) s
@@ -446,18 +492,7 @@ abbrev pub past_all : List Frame → List Frame
 past_all [] = []
 past_all (f ∷ fs) = past_by f.answers f ∷ fs
 
--- The locks of the open regions, the latest entered first: each has its mark.
-
-abbrev pub locks_in : LockName → List Item → List LockName
-locks_in l [] = []
-locks_in l (Do st ∷ is) = locks_in l is
-locks_in l (Rounds at w p last step b ∷ is) = locks_in l is
-locks_in l (Round st ∷ is) = locks_in l is
-locks_in l (Until at b e ∷ is) = locks_in l is
-locks_in l (Region ss ∷ is) = locks_in l is
-locks_in l (End ∷ is) = l ∷ locks_in l is
-locks_in l (Gives r ∷ is) = []
-
+-- of all frames
 abbrev pub regions_of : List Frame → List LockName
 regions_of [] = []
 regions_of (f ∷ fs) = locks_in (lock_of f) f.items ++ regions_of fs
@@ -511,13 +546,23 @@ module _ (p : Program) where
   abbrev pub body_of : Store → ℕ → Frames
   body_of s o = object_frames o (option_and_then (λ t. slice_get p.objects t) (option_and_then made_body (type_of_object o s)))
 
+  -- the verdict of a condition over an activity's topmost frame; it fails where there is none, and where no frame is left
+  abbrev pub verdict_over : Option Condition → List Frame → Store → Verdict
+  verdict_over None fs s = Fails
+  verdict_over (Some c) [] s = Fails
+  verdict_over (Some c) (f ∷ fs) s =
+      judged p.types (made_in s) f.variables (all_rooted (f ∷ fs) s) (value_of p (here_of f fs) c.expression)
+
+  abbrev pub verdict : Store → Frames → ℕ → Verdict
+  verdict s fs c = verdict_over (slice_get (conditions p) c) fs.frames s
+
   -- a program as a machine under the kernel
   abbrev pub source : Machine Store Frames
   source =
       record {
         turn = turn;
         past = past;
-        verdict = λ s fs c. Fails;
+        verdict = verdict;
         regions = λ fs. regions_of fs.frames;
         position = λ fs. position_in (opened fs).frames;
         body = body_of;

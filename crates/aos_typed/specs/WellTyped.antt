@@ -1,7 +1,7 @@
 -- Programs whose expressions have the types that their places ask for (Oberon-2 report, 8.2 and 9.1; Reali 2002, section on
 -- basic types): each operator has operands of the types that it takes, an index is an integer, what is read and assigned is of a
 -- basic type, an assigned value is of the variable's type, a whole record or array is copied to a variable of its type, what a loop
--- tests is a truth value, and NEW makes an object of its variable's type. No type
+-- tests is a truth value, what AWAIT awaits is one that is found without a call, and NEW makes an object of its variable's type. No type
 -- contains itself, and none has more scalars than a type may have (Oberon-2 report, 6.2 and 6.3), nor have the variables of a module; only parameters are of open
 -- arrays, and a function gives a scalar (Oberon-2 report, 10.1). The predeclared types stand first in the table.
 use Rattle.std.specs.Prelude.{◌≡◌, ◌≢◌, ◌⊎◌, ℕ, zero, suc, ℤ, pos, ◌≤◌, ◌<◌, ◌+◌, ◌==◌, ◌^◌, nat_le, int_le, List, [], ◌∷◌, ◌++◌, length, All, Bool, true, false, ◌&&◌, ◌||◌, Option, Some, None, slice_get, sum_by, is_some, option_map, option_and_then, map}
@@ -28,7 +28,7 @@ use Rattle.aos_typed.specs.declared.tree.Literal.{Literal}
 use Rattle.aos_typed.specs.declared.tree.Literal.TheVariants as literal
 use Rattle.aos_typed.specs.declared.tree.TType.{TType}
 use Rattle.aos_typed.specs.declared.tree.TType.TheVariants.{Integer, Boolean, Char, Set, Any, Named}
-use Rattle.aos_typed.specs.Program.{Place, ModuleVar, Local, Passed, Field, Index, Of, Deref, Typed, Guarded, Rows, Known, Opened, Row, Spread, Longer, Arguments, NoMore, Scalar, Whole, Opening, Callee, Plain, Dispatched, Upper, Through, Expr, Lit, SelfRef, Read, Unary, Binary, And, Or, Element, Ord, Chr, CompareTexts, Len, LenBehind, Function, Same, Is, IsRecord, Guard, ProcedureOf, MethodOf, SameProcedure, Had, Call, Open as OutOpen, Char as OutChar, Int as OutInt, String as OutString, Ln as OutLn, Stat, Assign, Copy, PutText, If, Case, While, Repeat, Loop, Exit, For, Block, Assert, Halt, Change, Perform, Return, New, Make, With, WithRecord, Out, Stats, Nothing, Then, Arms, Otherwise, Arm, Cases, NoElse, Else, OfLabels, Parameter, Procedure, Method, ObjectType, Module, Program}
+use Rattle.aos_typed.specs.Program.{Place, ModuleVar, Local, Passed, Field, Index, Of, Deref, Typed, Guarded, Rows, Known, Opened, Row, Spread, Longer, Arguments, NoMore, Scalar, Whole, Opening, Callee, Plain, Dispatched, Upper, Through, Expr, Lit, SelfRef, Read, Unary, Binary, And, Or, Element, Ord, Chr, CompareTexts, Len, LenBehind, Function, Same, Is, IsRecord, Guard, ProcedureOf, MethodOf, SameProcedure, Had, Call, Open as OutOpen, Char as OutChar, Int as OutInt, String as OutString, Ln as OutLn, Stat, Assign, Copy, PutText, If, Case, While, Repeat, Loop, Exit, For, Block, Await, Assert, Halt, Change, Perform, Return, New, Make, With, WithRecord, Out, Stats, Nothing, Then, Arms, Otherwise, Arm, Cases, NoElse, Else, OfLabels, Parameter, Procedure, Method, ObjectType, Module, Program}
 use Rattle.aos_typed.specs.declared.tree.Change.{Change as Changing}
 use Rattle.aos_typed.specs.declared.tree.Change.TheVariants as change
 use Rattle.aos_typed.specs.declared.tree.LabelRange.{LabelRange}
@@ -37,6 +37,7 @@ use Rattle.aos_typed.specs.Open.{open_dimensions, open_element, first_same}
 pub use Rattle.aos_typed.specs.Fields.{with_base, fields_in, fields_by, field_types, field_type}
 use Rattle.aos_typed.specs.Formals.{HasFormals, pattern_of}
 use Rattle.aos_typed.specs.Methods.{initializer, put_at, slot_of, on_base, base_type, methods_of, method_in}
+use Rattle.aos_typed.specs.Conditions.{HasNoCalls, HasNumbers}
 use Rattle.aos_typed.specs.Routines.{self_type, result_of}
 use Rattle.aos_typed.specs.Numbers.{id_of, predeclared_types, predeclared_rows}
 
@@ -482,6 +483,7 @@ module _ (p : Program) where
           (is_variable place ≡ true) × IsPlaceOf place (Integer w) × IsOf from (Integer w) × IsOf to (Integer w)
           × IsWithin w step × AreStatements body
       IsStatement (Block at exclusive body) = AreStatements body
+      IsStatement (Await at n e) = IsOf e Boolean × HasNoCalls e
       IsStatement (Assert at e code) = IsOf e Boolean × (code < 256)
       IsStatement (Halt at code) = code < 256
       IsStatement (Change at c place e) = IsPlaceOf place (changed_type c) × IsOf e (amount_type c)
@@ -600,7 +602,7 @@ module_scalars p m = sum_by (λ v. variable_scalars p.types (id_of v.of)) m.vari
 
 -- A program has 1 to 64 modules, whose names are idents and differ; all statements of all bodies are well typed, the codes of string constants are
 -- those of characters, what stands beside a type is of a module of the program, and all declarations are as they are to be.
-pub record IsWellTyped (p : Program) : Type 0 where
+pub record HasTypedParts (p : Program) : Type 0 where
   pub some : 1 ≤ length p.modules
   pub few : length p.modules ≤ 64
   pub names : All (λ m. is_ident m.name ≡ true) p.modules
@@ -615,3 +617,8 @@ pub record IsWellTyped (p : Program) : Type 0 where
   pub variables : All (λ m. All (λ v. IsVariableType p v.of) m.variables) p.modules
   pub few_scalars : All (λ m. module_scalars p m ≤ MOST_SCALARS) p.modules
   pub procedures : All (λ m. All (λ q. IsProcedure p q × (q.of ≡ None)) m.procedures) p.modules
+
+-- Its parts are well typed, whatever the numbers of its conditions, and these are numbered in their order.
+pub record IsWellTyped (p : Program) : Type 0 where
+  pub parts : HasTypedParts p
+  pub conditions : HasNumbers p

@@ -2,9 +2,11 @@
 //! under the kernel of aos_base.
 #![tactic(auto)]
 
+pub mod laws;
 pub mod open;
 pub mod tree;
 
+pub use laws::law_of_conditions;
 pub use open::{OpenArray, open_array};
 pub use tree::{
     Change, LabelRange, LabelRow, Literal, OutCall, Program, TArgument, TArm, TCallee, TCase,

@@ -300,6 +300,8 @@ pub enum TStat {
     /// A block. One that is exclusive is a region of its body's lock: that of the object whose method or body it stands in, or else
     /// that of the module.
     Block(Pos, bool, Vec<TStat>),
+    /// Goes on once a condition holds, which has this number among those of the program.
+    Await(Pos, u32, TExpr),
     /// Trap 7 with a code where the condition is FALSE.
     Assert(Pos, TExpr, u8),
     /// Trap 8 with a code.
