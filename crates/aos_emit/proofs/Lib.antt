@@ -11,3 +11,4 @@ pub mod Stash
 pub mod Sorts
 pub mod Searches
 pub mod Ways
+pub mod Awaited

@@ -5,3 +5,4 @@ pub mod Redirect
 pub mod Places
 pub mod Scope
 pub mod Made
+pub mod Conditions

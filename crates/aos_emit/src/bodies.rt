@@ -109,8 +109,8 @@ fn body_of(alloc: Global, laid: &Laid<'_>, routine: &Routine<'_>) -> Result<Body
     }
 }
 
-// One more body.
-fn put_body(bodies: &mut Vec<Body>, body: Body) -> Result<(), AllocError>
+/// One more body.
+pub fn put_body(bodies: &mut Vec<Body>, body: Body) -> Result<(), AllocError>
     ensures { OnOk result (bodies.new.items ≡ bodies.old.items ++ body ∷ []) }
 {
     bodies.push(body)?;

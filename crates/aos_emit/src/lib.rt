@@ -1,7 +1,9 @@
-//! From the routines of a typed program to their bodies, each of which has the code that the definitions give.
+//! From the routines of a typed program and the conditions that they await to their bodies, each of which has the code that the
+//! definitions give.
 #![tactic(auto)]
 
 mod bodies;
+mod conditions;
 mod emit;
 mod fronts;
 mod leave;
@@ -13,3 +15,4 @@ mod search;
 mod stats;
 
 pub use bodies::bodies_of;
+pub use conditions::conditions_of;

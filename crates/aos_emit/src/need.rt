@@ -226,8 +226,9 @@ fn front_need(all: Front<'_>) -> Result<u32, AllocError>
     Ok(need)
 }
 
+/// How many operands an expression has at most.
 #[cycle(value_need)]
-fn value_need(value: &TExpr) -> Result<u32, AllocError>
+pub fn value_need(value: &TExpr) -> Result<u32, AllocError>
     ensures { IfOk result (λ n. n ≡ need_of.value_need (seen_expr value.now)) }
 {
     front_need(Front::Value(value))
@@ -426,6 +427,7 @@ fn stat_need(statement: &TStat) -> Result<u32, AllocError>
             Ok(around.max(stats_need(body)?))
         }
         TStat::Block(_, _, body) => stats_need(body),
+        TStat::Await(_, _, _) => Ok(0),
         TStat::Assert(_, condition, _) => value_need(condition),
         TStat::Halt(_, _) => Ok(0),
         TStat::Change(_, change, place, value) => changed_need(*change, place, value),

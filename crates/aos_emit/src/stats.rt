@@ -164,6 +164,13 @@ fn emit_halt(code: &mut Vec<Instr>, at: Pos, number: u8) -> Result<(), AllocErro
     put(code, Instr::Halt(number))
 }
 
+fn emit_await(code: &mut Vec<Instr>, at: Pos, number: u32) -> Result<(), AllocError>
+    ensures { OnOk result (code.new.items ≡ code.old.items ++ begin at ∷ (Instr.Await number ∷ [])) }
+{
+    emit_begin(code, at)?;
+    put(code, Instr::Await(number))
+}
+
 // How a value is changed by what lies above it.
 fn put_operator(code: &mut Vec<Instr>, change: Change) -> Result<(), AllocError>
     ensures { OnOk result (code.new.items ≡ code.old.items ++ change_code change) }
@@ -691,6 +698,7 @@ fn emit_stat(
         TStat::Block(at, exclusive, body) => {
             emit_block(alloc, scope, code, *at, *exclusive, body, level)
         }
+        TStat::Await(at, number, _) => emit_await(code, *at, *number),
         TStat::Assert(at, test, number) => emit_assert(alloc, scope, code, *at, test, *number),
         TStat::Halt(at, number) => emit_halt(code, *at, *number),
         TStat::Change(at, change, place, value) => {

@@ -75,6 +75,7 @@ fn stat_level(statement: &TStat, around: u32) -> Result<u32, AllocError>
             stats_level(body, inside)
         }
         TStat::Block(_, _, body) => stats_level(body, around),
+        TStat::Await(_, _, _) => Ok(around),
         TStat::Assert(_, _, _) => Ok(around),
         TStat::Halt(_, _) => Ok(around),
         TStat::Change(_, _, _, _) => Ok(around),

@@ -4,7 +4,7 @@ use Rattle.aos_base.specs.declared.text.Pos.{Pos}
 use Rattle.aos_typed.specs.declared.tree.TArm.{TArm, out-TArm}
 use Rattle.aos_typed.specs.declared.tree.TCase.{TCase, out-TCase}
 use Rattle.aos_typed.specs.declared.tree.TStat.{TStat}
-use Rattle.aos_typed.specs.Program.{Expr, Stat, Assign, Copy, PutText, If, Case, While, Repeat, Loop, Exit, For, Block, Assert, Halt, Change, Perform, Return, New, Make, With, WithRecord, Out, Stats, Nothing, Then, Arms, Otherwise, Arm, Cases, NoElse, Else, OfLabels}
+use Rattle.aos_typed.specs.Program.{Expr, Stat, Assign, Copy, PutText, If, Case, While, Repeat, Loop, Exit, For, Block, Await, Assert, Halt, Change, Perform, Return, New, Make, With, WithRecord, Out, Stats, Nothing, Then, Arms, Otherwise, Arm, Cases, NoElse, Else, OfLabels}
 use Rattle.aos_typed.specs.Seen.{seen_stat, seen_stats, arms_of, cases_of}
 
 abbrev mutual
@@ -20,6 +20,7 @@ abbrev mutual
   height (Exit at) = 0
   height (For at w p from to step body) = suc (heights body)
   height (Block at exclusive body) = suc (heights body)
+  height (Await at n e) = 0
   height (Assert at e code) = 0
   height (Halt at code) = 0
   height (Change at c p e) = 0

@@ -6,3 +6,4 @@ pub mod Tables
 pub mod Listed
 pub mod Told
 pub mod Taken
+pub mod Bases

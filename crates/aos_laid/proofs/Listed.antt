@@ -127,5 +127,5 @@ routines_typed p typed =
     let procedures = procedures_from 0 p.modules in
     let methods = methods_from p.objects in
     All-append (IsTyped p) (bodies_from 0 p.modules) (objects ++ (procedures ++ methods)) (bodies_typed p 0 p.modules)
-    (All-append (IsTyped p) objects (procedures ++ methods) (objects_typed p 0 p.objects typed.objects)
-    (All-append (IsTyped p) procedures methods (procedures_typed p 0 p.modules typed.procedures) (methods_typed p 0 p.objects typed.objects)))
+    (All-append (IsTyped p) objects (procedures ++ methods) (objects_typed p 0 p.objects typed.parts.objects)
+    (All-append (IsTyped p) procedures methods (procedures_typed p 0 p.modules typed.parts.procedures) (methods_typed p 0 p.objects typed.parts.objects)))

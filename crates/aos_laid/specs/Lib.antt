@@ -2,3 +2,4 @@ pub mod Nearest
 pub mod Routines
 pub mod Laid
 pub mod Tables
+pub mod Awaits

@@ -7,15 +7,21 @@ ghost use Rattle.aos_typed.specs.WellTyped.{AreTypes, IsProcedure, IsWellTyped};
 ghost use Rattle.aos_layout.specs.Frame as frame;
 ghost use Rattle.aos_layout.specs.Seen.{seen_block, seen_frame};
 ghost use Rattle.aos_types.specs.Shape as shape;
+ghost use Rattle.aos_types.specs.Extension as extension;
 ghost use Rattle.aos_types.specs.Table.{is_procedure, row_of};
+ghost use Rattle.aos_types.specs.Table as table;
+ghost use Rattle.aos_typed.specs.Fields as fields;
+ghost use Rattle.aos_typed.specs.declared.tree.TType.TheVariants.{Named};
 ghost use Rattle.aos_types.specs.Contents.{contents, variable_scalars};
 ghost use Rattle.aos_code.specs.Silent.{kinds_of as kinds_handed};
 ghost use Rattle.aos_typed.specs.Methods.{body_type, initializer, is_active, method_number, own_numbers, slots};
 ghost use Rattle.aos_typed.specs.Numbers.{body_number, id_of, procedure_number};
-ghost use Rattle.aos_typed.specs.Routines.{parameters_at};
+ghost use Rattle.aos_typed.specs.Routines.{parameters_at, routines};
+ghost use Rattle.aos_laid.specs.Routines.{seen_routines};
 ghost use Rattle.aos_typed.specs.Source.{module_shape};
 ghost use Rattle.aos_laid.specs.Laid.{AreBlocks, AreNarrow, active_of, there_in, cell_in, variables_in, module_kinds};
 
+use crate::chains::{comes_to, declarer, is_object};
 use crate::handed::taken_by;
 use crate::methods::{number_in, tables_of};
 use crate::nearest::{Asked, nearest_of_each, told_in};
@@ -192,6 +198,43 @@ fn table_in(tables: &[Vec<u32>], number: u32) -> &[u32]
     match tables.get(number as usize) {
         Some(table) => table.as_slice(),
         None => &[],
+    }
+}
+
+// What it has in a slot.
+fn entry_in(tables: &[Vec<u32>], number: u32, slot: u32) -> Option<u32>
+    ensures { result ≡ slice_get (unwrap_or (option_map (λ v. v.items) (slice_get tables.now number)) []) slot }
+{
+    let table = table_in(tables, number);
+    match table.get(slot as usize) {
+        Some(entry) => Some(*entry),
+        None => None,
+    }
+}
+
+// The number of the type that declares a field, in the table. A type that isn't there is in no well-typed program: there is no memory
+// for it.
+fn declarer_in(types: &Types, of: TType, number: u32) -> Result<u32, AllocError>
+    requires few { length types.now ≤ 2 ^ 32 }
+    ensures { IfOk result (λ n. n ≡ (fields.declarer types.now (id_of of) number).0) }
+{
+    match type_in(types, of) {
+        Some(t) => Ok(declarer(types, t, number).0),
+        None => Err(AllocError),
+    }
+}
+
+// Whether bases lead from one type of a program to another.
+fn extends_in(types: &Types, of: u32, other: u32) -> Result<bool, AllocError>
+    requires few { length types.now ≤ 2 ^ 32 }
+    ensures { IfOk result (λ b. b ≡ extension.comes_to types.now (id_of (Named of)) (id_of (Named other))) }
+{
+    let Some(a) = type_in(types, TType::Named(of)) else {
+        return Err(AllocError);
+    };
+    match type_in(types, TType::Named(other)) {
+        Some(b) => Ok(comes_to(types, a, b)),
+        None => Err(AllocError),
     }
 }
 
@@ -372,6 +415,57 @@ impl<'a> Laid<'a> {
             frame.frame_shape (seen_program self.now).types 0 home keeps (seen_procedure procedure.now)) }
     {
         frame_shape(alloc, &self.program.types, 0, home, keeps, procedure)
+    }
+
+    /// The program.
+    pub fn program(&self) -> &'a Program
+        ensures { result.now ≡ self.now }
+    {
+        self.program
+    }
+
+    /// What runs in it, in the order of the numbers from 1.
+    pub fn routines(&self) -> &[Routine<'a>]
+        ensures { seen_routines result.now ≡ routines (seen_program self.now) }
+    {
+        &self.routines
+    }
+
+    /// How many types it has beside the predeclared ones.
+    pub fn type_count(&self) -> usize
+        ensures { result ≡ length (seen_program self.now).objects }
+    {
+        self.program.objects.len()
+    }
+
+    /// What a type has in a slot, as the number of a routine.
+    pub fn entry(&self, of: u32, slot: u32) -> Option<u32>
+        requires { of < length (seen_program self.now).objects }
+        ensures { result ≡ slice_get (slots (seen_program self.now) (own_numbers (seen_program self.now)) of) slot }
+    {
+        entry_in(&self.tables, of, slot)
+    }
+
+    /// Whether a type is an object type.
+    pub fn is_object(&self, of: TType) -> bool
+        ensures { result ≡ table.is_object (row_of (seen_program self.now).types (id_of of)) }
+    {
+        is_object(&self.program.types, of)
+    }
+
+    /// The number in the table of the type that declares a field of a type, the type itself or one of its bases.
+    pub fn declarer(&self, of: TType, number: u32) -> Result<u32, AllocError>
+        ensures { IfOk result (λ n. n ≡ (fields.declarer (seen_program self.now).types (id_of of) number).0) }
+    {
+        declarer_in(&self.program.types, of, number)
+    }
+
+    /// Whether bases lead from one type to another, by the numbers of both in the program.
+    pub fn extends(&self, of: u32, other: u32) -> Result<bool, AllocError>
+        ensures { IfOk result (λ b. b ≡
+            extension.comes_to (seen_program self.now).types (id_of (Named of)) (id_of (Named other))) }
+    {
+        extends_in(&self.program.types, of, other)
     }
 
     /// The kinds of the cells of a module's variables, by the module's number. Behind them stand its string constants.

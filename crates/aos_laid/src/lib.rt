@@ -1,7 +1,9 @@
 //! A well-typed program laid out: the cells of its modules and of its procedures' frames, its routines in the order of their
-//! numbers, and the methods of its types by their slots.
+//! numbers with what they await, and the methods of its types by their slots.
 #![tactic(auto)]
 
+pub mod awaits;
+mod chains;
 mod handed;
 mod laid;
 mod lengths;
@@ -10,6 +12,7 @@ mod nearest;
 mod numbers;
 pub mod routines;
 
+pub use awaits::{Await, awaits_of};
 pub use laid::{Laid, PREDECLARED_TYPES};
 pub use lengths::{dimensions, operands};
 pub use numbers::{after, next};

@@ -13,11 +13,12 @@ returns-clause-code c =
     let types = subst (λ n. AreTypesOf p n ts) (sym (length-map c.args.program.now.objects.items seen_object)) c.in_ok-types.ensures in
     record {
       bodies = c.requires.matching;
+      conditions = c.requires.conditions;
       shapes = c.in_ok-shapes.ensures;
       starts = modules.starts;
       types = types.bodies;
       methods = types.methods;
-      bases = bases_are p ts types c.requires.typed.beside;
+      bases = bases_are p ts types c.requires.typed.parts.beside;
       kinds = types.kinds;
       cells = modules.cells;
       names = modules.names;
@@ -25,7 +26,7 @@ returns-clause-code c =
     }
 
 pub returns-clause-depths : goal.returns-clause-depths
-returns-clause-depths c = c.requires.depths
+returns-clause-depths c = record { bodies = c.requires.depths; conditions = c.requires.condition_depths }
 
 pub returns-clause-shows : goal.returns-clause-shows
 returns-clause-shows c =

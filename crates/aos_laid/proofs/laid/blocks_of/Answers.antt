@@ -16,7 +16,7 @@ block_shape-requires-clause-there c =
     let k = c.loop-module.module-index in
     let m = c.module-item.result in
     let lt : k < length ms = omega (arith, ap length c.deref-module-items.ensures.value) in
-    let all = there_at (λ (x : Module). All (λ v. IsVariableType p v.of) x.variables) seen_module ms k m lt c.requires.typed.variables (c.module-item.is ∙ ap (λ l. get_or l k m) c.deref-module-items.ensures.value) in
+    let all = there_at (λ (x : Module). All (λ v. IsVariableType p v.of) x.variables) seen_module ms k m lt c.requires.typed.parts.variables (c.module-item.is ∙ ap (λ l. get_or l k m) c.deref-module-items.ensures.value) in
     λ j d l. (all j d l).there
 
 pub loop-module-preserved : goal.loop-module-preserved

@@ -31,8 +31,8 @@ invariant_of-result c =
     let os = q.objects.items in
     let typed = c.requires.typed in
     record {
-      few = omega (arith, typed.beside, c.requires.few_types, length-map os seen_object);
-      types = typed.types;
+      few = omega (arith, typed.parts.beside, c.requires.few_types, length-map os seen_object);
+      types = typed.parts.types;
       blocks = c.in_ok-blocks.ensures.blocks;
       firsts = firsts_are q.modules.items c.deref.result.now os c.first_number-first.result c.in_ok-firsts.firsts.items c.deref.ensures.value (omega (arith, c.first_number-first.ensures, c.len.ensures, c.len-2.ensures)) c.in_ok-firsts.ensures;
       tables = c.in_ok-tables.ensures;
