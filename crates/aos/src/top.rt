@@ -45,8 +45,8 @@ fn put_answer<O: Sink, E: Sink>(answer: &Answer, out: &mut O, err: &mut E) -> u8
 /// script, with its workers and its budget.
 ///
 /// The status is 0 where the run ended, 3 where it ended with a trap, 4 where activities are left
-/// that haven't ended and each of them waits for a lock, 5 where it used up the budget, 9 where the
-/// script ended first; 1 where a file is absent or the texts are refused, 2 where the words are no
+/// that haven't ended and each of them waits for a lock, to enter a region or for a condition, 5
+/// where it used up the budget, 9 where the script ended first; 1 where a file is absent or the texts are refused, 2 where the words are no
 /// command, 6 where the shelf failed or a file is too long, 10 where the script is none. Where a
 /// sink failed it is 7 in the place of any of these, and 8, with nothing put, where memory was
 /// wanted.

@@ -1,5 +1,5 @@
 -- The second pass over a module: what its names stand for, its declarations, and what is judged of its types together.
-use Rattle.std.specs.Prelude.{ℕ, ◌+◌, List, [], ◌∷◌, ◌++◌, length, map, Option, Some, None}
+use Rattle.std.specs.Prelude.{ℕ, ◌+◌, List, [], ◌∷◌, ◌++◌, length, map, Option, Some, None, false}
 use Rattle.std.specs.List.{range_with_len}
 use Rattle.aos_tree.specs.declared.module.Module.{Module}
 use Rattle.aos_types.specs.declared.row.TypeId.{TypeId}
@@ -31,6 +31,8 @@ entered number before types text m numbers =
       claims = [];
       narrowed = [];
       self_type = None;
+      is_exclusive = false;
+      is_condition = false;
     }
 
 -- the names that stand for other types are told before any declaration is met, and all types have their numbers

@@ -79,6 +79,8 @@ fn entered<'a>(
         claims: Items::new(alloc),
         narrowed: Items::new(alloc),
         self_type: None,
+        is_exclusive: false,
+        is_condition: false,
     })
 }
 

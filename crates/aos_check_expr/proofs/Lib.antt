@@ -29,3 +29,4 @@ pub mod Dimensions
 pub mod Handed
 pub mod Initials
 pub mod First
+pub mod Uncalled

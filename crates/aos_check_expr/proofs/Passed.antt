@@ -27,12 +27,12 @@ use Rattle.aos_symbols.specs.declared.home.Gives.TheVariants as gives
 use Rattle.aos_symbols.specs.declared.home.Signature.{Signature}
 use Rattle.aos_symbols.specs.declared.env.Env.{Env}
 use Rattle.aos_symbols.specs.Judged.{Judged, judged, bind}
-use Rattle.aos_symbols.specs.Breaches.{breach}
+use Rattle.aos_symbols.specs.Breaches.{breach, breach_unless}
 use Rattle.aos_symbols.specs.Env as env
 use Rattle.aos_symbols.specs.Env.{char, nil, text}
 use Rattle.aos_symbols.proofs.Each.{Each}
 use Rattle.aos_symbols.proofs.Told.{basic as basic_told, of_any, defined}
-use Rattle.aos_symbols.proofs.Holds.{Holds, holds_bind, broken, test_is}
+use Rattle.aos_symbols.proofs.Holds.{Holds, holds_bind, broken, test_is, none_left, none_right}
 use Rattle.aos_check_expr.specs.declared.known.Class.{Class}
 use Rattle.aos_check_expr.specs.declared.known.Class.TheVariants.{Unknown, Constant, Variable, ReadOnly, Computed, Procedure as ClassOf}
 use Rattle.aos_check_expr.specs.Known.{Answer, is_basic, is_integer, is_long_text, is, passes, fits_type, object_number, type_as, type_of, as_procedure}
@@ -65,6 +65,10 @@ some_not n e = none-some n (sym e)
 or_none : (o q : Option ℕ) → judge.or_else o q ≡ None → (o ≡ None) × (q ≡ None)
 or_none None q e = (refl, e)
 or_none (Some n) q e = absurd (some_not n e)
+
+refused_none : (b : Bool) (rule : ℕ) (at : Pos) → breach_unless (not b) rule at ≡ [] → b ≡ false
+refused_none true rule at e = cc
+refused_none false rule at e = refl
 
 unless_none : (rule : ℕ) (b : Bool) → judge.broken_unless rule b ≡ None → b ≡ true
 unless_none rule true e = refl
@@ -687,23 +691,27 @@ module _ (p : Inside) (e : Env) where
                 inl (ap (λ rows. is_procedure (row_of rows t)) whole.rows ∙ ap is_procedure r.2, λ u same. (q, type_as t, there, result, value, inr (inr same), are)),
               )))
 
+      -- in the condition of an AWAIT it would break a rule
+      may_call : calls.function_breaches e first of ≡ [] → e.is_condition ≡ false
+      may_call none = refused_none e.is_condition 44 first (none_right (breach_unless (passes (is_value e) of) 99 first) _ none)
+
       told : (g : Handing) → (g.are_kept ≡ true) × (IsWhole p e → (as' : List Parameter) → AreParameters e s.parameters as' → AreArguments p (listed g.given) as') →
           Holds (Valued p e) (calls.function_told e first c of g)
-      told g arguments none = rw arguments.0 (record {
+      told g arguments none = subst (λ b. Valued p e (calls.function_answer b c of g)) (sym (may_call none)) (rw arguments.0 (record {
         class = tt;
         valued = refl;
         made = tt;
         plain = λ whole.
             let signed = called whole in
             let result = subst (λ r. IsResultOf r signed.0.result) value signed.2.result in
-            let held : is_value e result.0 ≡ true = sym (ap (passes (is_value e)) result.1) ∙ test_is (passes (is_value e) of) 99 first none in
+            let held : is_value e result.0 ≡ true = sym (ap (passes (is_value e)) result.1) ∙ test_is (passes (is_value e) of) 99 first (none_left (breach_unless (passes (is_value e) of) 99 first) _ none) in
             record {
               of = result.0;
               known = result.1;
               none = λ is. absurd (result.3 is);
               typed = given whole g.given signed.0 signed.1 result.0 result.2 result.3 (arguments.1 whole signed.0.parameters signed.2.parameters) (is_basic result.0) refl held;
             };
-      })
+      }))
 
   -- of what is called as its signature tells
   pub invoked_part : (first : Pos) (c : Callee) (h : Heading) → (IsWhole p e → IsCalling p e c h) → (js : List (Judged Answer)) → Each (Holds (Part p e)) js → (xs : List Expr) → length js ≡ length xs →

@@ -47,6 +47,7 @@ use Rattle.aos_symbols.specs.declared.env.Symbol.{Symbol}
 use Rattle.aos_symbols.specs.declared.env.Lookup.{Lookup}
 use Rattle.aos_symbols.specs.declared.env.Lookup.TheVariants.{Unknown as NoName, NotExported, Found}
 use Rattle.aos_symbols.specs.declared.env.Env.{Env}
+use Rattle.aos_symbols.specs.declared.breach.Breach.{Breach}
 use Rattle.aos_symbols.specs.Breaches.{breach, breach_unless}
 use Rattle.aos_symbols.specs.Judged.{Judged, judged, kept, bind, walk}
 use Rattle.aos_symbols.specs.Env as env
@@ -68,7 +69,7 @@ use Rattle.aos_check_expr.specs.Operations as op
 use Rattle.aos_check_expr.specs.Designators as desig
 pub use Rattle.aos_check_expr.specs.Signatures.{signature_of}
 pub use Rattle.aos_check_expr.specs.Arrays.{is_array, length_of, is_opening, array_in, lengths_from, open_rows, array_rows, length_behind, len_typed, len_answer, number_in, has_dimension, is_dimension, len_alone, len_in, is_characters, string_in, is_text, is_only_text, may_be_text, are_texts, string_rows, rows_in, text_rows, has_room, text_for}
-pub use Rattle.aos_check_expr.specs.Arguments.{is_factor, first_factor, desig_in, desig_alone, Handing, nothing_handed, listed, handed_from, arguments_for, is_factor_of, first_factor_of}
+pub use Rattle.aos_check_expr.specs.Arguments.{is_factor, first_factor, desig_in, desig_alone, Given, Handing, nothing_handed, listed, handed_from, arguments_for, is_factor_of, first_factor_of}
 pub use Rattle.aos_check_expr.specs.TypeNames.{named_type, known_type}
 
 -- Forms without parts.
@@ -217,14 +218,21 @@ len_of e at js xs = desig.refused 34 at
 
 -- A procedure's value: that of a function, whose result is a scalar.
 
+-- in the condition of an AWAIT nothing is called: a call breaks a rule there, and stands for nothing
+abbrev pub function_typed : (is_condition : Bool) → TypedCallee → List Given → Typed
+function_typed is_condition c given = if is_condition then nothing else Invoked c (listed given)
+
 -- the result of a function with these arguments, which has no type where a rule of the call is broken
-abbrev pub function_answer : TypedCallee → Option TypeId → Handing → Answer
-function_answer c of h =
-    answered (op.kept_class h.are_kept Computed) (op.kept_type h.are_kept of) (Invoked c (listed h.given))
+abbrev pub function_answer : (is_condition : Bool) → TypedCallee → Option TypeId → Handing → Answer
+function_answer is_condition c of h =
+    answered (op.kept_class h.are_kept Computed) (op.kept_type h.are_kept of) (function_typed is_condition c h.given)
 
 -- a result that isn't of a basic type and no object isn't built
+abbrev pub function_breaches : Env → (first : Pos) → Option TypeId → List Breach
+function_breaches e first of = breach_unless (passes (desig.is_value e) of) 99 first ++ breach_unless (not e.is_condition) 44 first
+
 abbrev pub function_told : Env → (first : Pos) → TypedCallee → Option TypeId → Handing → Judged Answer
-function_told e first c of h = judged (breach_unless (passes (desig.is_value e) of) 99 first) (function_answer c of h)
+function_told e first c of h = judged (function_breaches e first of) (function_answer e.is_condition c of h)
 
 abbrev pub function_value : Env → (first : Pos) → TypedCallee → List Parameter → Option TypeId → List (Judged Answer) → List Expr → Judged Answer
 function_value e first c ps of js xs = bind (arguments_for e first ps js xs) (function_told e first c of)

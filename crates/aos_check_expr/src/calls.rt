@@ -1,27 +1,27 @@
 // Calls: what is called, the arguments that are names of types, and the values of functions.
 
-ghost use Rattle.std.specs.Prelude.{◌≡◌, OnOk, IfOk};
+ghost use Rattle.std.specs.Prelude.{◌≡◌, OnOk, IfOk, map};
 ghost use Rattle.std.specs.Option.{option_copied};
-ghost use Rattle.aos_typed.specs.Seen.{seen_callee};
+ghost use Rattle.aos_typed.specs.Seen.{seen_callee, seen_expr};
 ghost use Rattle.aos_symbols.specs.Breaches.{first_after};
 ghost use Rattle.aos_symbols.specs.Judged.{bind};
 ghost use Rattle.aos_check_expr.specs.Designators as designators;
 ghost use Rattle.aos_check_expr.specs.Expressions as judge;
 ghost use Rattle.aos_check_expr.specs.Known.{passes};
-ghost use Rattle.aos_check_expr.specs.Seen.{seen_answer, seen_handing, seen_spot};
+ghost use Rattle.aos_check_expr.specs.Seen.{seen_answer, seen_given, seen_handing, seen_spot};
 
 use crate::arguments::Handing;
 use crate::designators::{Head, is_module, member, named, plain, refused, refused_at};
-use crate::known::{Answer, Class, Spot, answered, constant_answer, is_number};
+use crate::known::{Answer, Class, Spot, answered, constant_answer, is_number, nothing};
 use crate::operations::{self, Step};
 use crate::references::{guarded, is_value};
 use aos_base::Pos;
 use aos_symbols::{
-    ARGUMENT_COUNT, ARGUMENT_TYPE, Breach, Env, Function, Lookup, Meaning, NOT_BUILT, NOT_EXPORTED,
-    OTHER_KIND, UNKNOWN, WRONG_CALL, note,
+    ARGUMENT_COUNT, ARGUMENT_TYPE, Breach, CALL_IN_AWAIT, Env, Function, Lookup, Meaning,
+    NOT_BUILT, NOT_EXPORTED, OTHER_KIND, UNKNOWN, WRONG_CALL, note,
 };
 use aos_tree::{Desig, Expr, Factor, Name, Qualident, Selector, Simple};
-use aos_typed::{Literal, TCallee, TExpr};
+use aos_typed::{Literal, TArgument, TCallee, TExpr};
 use aos_types::TypeId;
 use std::alloc::{AllocError, Global};
 
@@ -286,17 +286,46 @@ pub fn may_be_value(env: &Env<'_>, of: Option<TypeId>) -> bool
     }
 }
 
-/// The result of a function with these arguments.
+/// The call of a function with these arguments, which in the condition of an AWAIT stands for nothing.
 #[tactic(auto, using(crate::proofs::Handed::function_is))]
-fn function_answer(callee: TCallee, of: Option<TypeId>, handing: Handing) -> Answer
+fn function_typed(is_condition: bool, callee: TCallee, given: Vec<TArgument>) -> TExpr
+    ensures { seen_expr result ≡
+        judge.function_typed is_condition (seen_callee callee) (map seen_given given.items) }
+{
+    if is_condition {
+        return nothing();
+    }
+    TExpr::Function(callee, given)
+}
+
+/// The result of a function with these arguments.
+fn function_answer(
+    is_condition: bool,
+    callee: TCallee,
+    of: Option<TypeId>,
+    handing: Handing,
+) -> Answer
     ensures { seen_answer result ≡
-        judge.function_answer (seen_callee callee) of (seen_handing handing) }
+        judge.function_answer is_condition (seen_callee callee) of (seen_handing handing) }
 {
     answered(
         operations::kept_class(handing.are_kept, Class::Computed),
         operations::kept_type(handing.are_kept, of),
-        TExpr::Function(callee, handing.given),
+        function_typed(is_condition, callee, handing.given),
     )
+}
+
+/// A function of this result that isn't built, or that is called in the condition of an AWAIT, in a call that begins here.
+#[tactic(auto, using(aos_symbols::proofs::Keeping::after_more))]
+fn refuse_function(found: &mut Option<Breach>, env: &Env<'_>, first: Pos, of: Option<TypeId>)
+    ensures { found.new ≡ first_after found.old (judge.function_breaches env.now first of) }
+{
+    if !may_be_value(env, of) {
+        note(found, NOT_BUILT, first);
+    }
+    if env.is_condition {
+        note(found, CALL_IN_AWAIT, first);
+    }
 }
 
 /// The value of a function of this result with these arguments, in a call that begins here.
@@ -313,10 +342,8 @@ pub fn function_value(
     ensures answer { seen_answer result ≡
         (judge.function_told env.now first (seen_callee callee) of (seen_handing handing)).answer }
 {
-    if !may_be_value(env, of) {
-        note(found, NOT_BUILT, first);
-    }
-    function_answer(callee, of, handing)
+    refuse_function(found, env, first, of);
+    function_answer(env.is_condition, callee, of, handing)
 }
 
 /// The value of a function of one argument, which begins here.

@@ -1,4 +1,4 @@
--- Within a WITH the environment is that of bodies, too: the variable that it narrows is guarded with a type that this may have.
+-- Within a WITH, a block or a condition the environment is that of bodies, too: the variable that it narrows is guarded with a type that this may have.
 use Rattle.std.proofs.Common.{◌≡◌, ℕ, zero, suc, ◌==◌, List, [], ◌∷◌, ◌++◌, length, fold, Bool, true, false, ◌&&◌, ◌||◌, Option, Some, None, option_and_then, if◌then◌else◌, refl, sym, ap, ap₂, ◌∙◌, subst, eqb-true}
 use Rattle.std.specs.Option.{option_map, option_or}
 use Rattle.std.proofs.lemmas.Bool.{and_parts}
@@ -37,17 +37,17 @@ use Rattle.aos_check_expr.proofs.Pointed.{guard_object, guard_record}
 use Rattle.aos_check_expr.proofs.Spots.{IsSpot, IsSoundSpot, no_type}
 use Rattle.aos_check_expr.proofs.Spots.{read_sound as held_sound}
 use Rattle.aos_check_expr.proofs.Whole.{IsTyped, closed, opened, IsWhole, IsSigned, AreParameters, NarrowsWell}
-use Rattle.aos_check_stat.specs.Bodies.{with_stat}
+use Rattle.aos_check_stat.specs.Bodies.{in_region, in_condition, with_stat}
 
 -- a designator of this type and class
 abbrev spot : Option TypeId → Class → Held → Pos → Spot
 spot of c h at = record { known = record { of = of; class = c }; held = h; at = at }
 
--- The environment with other variables narrowed.
+-- The environment with other variables narrowed, and in another block or in a condition.
 
-module _ (e : Env) (ns : List Narrowed) where
+module _ (e : Env) (ns : List Narrowed) (exclusive condition : Bool) where
   abbrev pub within : Env
-  within = record e { narrowed = ns }
+  within = record e { narrowed = ns; is_exclusive = exclusive; is_condition = condition }
 
   typed_within : (p : Inside) (place : Place) (of : Option TypeId) → IsTyped p e place of → IsTyped p within place of
   typed_within p place of (closed typed known) = closed typed known
@@ -200,6 +200,14 @@ module _ (e : Env) (ns : List Narrowed) where
     signatures = λ m k s w x there found means g is. let q = whole.signatures m k s w x there found means g is in (q.0, q.1, signed_within g q.0 q.2);
     strings = whole.strings;
   }
+
+-- in an exclusive block, or in none
+pub region_whole : (p : Inside) (e : Env) → IsWhole p e → (b : Bool) → IsWhole p (in_region b e)
+region_whole p e whole b = whole_within e e.narrowed b e.is_condition p whole whole.narrows
+
+-- in the condition of an AWAIT
+pub condition_whole : (p : Inside) (e : Env) → IsWhole p e → IsWhole p (in_condition e)
+condition_whole p e whole = whole_within e e.narrowed e.is_exclusive true p whole whole.narrows
 
 -- The variable of a WITH.
 

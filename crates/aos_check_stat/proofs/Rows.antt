@@ -37,7 +37,7 @@ use Rattle.aos_symbols.proofs.Keeping.{after_more}
 use Rattle.aos_check_expr.specs.Known.{width_of}
 use Rattle.aos_check_expr.specs.Designators.{guard}
 use Rattle.aos_check_expr.specs.Expressions.{condition, known_type}
-use Rattle.aos_check_stat.specs.Bodies.{listed, modifier_breaches, are_exclusive, called_last, called_before, ended, Labels, label_in, selector, control, fitting, step_of, with_variable, narrowed_by, with_stat, stat_of, stat_in, stats_in, else_in, case_else_in, elsifs_in, cases_in}
+use Rattle.aos_check_stat.specs.Bodies.{listed, modifier_breaches, are_exclusive, within_block, called_last, called_before, ended, Labels, label_in, selector, control, fitting, step_of, with_variable, narrowed_by, with_stat, stat_of, stat_in, stats_in, else_in, case_else_in, elsifs_in, cases_in}
 use Rattle.aos_check_stat.specs.Listed as parts
 use Rattle.aos_check_stat.specs.Listed.{onto}
 
@@ -89,11 +89,6 @@ module _ (e : Env) (in_loop : Bool) where
       ap (λ z. stat_of e in_loop z) is
       ∙ ap (λ j. bind j (λ us. bind (condition e c) (λ test. kept (Some (Repeat p (listed us) test))))) (stats_are body.stats)
 
-  pub stat_block : (x : TreeStat) (b : Block) → x ≡ stat.Block b → stat_of e in_loop x ≡ parts.block_of e in_loop b
-  stat_block x b is =
-      ap (λ z. stat_of e in_loop z) is
-      ∙ ap (λ j. bind (judged (modifier_breaches e.here.text false b.modifiers) []) (λ (none : List Stat). bind j (λ us. kept (Some (BlockOf b.pos (are_exclusive e.here.text b.modifiers) (listed us)))))) (stats_are b.body.stats)
-
   pub stat_for : (x : TreeStat) (p : Pos) (n : Name) (q : Pos) (from to : TreeExpr) (by : Option TreeExpr) (body : StatSeq) → x ≡ stat.For p n q from to by body →
       stat_of e in_loop x ≡ parts.for_of e in_loop p n q from to by body.stats
   stat_for x p n q from to by body is =
@@ -130,6 +125,12 @@ stat_with e in_loop x p a q b body is =
     ap (λ z. stat_of e in_loop z) is
     ∙ ap (λ j. bind (with_variable e a) (λ v. bind (known_type e b) (λ t. bind (guard e q v t) (λ g. bind j (λ us. kept (Some (with_stat p g.held (listed us))))))))
     (stats_are (narrowed_by e a (known_type e b).answer) in_loop body.stats)
+
+pub stat_block : (e : Env) (in_loop : Bool) (x : TreeStat) (b : Block) → x ≡ stat.Block b → stat_of e in_loop x ≡ parts.block_of e in_loop b
+stat_block e in_loop x b is =
+    ap (λ z. stat_of e in_loop z) is
+    ∙ ap (λ j. bind (judged (modifier_breaches e.here.text false b.modifiers) []) (λ (none : List Stat). bind j (λ us. kept (Some (BlockOf b.pos (are_exclusive e.here.text b.modifiers) (listed us))))))
+    (stats_are (within_block b.modifiers e) in_loop b.body.stats)
 
 pub stat_loop : (e : Env) (in_loop : Bool) (x : TreeStat) (p : Pos) (body : StatSeq) → x ≡ stat.Loop p body → stat_of e in_loop x ≡ parts.loop_of e p body.stats
 stat_loop e in_loop x p body is = ap (λ z. stat_of e in_loop z) is ∙ ap (λ j. bind j (λ us. kept (Some (Loop p (listed us))))) (stats_are e true body.stats)

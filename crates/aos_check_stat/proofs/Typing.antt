@@ -18,9 +18,10 @@ use Rattle.aos_tree.specs.declared.stat.Case.TheVariants as case
 use Rattle.aos_tree.specs.declared.stat.Stat.{Stat as TreeStat, Row_of-Stat, end_of-Stat, more_of-Stat, Row_of-Elsif, end_of-Elsif, more_of-Elsif, Row_of-Case, end_of-Case, more_of-Case, Held-Stat-If-4, None', Some'}
 use Rattle.aos_tree.specs.declared.stat.Stat.TheVariants as stat
 use Rattle.aos_typed.specs.declared.tree.TType.TheVariants as type
+use Rattle.aos_typed.specs.Conditions.{HasNoCalls}
 use Rattle.aos_typed.specs.Methods.{initializer}
 use Rattle.aos_typed.specs.Routines.{result_of}
-use Rattle.aos_typed.specs.Program.{Expr, Call, Open as OutOpen, Char, Int, String, Ln, Stat, Assign, Copy, If, Case as CaseOf, While, Repeat, Loop, For, Block as BlockOf, Arguments, NoMore, Callee, Plain, Perform, Return, New, Make, Out, Parameter, Procedure, Arms, Otherwise, Arm, Cases, Else, OfLabels}
+use Rattle.aos_typed.specs.Program.{Expr, Call, Open as OutOpen, Char, Int, String, Ln, Stat, Assign, Copy, If, Case as CaseOf, While, Repeat, Loop, For, Block as BlockOf, Await, Arguments, NoMore, Callee, Plain, Perform, Return, New, Make, Out, Parameter, Procedure, Arms, Otherwise, Arm, Cases, Else, OfLabels}
 use Rattle.aos_typed.specs.WellTyped.{AreLabels, AreApart, labels_of}
 use Rattle.aos_typed.specs.WellTyped as typed
 use Rattle.aos_types.specs.declared.row.TypeId.{TypeId}
@@ -63,6 +64,7 @@ use Rattle.aos_check_expr.proofs.Passed.{scalar_fits}
 use Rattle.aos_check_expr.proofs.Tested.{known_some}
 use Rattle.aos_check_expr.proofs.Spots.{AreParameters, IsResultOf, IsSigned, IsSpot, Part, IsProcedure, MayFind, plain_head, behind_head, behind_of_module, named_spot, spotted, refused_part}
 use Rattle.aos_check_expr.proofs.Typing.{IsWhole, IsSound, IsTextAt, expr_sound, expr_part, condition_sound, argument_sound, text_argument, arguments_part, Parted, spot_fine, bound_fine, bracketed_fine, parts_sound}
+use Rattle.aos_check_expr.proofs.Uncalled.{condition_calm}
 use Rattle.aos_check_expr.proofs.Called.{IsCalling, IsBound}
 use Rattle.aos_check_expr.proofs.Initials.{initialized, none_initialized}
 use Rattle.aos_check_stat.specs.Bodies as judge
@@ -70,7 +72,7 @@ use Rattle.aos_check_stat.specs.Bodies.{listed, put, lengths_wanted, new_breache
 use Rattle.aos_check_stat.proofs.Places.{MayBe as MayBeOf, some_breach, not_long, not_nil, not_named, IsRead, read_sound, IsAssigned, assigned_sound, told_typed, copying, putting, copied_text, object_itself, object_made, pointer_made, IsTarget, target_sound, lengths_counted}
 use Rattle.aos_check_stat.proofs.Changed.{place_changed, change_call_sound, assert_sound, halt_sound}
 use Rattle.aos_check_stat.proofs.Apart.{between}
-use Rattle.aos_check_stat.proofs.Narrowed.{whole_within, narrows_on, with_typed}
+use Rattle.aos_check_stat.proofs.Narrowed.{whole_within, region_whole, condition_whole, narrows_on, with_typed}
 use Rattle.aos_check_stat.proofs.Controlled.{IsControl, AreMore, control_sound, fitting_sound, step_sound, selector_sound, labels_sound}
 
 module _ (p : Inside) (e : Env) (whole : IsWhole p e) where
@@ -555,7 +557,7 @@ module _ (p : Inside) (e : Env) (whole : IsWhole p e) where
 
   meant_ends : (u : TypeId) (x : Symbol) (m : Meaning) (h : Head) → (desig.meant e x m h).breaches ≡ [] → MayBeNarrowed u (desig.meant e x m h).answer → Ends (judge.narrowed_meaning x m u)
   meant_ends u x (means.Variable k) h = λ none may.
-      whole_within e (e.narrowed ++ record { at = x.at; number = k; of = u } ∷ []) p whole (narrows_on e p whole x k h.name.pos u may)
+      whole_within e (e.narrowed ++ record { at = x.at; number = k; of = u } ∷ []) e.is_exclusive e.is_condition p whole (narrows_on e p whole x k h.name.pos u may)
   meant_ends u x m h = λ none may. whole
 
   name_ends : (u : TypeId) (l : Lookup) (h : Head) → h.found ≡ l → (judge.with_name e h).breaches ≡ [] → MayBeNarrowed u (judge.with_name e h).answer → Ends (judge.narrowed_found l u)
@@ -599,6 +601,15 @@ module _ (p : Inside) (e : Env) (whole : IsWhole p e) where
       end None is w = rw is w
       end (Some n) is w = rw is w
 
+-- AWAIT
+
+pub await_sound : (p : Inside) (e : Env) → IsWhole p e → (at : Pos) (x : TreeExpr) → Holds (MayBeOf p) (judge.await_of e at x)
+await_sound p e whole at x =
+    holds_bind (λ t. IsOf p t type.Boolean × HasNoCalls t) (MayBeOf p) (condition (judge.in_condition e) x)
+    (λ t. judged (breach_unless e.is_exclusive 43 at) (Some (Await at 0 t)))
+    (λ none. (condition_sound p (judge.in_condition e) (condition_whole p e whole) x none, condition_calm (judge.in_condition e) refl x))
+    (λ t is h. is)
+
 module _ (p : Inside) where
   -- what breaks a rule is no statement
   abbrev Fine : Option Stat → Type 0
@@ -630,12 +641,14 @@ module _ (p : Inside) where
         (condition_sound p e whole c)
         (λ test is. holds_bind AreFine Fine (judge.stats_in e in_loop [] row) (λ body. kept (Some (While q test (listed body)))) (stats_sound e whole in_loop [] tt row) (λ body are h. (is, are)))
     stat_sound e whole in_loop (stat.Block' q ms shape row) =
-        holds_bind AreFine Fine (judged (modifier_breaches e.here.text false ms) []) (λ none. bind (judge.stats_in e in_loop none row) (λ body. kept (Some (BlockOf q (are_exclusive e.here.text ms) (listed body)))))
-        (λ h. tt)
-        (λ none are. holds_bind AreFine Fine (judge.stats_in e in_loop none row) (λ body. kept (Some (BlockOf q (are_exclusive e.here.text ms) (listed body)))) (stats_sound e whole in_loop none are row) (λ body all h. all))
+        let f = judge.within_block ms e in
+        let block = λ (body : List Stat). kept (Some (BlockOf q (are_exclusive e.here.text ms) (listed body))) in
+        holds_bind AreFine Fine (judged (modifier_breaches e.here.text false ms) []) (λ none. bind (judge.stats_in f in_loop none row) block) (λ h. tt)
+        (λ none are. holds_bind AreFine Fine (judge.stats_in f in_loop none row) block
+        (stats_sound f (region_whole p e whole (e.is_exclusive || are_exclusive e.here.text ms)) in_loop none are row) (λ body all h. all))
     stat_sound e whole in_loop (stat.Exit q) = exit_sound p e whole in_loop q
     stat_sound e whole in_loop (stat.Return q x) = return_sound p e whole q (judge.gives_here e) (own_result p e whole) x
-    stat_sound e whole in_loop (stat.Await q x) = λ h. tt
+    stat_sound e whole in_loop (stat.Await q x) = await_sound p e whole q x
     stat_sound e whole in_loop (stat.If' q c shape row shapes rows otherwise) =
         let last = bind (judge.else_in e in_loop otherwise) (λ ss. kept (Otherwise (listed ss))) in
         let whole_if = λ (test : Expr) (body : List Stat) (arms : Arms). kept (Some (If q (Arm test (listed body) arms))) in
@@ -734,5 +747,6 @@ module _ (p : Inside) where
   pub body_sound : (e : Env) (whole : IsWhole p e) (may_be_active : Bool) (b : Option Block) → Holds AreFine (judge.body_of e may_be_active b)
   body_sound e whole may_be_active None = λ h. tt
   body_sound e whole may_be_active (Some b) =
-      holds_bind AreFine AreFine (judged (modifier_breaches e.here.text may_be_active b.modifiers) []) (λ none. walk (judge.stat_in e false) none b.body.stats)
-      (λ h. tt) (λ none are. holds_walk AreFine (judge.stat_in e false) (stat_in_sound e whole) b.body.stats none are)
+      let f = judge.within_body b.modifiers e in
+      holds_bind AreFine AreFine (judged (modifier_breaches e.here.text may_be_active b.modifiers) []) (λ none. walk (judge.stat_in f false) none b.body.stats)
+      (λ h. tt) (λ none are. holds_walk AreFine (judge.stat_in f false) (stat_in_sound f (region_whole p e whole (are_exclusive e.here.text b.modifiers))) b.body.stats none are)

@@ -1,4 +1,4 @@
--- The third pass: bodies. Built are assignments, calls of procedures and methods, all other statements but AWAIT, the predeclared
+-- The third pass: bodies. Built are assignments, calls of procedures and methods, all other statements, the predeclared
 -- procedures, of which NEW takes a pointer or an object variable, with the arguments of the object's initializer, the calls of Out, and of
 -- the modifiers ACTIVE on an object's body, and EXCLUSIVE on any body or block.
 -- A statement that isn't built is refused at its first token, a modifier at itself.
@@ -20,7 +20,7 @@ use Rattle.aos_tree.specs.declared.stat.Label.{Label}
 use Rattle.aos_tree.specs.declared.stat.Case.TheVariants as case
 use Rattle.aos_tree.specs.declared.stat.Stat.{Stat as TreeStat, Row_of-Stat, end_of-Stat, more_of-Stat, Row_of-Elsif, end_of-Elsif, more_of-Elsif, Row_of-Case, end_of-Case, more_of-Case, Held-Stat-If-4, None', Some'}
 use Rattle.aos_tree.specs.declared.stat.Stat.TheVariants as stat
-use Rattle.aos_typed.specs.Program.{Arguments, NoMore, Callee, Plain, Call, Open, Char, Int, String, Ln, Place, ModuleVar, Expr as Typed, Lit, Stat, Assign, Copy, PutText, If, Case, While, Repeat, Loop, Exit, For, Block, Assert, Halt, Change, Perform, Return, New, Make, With, WithRecord, Out, Stats, Nothing, Then, Arms, Otherwise, Arm, Cases, NoElse, Else, OfLabels}
+use Rattle.aos_typed.specs.Program.{Arguments, NoMore, Callee, Plain, Call, Open, Char, Int, String, Ln, Place, ModuleVar, Expr as Typed, Lit, Stat, Assign, Copy, PutText, If, Case, While, Repeat, Loop, Exit, For, Block, Await, Assert, Halt, Change, Perform, Return, New, Make, With, WithRecord, Out, Stats, Nothing, Then, Arms, Otherwise, Arm, Cases, NoElse, Else, OfLabels}
 use Rattle.aos_typed.specs.declared.tree.TextConstant.{TextConstant}
 use Rattle.aos_typed.specs.declared.tree.Literal.{Literal}
 use Rattle.aos_typed.specs.declared.tree.Literal.TheVariants as literal
@@ -203,6 +203,22 @@ breaches_behind text may_be_active may_be_exclusive (m ∷ ms) =
 -- those of a body that may be active or not
 abbrev pub modifier_breaches : List ℕ → (may_be_active : Bool) → List Modifier → List Breach
 modifier_breaches text may_be_active ms = breaches_behind text may_be_active true ms
+
+-- in an exclusive block, or in none
+abbrev pub in_region : (is_exclusive : Bool) → Env → Env
+in_region is_exclusive e = record e { is_exclusive = is_exclusive }
+
+-- within a block with these modifiers: an exclusive block stands round it, or it is one itself
+abbrev pub within_block : List Modifier → Env → Env
+within_block ms e = in_region (e.is_exclusive || are_exclusive e.here.text ms) e
+
+-- within a whole body with these modifiers
+abbrev pub within_body : List Modifier → Env → Env
+within_body ms e = in_region (are_exclusive e.here.text ms) e
+
+-- in the condition of an AWAIT
+abbrev pub in_condition : Env → Env
+in_condition e = record e { is_condition = true }
 
 -- INC, DEC, INCL and EXCL of a variable, by a value or by 1: the variable is of an integer type, or a set
 abbrev pub changing : Routine → Option TypeId → Changing
@@ -685,6 +701,10 @@ module _ (e : Env) where
       by None = e
       by (Some v) = env.narrowing e v
 
+-- AWAIT, whose number is that among all of a program, which is told when all are met
+abbrev pub await_of : Env → Pos → TreeExpr → Judged (Option Stat)
+await_of e p x = bind (condition (in_condition e) x) (λ test. judged (breach_unless e.is_exclusive 43 p) (Some (Await p 0 test)))
+
 -- behind a WITH around which these variables were narrowed, where others are within
 abbrev pub behind_with : Option (List Narrowed) → Env → Env
 behind_with None e = e
@@ -704,11 +724,11 @@ abbrev mutual
   stat_of e in_loop (stat.While' p c shape row) =
       bind (condition e c) (λ test. bind (stats_in e in_loop [] row) (λ body. kept (Some (While p test (listed body)))))
   stat_of e in_loop (stat.Block' p ms shape row) =
-      bind (judged (modifier_breaches e.here.text false ms) []) (λ none. bind (stats_in e in_loop none row) (λ body.
+      bind (judged (modifier_breaches e.here.text false ms) []) (λ none. bind (stats_in (within_block ms e) in_loop none row) (λ body.
       kept (Some (Block p (are_exclusive e.here.text ms) (listed body)))))
   stat_of e in_loop (stat.Exit p) = exit_of in_loop p
   stat_of e in_loop (stat.Return p x) = return_of e p (gives_here e) x
-  stat_of e in_loop (stat.Await p x) = not_yet p
+  stat_of e in_loop (stat.Await p x) = await_of e p x
   stat_of e in_loop (stat.If' p c shape row shapes rows otherwise) =
       bind (condition e c) (λ test. bind (stats_in e in_loop [] row) (λ body.
       bind (elsifs_in e in_loop rows (bind (else_in e in_loop otherwise) (λ last. kept (Otherwise (listed last))))) (λ arms.
@@ -761,8 +781,9 @@ module _ (e : Env) where
   abbrev pub stat_in : Bool → List Stat → TreeStat → Judged (List Stat)
   stat_in in_loop ts x = bind (stat_of e in_loop x) (λ o. kept (put ts o))
 
-  -- a body that is END alone has no statements
-  abbrev pub body_of : Bool → Option TreeBlock → Judged (List Stat)
-  body_of may_be_active None = kept []
-  body_of may_be_active (Some b) =
-      bind (judged (modifier_breaches e.here.text may_be_active b.modifiers) []) (λ none. walk (stat_in false) none b.body.stats)
+-- a body that is END alone has no statements
+abbrev pub body_of : Env → Bool → Option TreeBlock → Judged (List Stat)
+body_of e may_be_active None = kept []
+body_of e may_be_active (Some b) =
+    bind (judged (modifier_breaches e.here.text may_be_active b.modifiers) []) (λ none.
+    walk (stat_in (within_body b.modifiers e) false) none b.body.stats)

@@ -19,7 +19,7 @@ use Rattle.aos_symbols.specs.Judged.{Judged, judged, kept, bind, walk}
 use Rattle.aos_check_expr.specs.Known.{width_of}
 use Rattle.aos_check_expr.specs.Designators.{guard}
 use Rattle.aos_check_expr.specs.Expressions.{condition, known_type}
-use Rattle.aos_check_stat.specs.Bodies.{listed, modifier_breaches, are_exclusive, Labels, label_in, selector, control, fitting, step_of, with_variable, narrowed_by, with_stat, stat_in}
+use Rattle.aos_check_stat.specs.Bodies.{listed, modifier_breaches, are_exclusive, within_block, Labels, label_in, selector, control, fitting, step_of, with_variable, narrowed_by, with_stat, stat_in}
 
 -- the code's arms before others
 abbrev pub onto : List TArm → Arms → Arms
@@ -45,7 +45,7 @@ module _ (e : Env) where
 
   abbrev pub block_of : Bool → TreeBlock → Judged (Option Stat)
   block_of in_loop b =
-      bind (judged (modifier_breaches e.here.text false b.modifiers) []) (λ none. bind (walk (stat_in e in_loop) none b.body.stats) (λ body.
+      bind (judged (modifier_breaches e.here.text false b.modifiers) []) (λ none. bind (walk (stat_in (within_block b.modifiers e) in_loop) none b.body.stats) (λ body.
       kept (Some (Block b.pos (are_exclusive e.here.text b.modifiers) (listed body)))))
 
   abbrev pub for_of : Bool → Pos → Name → Pos → (from to : TreeExpr) → Option TreeExpr → List TreeStat → Judged (Option Stat)

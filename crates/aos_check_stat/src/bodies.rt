@@ -5,7 +5,7 @@ ghost use Rattle.aos_typed.specs.Seen.{seen_stat, seen_stats};
 ghost use Rattle.aos_symbols.specs.Breaches.{first_after};
 ghost use Rattle.aos_check_stat.specs.Bodies as judge;
 
-use crate::refusals::refuse_modifiers;
+use crate::refusals::{are_exclusive, refuse_modifiers};
 use crate::statements::stats_in;
 use aos_symbols::{Breach, Env};
 use aos_tree::Block;
@@ -33,8 +33,14 @@ pub fn body_of(
         None => Ok(Vec::new(alloc)),
         Some(block) => {
             let text = env.here.text();
-            refuse_modifiers(found, text, may_be_active, block.modifiers.as_slice());
-            stats_in(alloc, found, env, false, block.body.stats.as_slice())
+            let modifiers = block.modifiers.as_slice();
+            let exclusive = are_exclusive(text, modifiers);
+            refuse_modifiers(found, text, may_be_active, modifiers);
+            let around = env.is_exclusive;
+            env.is_exclusive = exclusive;
+            let stats = stats_in(alloc, found, env, false, block.body.stats.as_slice())?;
+            env.is_exclusive = around;
+            Ok(stats)
         },
     }
 }

@@ -1,6 +1,7 @@
 //! Which rules bodies break, and their statements in the typed program.
 #![tactic(auto)]
 
+mod awaits;
 pub mod bodies;
 mod calls;
 mod labels;

@@ -12,11 +12,12 @@ ghost use Rattle.aos_check_stat.specs.Bodies as judge;
 ghost use Rattle.aos_check_stat.specs.Listed as listed;
 ghost use Rattle.aos_check_stat.specs.Listed.{onto};
 
+use crate::awaits::{await_of, enter_block, leave_block};
 use crate::calls::called;
 use crate::labels::{Labels, labels_in, selector};
 use crate::loops::{control, fitting, step_of};
 use crate::procedures::return_of;
-use crate::refusals::{are_exclusive, not_yet, refuse_modifiers, refused};
+use crate::refusals::{are_exclusive, refuse_modifiers, refused};
 use crate::texts::{put_text, text_to, value_fits};
 use crate::withs::{enter_with, leave_with, with_stat, with_variable};
 use aos_base::Pos;
@@ -142,7 +143,7 @@ fn stat_of(
         Stat::Block(block) => block_of(alloc, found, env, in_loop, block),
         Stat::Exit(at) => Ok(exit_of(found, in_loop, *at)),
         Stat::Return(at, value) => return_of(alloc, found, env, *at, value),
-        Stat::Await(at, _) => Ok(not_yet(found, *at)),
+        Stat::Await(at, test) => await_of(alloc, found, env, *at, test),
         Stat::If(at, test, body, arms, last) => {
             let first = arm_of(alloc, found, env, in_loop, body, test)?;
             let mut all = Vec::new(alloc);
@@ -438,7 +439,9 @@ fn block_of(
     let modifiers = block.modifiers.as_slice();
     let exclusive = are_exclusive(text, modifiers);
     refuse_modifiers(found, text, false, modifiers);
+    let around = enter_block(env, exclusive);
     let body = stats_in(alloc, found, env, in_loop, block.body.stats.as_slice())?;
+    leave_block(env, around);
     Ok(Some(TStat::Block(block.pos, exclusive, body)))
 }
 

@@ -6,8 +6,8 @@ use Rattle.aos_typed.specs.Program.{Program}
 use Rattle.aos_symbols.specs.Outcome.{Outcome, refused, went, then, in_turn}
 use Rattle.aos_compile.specs.declared.compile_err.CompileErr.{CompileErr}
 use Rattle.aos_compile.specs.declared.compile_err.CompileErr.TheVariants.{Refused, NoMemory}
-use Rattle.aos_compile.specs.Modules.{World, no_modules, program_of}
-use Rattle.aos_compile.specs.Files.{Source, Reading, trees_from, load_order, loaded, modules, elaborate}
+use Rattle.aos_compile.specs.Modules.{World, no_modules}
+use Rattle.aos_compile.specs.Files.{Source, Reading, trees_from, load_order, loaded, modules, whole, elaborate}
 use Rattle.aos_compile.specs.Elaborates.{AreReadings, ComesTo, OnRefused}
 
 -- what is told of a part, told of the whole
@@ -21,7 +21,7 @@ module _ (texts : List (List ℕ)) (rs : List Reading) (are : AreReadings texts 
   comes NoMemory e = tt
 
   abbrev behind_trees : List Tree → Outcome Program
-  behind_trees ms = then (modules (zip texts ms)) (λ w. went (program_of w))
+  behind_trees ms = then (modules (zip texts ms)) (λ w. went (whole w))
 
   pub broken_text : (said : CompileErr) → OnRefused said (λ r. trees_from 0 rs ≡ refused r) → OnRefused said (λ r. ComesTo texts (refused r))
   broken_text said h = comes said (on_refused said (trees_from 0 rs) behind_trees h)
@@ -38,7 +38,7 @@ module _ (texts : List (List ℕ)) (rs : List Reading) (are : AreReadings texts 
 
     pub no_order : (said : CompileErr) → OnRefused said (λ r. load_order files ≡ refused r) → OnRefused said (λ r. ComesTo texts (refused r))
     no_order said h =
-        over said (on_refused said (modules files) (λ w. went (program_of w)) (on_refused said (load_order files) (λ order. in_turn (loaded files) no_modules order) h))
+        over said (on_refused said (modules files) (λ w. went (whole w)) (on_refused said (load_order files) (λ order. in_turn (loaded files) no_modules order) h))
 
     module _ (order : List ℕ) (ordered : load_order files ≡ went order) where
       ordered_so : modules files ≡ in_turn (loaded files) no_modules order
@@ -46,11 +46,11 @@ module _ (texts : List (List ℕ)) (rs : List Reading) (are : AreReadings texts 
 
       pub broken_module : (said : CompileErr) → OnRefused said (λ r. in_turn (loaded files) no_modules order ≡ refused r) → OnRefused said (λ r. ComesTo texts (refused r))
       broken_module said h =
-          over said (on_refused said (modules files) (λ w. went (program_of w)) (subst (λ o. OnRefused said (λ r. o ≡ refused r)) (sym ordered_so) h))
+          over said (on_refused said (modules files) (λ w. went (whole w)) (subst (λ o. OnRefused said (λ r. o ≡ refused r)) (sym ordered_so) h))
 
-      pub whole : (w : World) (p : Program) → in_turn (loaded files) no_modules order ≡ went w → p ≡ program_of w → ComesTo texts (went p)
-      whole w p e is = record {
+      pub comes_whole : (w : World) (p : Program) → in_turn (loaded files) no_modules order ≡ went w → p ≡ whole w → ComesTo texts (went p)
+      comes_whole w p e is = record {
         readings = rs;
         are_readings = are;
-        is = read_so ∙ ap (λ x. then x (λ w. went (program_of w))) (ordered_so ∙ e) ∙ ap went (sym is);
+        is = read_so ∙ ap (λ x. then x (λ w. went (whole w))) (ordered_so ∙ e) ∙ ap went (sym is);
       }

@@ -21,8 +21,8 @@ use Rattle.aos_symbols.specs.Judged.{Judged, judged}
 use Rattle.aos_symbols.specs.Names.{name_breaches}
 use Rattle.aos_symbols.specs.Outcome.{Outcome, refused, went, then, in_turn, decided, passed}
 use Rattle.aos_check_decl.specs.Pass.{declare}
-use Rattle.aos_compile.specs.Modules.{World, bodies, elaborated, extended, no_modules, program_of}
-use Rattle.aos_compile.specs.Files.{Reading, tree, broken, Source, trees_from, is_named_out, named_out, at_name, refused_cycle, decided_order, file_of, load_order, loaded, modules}
+use Rattle.aos_compile.specs.Modules.{World, bodies, elaborated, extended, no_modules}
+use Rattle.aos_compile.specs.Files.{Reading, tree, broken, Source, trees_from, is_named_out, named_out, at_name, refused_cycle, decided_order, file_of, load_order, loaded, modules, whole}
 use Rattle.aos_compile.specs.Elaborates.{ComesTo}
 use Rattle.aos_compile.proofs.Readings.{length-readings}
 
@@ -148,8 +148,8 @@ pub file_within : (texts : List (List ℕ)) (r : Refusal) → ComesTo texts (ref
 file_within texts r h =
     let rs = h.readings in
     let size = length-readings texts rs h.are_readings in
-    by_then (trees_from 0 rs) (λ ms. then (modules (zip texts ms)) (λ w. went (program_of w))) r (λ n. n < length texts) h.is
+    by_then (trees_from 0 rs) (λ ms. then (modules (zip texts ms)) (λ w. went (whole w))) r (λ n. n < length texts) h.is
     (λ s is. let lt = trees_within 0 rs s is in omega (arith, lt, size))
-    (λ ms is e. by_then (modules (zip texts ms)) (λ w. went (program_of w)) r (λ n. n < length texts) e
+    (λ ms is e. by_then (modules (zip texts ms)) (λ w. went (whole w)) r (λ n. n < length texts) e
     (λ s is'. let lt = modules_within (zip texts ms) s is' in let most = length-zip texts ms in omega (arith, lt, most))
-    (λ w is' e'. no_refusal (program_of w) r e'))
+    (λ w is' e'. no_refusal (whole w) r e'))

@@ -25,9 +25,9 @@ use Rattle.aos_typed.specs.Program.{Module, Program}
 use Rattle.aos_typed.specs.WellTyped.{is_ident}
 use Rattle.aos_symbols.specs.Outcome.{went, in_turn}
 use Rattle.aos_symbols.specs.Spelling.{word}
-use Rattle.aos_compile.specs.Modules.{no_modules, program_of}
+use Rattle.aos_compile.specs.Modules.{World, no_modules, program_of}
 use Rattle.aos_compile.specs.Files.{Reading, tree, broken, Source, trees_from, file_of, named_out, decided_order, load_order, loaded, modules}
-use Rattle.aos_compile.specs.Elaborates.{IsTreeOf, IsReading, AreReadings, ComesTo, by_tree, by_scanner, by_syntax, by_nesting}
+use Rattle.aos_compile.specs.Elaborates.{IsTreeOf, IsReading, AreReadings, by_tree, by_scanner, by_syntax, by_nesting}
 use Rattle.aos_compile.proofs.Idents.{name_is_ident, spelled_alike}
 use Rattle.aos_symbols.proofs.Holds.{same_went, then_went}
 use Rattle.aos_compile.proofs.Loaded.{never_went, name_of, name_in, loaded_names}
@@ -168,22 +168,20 @@ pub record AreNamed (texts : List (List ℕ)) (p : Program) : Type 0 where
   pub names : All (λ m. is_ident m.name ≡ true) p.modules
   pub differ : AllPairs (λ m n. m.name ≢ n.name) p.modules
 
-pub are_named : (texts : List (List ℕ)) (p : Program) → ComesTo texts (went p) → AreNamed texts p
-are_named texts p c =
-    let read = then_went (trees_from 0 c.readings) _ p c.is in
-    let ss = zip texts read.0 in
-    let trees = are_trees texts c.readings 0 read.0 c.are_readings read.1 in
-    let made = then_went (modules ss) _ p read.2 in
-    let ordered = then_went (load_order ss) (λ ks. in_turn (loaded ss) no_modules ks) made.0 made.1 in
+pub are_named : (texts : List (List ℕ)) (rs : List Reading) (trees : List Tree) (w : World) → AreReadings texts rs → trees_from 0 rs ≡ went trees → modules (zip texts trees) ≡ went w →
+    AreNamed texts (program_of w)
+are_named texts rs trees w are_readings read made =
+    let ss = zip texts trees in
+    let are = are_trees texts rs 0 trees are_readings read in
+    let ordered = then_went (load_order ss) (λ ks. in_turn (loaded ss) no_modules ks) w made in
     let ks = ordered.0 in
-    let ms = made.0.modules in
-    let same : map (λ (m : Module). m.name) ms ≡ map (name_in ss) ks =
-    loaded_names ss ks no_modules made.0 (within ss trees.1 ks ordered.1) ordered.2 in
-    subst (AreNamed texts) (same_went (program_of made.0) p made.2) (record {
-      as_many = ms_long ss trees.1 ks ordered.1 ms same ∙ ks_long ss trees.1 ks ordered.1 ∙ trees.0;
-      names = are_idents ss trees.1 ks ordered.1 ms same;
-      differ = are_apart ss trees.1 ks ordered.1 ms same;
-    })
+    let same : map (λ (m : Module). m.name) w.modules ≡ map (name_in ss) ks =
+    loaded_names ss ks no_modules w (within ss are.1 ks ordered.1) ordered.2 in
+    record {
+      as_many = ms_long ss are.1 ks ordered.1 w.modules same ∙ ks_long ss are.1 ks ordered.1 ∙ are.0;
+      names = are_idents ss are.1 ks ordered.1 w.modules same;
+      differ = are_apart ss are.1 ks ordered.1 w.modules same;
+    }
 
 -- what well-typedness says of the modules of a program
 pub record NamedWell (p : Program) : Type 0 where
@@ -192,7 +190,8 @@ pub record NamedWell (p : Program) : Type 0 where
   pub names : All (λ m. is_ident m.name ≡ true) p.modules
   pub differ : AllPairs (λ m n. m.name ≢ n.name) p.modules
 
-pub named_well : (texts : List (List ℕ)) (p : Program) → ComesTo texts (went p) → 1 ≤ length texts → length texts ≤ 64 → NamedWell p
-named_well texts p c some few =
-    let named = are_named texts p c in
+pub named_well : (texts : List (List ℕ)) (rs : List Reading) (trees : List Tree) (w : World) → AreReadings texts rs → trees_from 0 rs ≡ went trees → modules (zip texts trees) ≡ went w →
+    1 ≤ length texts → length texts ≤ 64 → NamedWell (program_of w)
+named_well texts rs trees w are_readings read made some few =
+    let named = are_named texts rs trees w are_readings read made in
     record { some = omega (arith, named.as_many, some); few = omega (arith, named.as_many, few); names = named.names; differ = named.differ }

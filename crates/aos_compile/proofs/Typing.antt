@@ -7,6 +7,7 @@ use Rattle.aos_typed.specs.Numbers.{predeclared_types, predeclared_rows}
 use Rattle.aos_typed.specs.Methods.{methods_in, own_methods, base_type, on_base, methods_of}
 use Rattle.aos_typed.specs.Program.{ObjectType, Module, Program}
 use Rattle.aos_typed.specs.WellTyped.{AreSlots, AreStatements, AreTypes, IsVariableType, IsProcedure, AreObjectTypes, module_scalars, IsWellTyped}
+use Rattle.aos_typed.proofs.Numbered.{numbered_typed}
 use Rattle.aos_symbols.specs.Home.{Home}
 use Rattle.aos_symbols.specs.Outcome as outcome
 use Rattle.aos_symbols.specs.Outcome.{went, in_turn}
@@ -14,7 +15,7 @@ use Rattle.aos_symbols.proofs.Each.{Each, all_of}
 use Rattle.aos_symbols.proofs.Holds.{then_went, same_went}
 use Rattle.aos_check_expr.specs.Known.{object_number}
 use Rattle.aos_compile.specs.Modules.{World, no_modules, program_of}
-use Rattle.aos_compile.specs.Files.{Reading, Source, trees_from, loaded, load_order, modules, elaborate}
+use Rattle.aos_compile.specs.Files.{Source, trees_from, loaded, load_order, modules, whole}
 use Rattle.aos_compile.specs.Elaborates.{ComesTo}
 use Rattle.aos_compile.proofs.Names.{named_well}
 use Rattle.aos_compile.proofs.TypingTypes.{known_variables}
@@ -125,20 +126,17 @@ module _ (w : World) (sound : IsWorld w) (few : length w.types < 2 ^ 32) where
     procedures = all_of (λ m. All (λ q. IsProcedure (program_of w) q × (q.of ≡ None)) m.procedures) w.modules typed.procedures;
   }
 
-pub typed_well : (texts : List (List ℕ)) (rs : List Reading) (p : Program) → elaborate texts rs ≡ went p → length p.types < 2 ^ 32 → TypedWell p
-typed_well texts rs p h few =
-    let one = then_went (trees_from 0 rs) (λ ms. outcome.then (modules (zip texts ms)) (λ w. went (program_of w))) p h in
-    let two = then_went (modules (zip texts one.0)) (λ w. went (program_of w)) p one.2 in
-    let same = same_went (program_of two.0) p two.2 in
-    subst TypedWell same
-    (world_typed two.0 (world_sound (zip texts one.0) two.0 two.1) (subst (λ (q : Program). length q.types < 2 ^ 32) (sym same) few))
-
 -- the program of 1 to 64 texts, whose types have numbers of 32 bits
 pub well_typed : (texts : List (List ℕ)) (p : Program) → ComesTo texts (went p) → 1 ≤ length texts → length texts ≤ 64 → length p.types < 2 ^ 32 → IsWellTyped p
 well_typed texts p h some few types =
-    let named = named_well texts p h some few in
-    let typed = typed_well texts h.readings p h.is types in
-    record {
+    let read = then_went (trees_from 0 h.readings) (λ ms. outcome.then (modules (zip texts ms)) (λ w. went (whole w))) p h.is in
+    let made = then_went (modules (zip texts read.0)) (λ w. went (whole w)) p read.2 in
+    let w = made.0 in
+    let same = same_went (whole w) p made.2 in
+    let named = named_well texts h.readings read.0 w h.are_readings read.1 made.1 some few in
+    let typed = world_typed w (world_sound (zip texts read.0) w made.1) (subst (λ (q : Program). length q.types < 2 ^ 32) (sym same) types) in
+    subst IsWellTyped same
+    (numbered_typed (program_of w) (record {
       some = named.some;
       few = named.few;
       names = named.names;
@@ -153,4 +151,4 @@ well_typed texts p h some few types =
       variables = typed.variables;
       few_scalars = typed.few_scalars;
       procedures = typed.procedures;
-    }
+    }))

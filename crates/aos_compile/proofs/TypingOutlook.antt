@@ -32,6 +32,8 @@ outlook hs types =
       claims = [];
       narrowed = [];
       self_type = None;
+      is_exclusive = false;
+      is_condition = false;
     }
 
 other_number : (m n : ℕ) → m < n → (m == n) ≡ false

@@ -15,7 +15,7 @@ use Rattle.aos_typed.specs.declared.tree.TType.TheVariants.{Integer, Named, Any,
 use Rattle.aos_typed.specs.Numbers.{id_of}
 use Rattle.aos_typed.specs.Meaning.{changed_type}
 use Rattle.aos_typed.specs.Routines.{result_of}
-use Rattle.aos_typed.specs.Program.{Place, ModuleVar, Local, Passed, Field, Index, Of, Deref, Typed, Guarded, Rows, Known, Opened, Row, Spread, Longer, Arguments, NoMore, Scalar, Whole, Opening, Callee, Plain, Dispatched, Upper, Through, Expr, Lit, SelfRef, Read, Unary, Binary, And, Or, Element, Ord, Chr, CompareTexts, Len, LenBehind, Function, Same, Is, IsRecord, Guard, ProcedureOf, MethodOf, SameProcedure, Had, Call, Open, Char, Int, String, Ln, Stat, Assign, Copy, PutText, If, Case, While, Repeat, Loop, Exit, For, Block, Assert, Halt, Change, Perform, Return, New, Make, With, WithRecord, Out, Stats, Nothing, Then, Arms, Otherwise, Arm, Cases, NoElse, Else, OfLabels, Parameter, Procedure, Module, ObjectType, Program}
+use Rattle.aos_typed.specs.Program.{Place, ModuleVar, Local, Passed, Field, Index, Of, Deref, Typed, Guarded, Rows, Known, Opened, Row, Spread, Longer, Arguments, NoMore, Scalar, Whole, Opening, Callee, Plain, Dispatched, Upper, Through, Expr, Lit, SelfRef, Read, Unary, Binary, And, Or, Element, Ord, Chr, CompareTexts, Len, LenBehind, Function, Same, Is, IsRecord, Guard, ProcedureOf, MethodOf, SameProcedure, Had, Call, Open, Char, Int, String, Ln, Stat, Assign, Copy, PutText, If, Case, While, Repeat, Loop, Exit, For, Block, Await, Assert, Halt, Change, Perform, Return, New, Make, With, WithRecord, Out, Stats, Nothing, Then, Arms, Otherwise, Arm, Cases, NoElse, Else, OfLabels, Parameter, Procedure, Module, ObjectType, Program}
 use Rattle.aos_typed.specs.Open.{open_dimensions, open_element}
 use Rattle.aos_typed.specs.Formals.{AreSame, Agree, HasFormals, pattern_in, pattern_of}
 use Rattle.aos_typed.specs.Methods.{method_in, initializer}
@@ -444,6 +444,7 @@ module _ (p q : Program) (grows : Grows p q) where
       statement_grows (Exit at) h = tt
       statement_grows (For at w x from to step body) h = (h.0, place_grows x (Integer w) h.1, value_grows from _ h.2, value_grows to _ h.3, h.4, statements_grow body h.5)
       statement_grows (Block at exclusive body) h = statements_grow body h
+      statement_grows (Await at n e) h = (value_grows e _ h.0, h.1)
       statement_grows (Assert at e code) h = (value_grows e _ h.0, h.1)
       statement_grows (Halt at code) h = h
       statement_grows (Change at c x e) h = (place_grows x (changed_type c) h.0, value_grows e (amount_type c) h.1)

@@ -8,6 +8,7 @@ use Rattle.aos_tree.specs.declared.module.Module.{Module as Tree}
 use Rattle.aos_order.specs.Files.{File, file}
 use Rattle.aos_order.specs.Order.{Answer, Order, Twice, Absent, Cycle, answer}
 use Rattle.aos_typed.specs.Program.{Program}
+use Rattle.aos_typed.specs.Conditions.{numbered}
 use Rattle.aos_symbols.specs.declared.breach.Breach.{Breach}
 use Rattle.aos_symbols.specs.Outcome.{Outcome, refused, went, then, in_turn, refusal, refusal_of}
 use Rattle.aos_symbols.specs.Spelling.{is_word}
@@ -76,6 +77,10 @@ loaded ss w k = load (slice_get ss k)
 abbrev pub modules : List Source → Outcome World
 modules ss = then (load_order ss) (λ order. in_turn (loaded ss) no_modules order)
 
+-- the program of all modules, whose AWAITs have their numbers
+abbrev pub whole : World → Program
+whole w = numbered (program_of w)
+
 -- What texts come to, whose readings are these: their program, or the refusal by the first rule that they break.
 abbrev pub elaborate : List (List ℕ) → List Reading → Outcome Program
-elaborate texts rs = then (trees_from 0 rs) (λ ms. then (modules (zip texts ms)) (λ w. went (program_of w)))
+elaborate texts rs = then (trees_from 0 rs) (λ ms. then (modules (zip texts ms)) (λ w. went (whole w)))

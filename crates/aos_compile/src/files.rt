@@ -14,6 +14,7 @@ ghost use Rattle.aos_compile.specs.Sources.{bytes_of, seen_reading, sources};
 use crate::compile_err::CompileErr;
 use crate::front::{Reading, read};
 use crate::modules::{World, elaborated, no_modules, program_of};
+use aos_await::number;
 use aos_base::{Pos, Refusal};
 use aos_order::{OrderErr, order};
 use aos_symbols::{NAMED_OUT, is_word};
@@ -144,6 +145,16 @@ fn in_load_order<'a>(
     Ok(world)
 }
 
+/// The program of all modules, whose AWAITs have their numbers.
+fn whole(world: World<'_>) -> Result<Program, AllocError>
+    ensures went { IfOk result (λ p. seen_program p ≡ files.whole (seen_world world.entry)) }
+    ensures each { IfOk result (λ p. length p.modules.items ≡ length world.entry.modules.items) }
+{
+    let mut program = program_of(world);
+    number(&mut program)?;
+    Ok(program)
+}
+
 /// The typed program of the texts of at most 64 modules, each of at most 2^20 bytes, in the order of the command; or the
 /// first rule that they break.
 pub fn elaborate(alloc: Global, texts: &[Vec<u8>]) -> Result<Program, CompileErr>
@@ -158,5 +169,6 @@ pub fn elaborate(alloc: Global, texts: &[Vec<u8>]) -> Result<Program, CompileErr
     let trees = trees_of(alloc, readings)?;
     let order = load_order(alloc, texts, &trees)?;
     let world = in_load_order(alloc, texts, &trees, &order)?;
-    Ok(program_of(world))
+    let program = whole(world)?;
+    Ok(program)
 }

@@ -12,7 +12,7 @@ use crate::compile_err::CompileErr;
 use crate::files::elaborate;
 use crate::laws::law_of_typing;
 use aos_code::Image;
-use aos_emit::bodies_of;
+use aos_emit::{bodies_of, conditions_of};
 use aos_image::link;
 use aos_typed::Program;
 use std::alloc::Global;
@@ -41,7 +41,8 @@ fn with_image(
         return Err(CompileErr::NoMemory);
     }
     let bodies = bodies_of(alloc, &program)?;
-    let image = link(alloc, &program, bodies)?;
+    let conditions = conditions_of(alloc, &program)?;
+    let image = link(alloc, &program, bodies, conditions)?;
     Ok((program, image))
 }
 

@@ -26,6 +26,23 @@ MODULE M; VAR n: LONGINT; BEGIN {EXCLUSIVE} BEGIN {EXCLUSIVE} n := 1 END; BEGIN 
 MODULE M; BEGIN {EXCLUSIVE, EXCLUSIVE} END M. => kept, kept, 45 at 29: []
 MODULE M; TYPE A = ARRAY 2, 0 OF CHAR; B = RECORD b: B END; END M. => kept, 20 at 29, kept: []";
 
+/// The same for texts with AWAIT: those that are taken, and which rule the others break first.
+static AWAITS: &str = "\
+MODULE M; VAR n: LONGINT; BEGIN {EXCLUSIVE} AWAIT(n > 0) END M. => kept, kept, kept: [Await(Pos { line: 1, col: 45 }, 0, Binary(Cmp(Greater), Read(Integer(W32), ModuleVar(0, 0)), Lit(Int(0))))]
+MODULE M; VAR n: LONGINT; BEGIN BEGIN {EXCLUSIVE} WHILE n > 0 DO BEGIN AWAIT(n = 0) END END END END M. => kept, kept, kept: [Block(Pos { line: 1, col: 33 }, true, [While(Pos { line: 1, col: 51 }, Binary(Cmp(Greater), Read(Integer(W32), ModuleVar(0, 0)), Lit(Int(0))), [Block(Pos { line: 1, col: 66 }, false, [Await(Pos { line: 1, col: 72 }, 0, Binary(Cmp(Equal), Read(Integer(W32), ModuleVar(0, 0)), Lit(Int(0))))])])])]
+MODULE M; VAR n: LONGINT; BEGIN AWAIT(n > 0) END M. => kept, kept, 43 at 33: [Await(Pos { line: 1, col: 33 }, 0, Binary(Cmp(Greater), Read(Integer(W32), ModuleVar(0, 0)), Lit(Int(0))))]
+MODULE M; VAR n: LONGINT; BEGIN BEGIN {EXCLUSIVE} AWAIT(TRUE) END; BEGIN AWAIT(n) END END M. => kept, kept, 43 at 74: [Block(Pos { line: 1, col: 33 }, true, [Await(Pos { line: 1, col: 51 }, 0, Lit(Bool(true)))]), Block(Pos { line: 1, col: 68 }, false, [Await(Pos { line: 1, col: 74 }, 0, Read(Integer(W32), ModuleVar(0, 0)))])]
+MODULE M; VAR n: LONGINT; BEGIN {EXCLUSIVE} AWAIT(n) END M. => kept, kept, 37 at 51: [Await(Pos { line: 1, col: 45 }, 0, Read(Integer(W32), ModuleVar(0, 0)))]
+MODULE M; VAR n: LONGINT; PROCEDURE F(k: LONGINT): LONGINT; BEGIN RETURN k END F; BEGIN {EXCLUSIVE} AWAIT(F(n)) END M. => kept, kept, 37 at 107: [Await(Pos { line: 1, col: 101 }, 0, Lit(Bool(false)))]
+MODULE M; VAR n: LONGINT; PROCEDURE F(k: LONGINT): LONGINT; BEGIN RETURN k END F; BEGIN {EXCLUSIVE} AWAIT(n = F(F(n))) END M. => kept, kept, 44 at 111: [Await(Pos { line: 1, col: 101 }, 0, Binary(Cmp(Equal), Read(Integer(W32), ModuleVar(0, 0)), Lit(Bool(false))))]
+MODULE M; VAR n: LONGINT; PROCEDURE F(k: LONGINT): LONGINT; BEGIN RETURN k END F; BEGIN {EXCLUSIVE} AWAIT(ODD(F(n) + TRUE)) END M. => kept, kept, 44 at 111: [Await(Pos { line: 1, col: 101 }, 0, Unary(Odd, Binary(Add(W64), Lit(Bool(false)), Lit(Bool(true)))))]
+MODULE M; VAR n: LONGINT; PROCEDURE F(k: LONGINT): LONGINT; BEGIN RETURN k END F; BEGIN {EXCLUSIVE} AWAIT(n + TRUE = F(n)) END M. => kept, kept, 30 at 109: [Await(Pos { line: 1, col: 101 }, 0, Binary(Cmp(Equal), Binary(Add(W64), Read(Integer(W32), ModuleVar(0, 0)), Lit(Bool(true))), Lit(Bool(false))))]
+MODULE M; VAR n: LONGINT; PROCEDURE F(k: LONGINT): LONGINT; BEGIN RETURN k END F; BEGIN {EXCLUSIVE} AWAIT(n = F()) END M. => kept, kept, 34 at 111: [Await(Pos { line: 1, col: 101 }, 0, Binary(Cmp(Equal), Read(Integer(W32), ModuleVar(0, 0)), Lit(Bool(false))))]
+MODULE M; PROCEDURE P; END P; BEGIN {EXCLUSIVE} AWAIT(P()) END M. => kept, kept, 36 at 55: [Await(Pos { line: 1, col: 49 }, 0, Lit(Bool(false)))]
+MODULE M; TYPE A = OBJECT VAR d: SET; PROCEDURE G(): BOOLEAN; BEGIN RETURN FALSE END G; END A; VAR a: ARRAY 2 OF A; BEGIN {EXCLUSIVE} AWAIT((1 IN a[0].d) OR a[1].G()) END M. => kept, kept, 44 at 158: [Await(Pos { line: 1, col: 135 }, 0, Or(Binary(In, Lit(Int(1)), Read(Set, Field(Deref(Read(Named(0), Index(ModuleVar(0, 0), 2, Named(0), Lit(Int(0)))), Named(0)), Named(0), 0))), Lit(Bool(false))))]
+MODULE M; VAR q: PROCEDURE (): BOOLEAN; BEGIN {EXCLUSIVE} AWAIT(~q()) END M. => kept, kept, 44 at 66: [Await(Pos { line: 1, col: 59 }, 0, Unary(Not, Lit(Bool(false))))]
+MODULE M; VAR n: LONGINT; s: SHORTINT; t: ARRAY 2 OF CHAR; q: PROCEDURE (k: LONGINT): LONGINT; PROCEDURE F(k: LONGINT): LONGINT; BEGIN RETURN k END F; BEGIN {EXCLUSIVE} AWAIT((q = F) & ((LONGINT(s) = ABS(n)) & ((t = \"ab\") OR (LEN(t) = 2)))); n := F(n) END M. => kept, kept, kept: [Await(Pos { line: 1, col: 170 }, 0, And(SameProcedure(Read(Named(1), ModuleVar(0, 3)), ProcedureOf(0, 0)), And(Binary(Cmp(Equal), Unary(Range(-2147483648, 2147483647), Read(Integer(W8), ModuleVar(0, 1))), Unary(Abs(W32), Read(Integer(W32), ModuleVar(0, 0)))), Or(CompareTexts(Equal, Known(ModuleVar(0, 2), [2]), Known(ModuleVar(0, 4), [3])), Binary(Cmp(Equal), LenBehind(Known(ModuleVar(0, 2), []), 2), Lit(Int(2))))))), Assign(Pos { line: 1, col: 243 }, Integer(W32), ModuleVar(0, 0), Function(Plain(0, 0), [Scalar(Read(Integer(W32), ModuleVar(0, 0)))]))]";
+
 /// The types that stand first in each table.
 static BASIC: &str = "\
 short
@@ -80,5 +97,6 @@ fn expect_checks(rt: &impl Abort, alloc: Global, table: &str) -> Result<(), NoMe
 #[test]
 fn modules_by_their_passes(rt: HostRuntime) -> Result<(), Fail> {
     expect_checks(&rt, rt.alloc(), MODULES)?;
+    expect_checks(&rt, rt.alloc(), AWAITS)?;
     Ok(())
 }

@@ -70,6 +70,10 @@ pub const WRONG_TEST: u16 = 41;
 pub const WRONG_OVERRIDE: u16 = 22;
 /// A selector that the type hasn't.
 pub const WRONG_SELECTOR: u16 = 42;
+/// An AWAIT around which no exclusive block of its own body stands.
+pub const AWAIT_OUTSIDE: u16 = 43;
+/// A call in the condition of an AWAIT.
+pub const CALL_IN_AWAIT: u16 = 44;
 /// A modifier of a block, or a flag of a procedure type, that may not stand there.
 pub const WRONG_MODIFIER: u16 = 45;
 /// SELF outside the methods and the body of an object type, or `^` behind a method that overrides none.

@@ -135,6 +135,10 @@ pub struct Env<'a> {
     pub narrowed: Items<Narrowed>,
     /// The object type in whose methods or body the place stands.
     pub self_type: Option<TypeId>,
+    /// Whether an exclusive block of its own body stands round the place.
+    pub is_exclusive: bool,
+    /// Whether the place stands in the condition of an AWAIT, in which nothing is called.
+    pub is_condition: bool,
 }
 
 /// The predeclared names (Reali 2002, predeclared identifiers).

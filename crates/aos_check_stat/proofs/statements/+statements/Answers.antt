@@ -1,4 +1,5 @@
-use Rattle.std.proofs.Common.{◌≡◌, ◌+◌, [], ◌∷◌, ◌++◌, append-nil, drop, length, true, Some, sym, ap, ◌∙◌, subst, rules, OnOk, IfOk, option_map}
+use Rattle.std.proofs.Common.{◌≡◌, ◌+◌, [], ◌∷◌, ◌++◌, ◌||◌, append-nil, drop, length, true, false, Some, sym, ap, ◌∙◌, subst, rules, OnOk, IfOk, option_map}
+use Rattle.std.proofs.lemmas.Result.{IfOk-weaker}
 use Rattle.aos_symbols.specs.Judged.{walk}
 use Rattle.std.proofs.lemmas.Int.{to_z-of_z}
 use Rattle.std.specs.Int.{w64, cast_unsigned as of_z, cast_signed as to_z}
@@ -15,19 +16,51 @@ use Rattle.aos_check_stat.specs.Bodies as judge
 use Rattle.aos_check_stat.specs.Bodies.{listed}
 use Rattle.aos_check_stat.specs.Listed as parts
 use Rattle.aos_check_stat.specs.Listed.{onto}
-use Rattle.aos_check_stat.proofs.Rows.{stats_seen, stat_loop, stat_for, stat_with, arms_noted, arms_put, if_noted, if_answer, cases_noted, cases_put, case_noted, case_answer}
+use Rattle.aos_check_stat.proofs.Rows.{stats_seen, stat_block, stat_loop, stat_for, stat_with, arms_noted, arms_put, if_noted, if_answer, cases_noted, cases_put, case_noted, case_answer}
 use Rattle.aos_check_stat.proofs.statements.+statements.Goals as goal
 
 pub block_of-returns-clause-answer : goal.block_of-returns-clause-answer
 block_of-returns-clause-answer t c =
     let b = c.in_ok-body.body in
-    let body = c.in_ok-body.ensures.answer ∙ ap (λ l. (parts.listed_in c.args.env.now c.args.in_loop l).answer) c.as_slice.ensures in
+    let e = c.args.env.now in
     let at = c.args.block.now.pos in
     let flag = c.are_exclusive-exclusive.ensures
     ∙ ap (λ w. judge.are_exclusive w c.as_slice-modifiers.result.now) c.text-text.ensures
     ∙ ap (judge.are_exclusive c.args.env.now.here.text) c.as_slice-modifiers.ensures in
+    let within = c.enter_block-around.ensures.env ∙ ap (λ x. judge.in_region (e.is_exclusive || x) e) flag in
+    let body = c.in_ok-body.ensures.answer ∙ ap (λ f. (parts.listed_in f c.args.in_loop c.as_slice.result.now).answer) within ∙ ap (λ l. (parts.listed_in (judge.within_block c.args.block.now.modifiers e) c.args.in_loop l).answer) c.as_slice.ensures in
     ap (λ s. Some s) (block_seen at c.are_exclusive-exclusive.result b
     ∙ (λ i. Block at (flag i) ((stats_seen b.items ∙ ap listed body) i)))
+
+pub block_of-returns-clause-noted : goal.block_of-returns-clause-noted
+block_of-returns-clause-noted t c =
+    let e = c.args.env.now in
+    let met = c.args.found.now in
+    let b = c.args.block.now in
+    let flag = c.are_exclusive-exclusive.ensures
+    ∙ ap (λ w. judge.are_exclusive w c.as_slice-modifiers.result.now) c.text-text.ensures
+    ∙ ap (judge.are_exclusive e.here.text) c.as_slice-modifiers.ensures in
+    let own = judge.modifier_breaches e.here.text false b.modifiers in
+    let inner = judge.within_block b.modifiers e in
+    let ss = (parts.listed_in inner c.args.in_loop b.body.stats).breaches in
+    let within = c.enter_block-around.ensures.env ∙ ap (λ x. judge.in_region (e.is_exclusive || x) e) flag in
+    let first = c.refuse_modifiers.ensures
+    ∙ ap (λ w. first_after met (judge.modifier_breaches w false c.as_slice-modifiers.result.now)) c.text-text.ensures
+    ∙ ap (λ l. first_after met (judge.modifier_breaches e.here.text false l)) c.as_slice-modifiers.ensures in
+    let second = c.in_ok-body.ensures.noted
+    ∙ ap (λ n. first_after c.refuse_modifiers.new.found (parts.listed_in n c.args.in_loop c.as_slice.result.now).breaches) within
+    ∙ ap (λ l. first_after c.refuse_modifiers.new.found (parts.listed_in inner c.args.in_loop l).breaches) c.as_slice.ensures in
+    second
+    ∙ ap (λ m. first_after m ss) first
+    ∙ sym (after_more met own ss)
+    ∙ ap (λ l. first_after met (own ++ l)) (sym (append-nil ss))
+
+pub stat_of-returns-in-Block-clause-answer : goal.stat_of-returns-in-Block-clause-answer
+stat_of-returns-in-Block-clause-answer t c =
+    let e = c.args.env.now in
+    let x = c.in-Block in
+    IfOk-weaker c.block_of.result (λ s. option_map seen_stat s ≡ (parts.block_of e c.args.in_loop x.block).answer)
+    (λ s. option_map seen_stat s ≡ (judge.stat_of e c.args.in_loop c.args.stat.now).answer) (λ s h. h ∙ sym (ap (λ j. j.answer) (stat_block e c.args.in_loop c.args.stat.now x.block x.is))) c.block_of.ensures.answer
 
 pub cases_in-loop-arm-preserved : goal.cases_in-loop-arm-preserved
 cases_in-loop-arm-preserved t c =

@@ -1,8 +1,6 @@
 use Rattle.std.proofs.Common.{◌≡◌, List, Vec, ℕ, Global, length, map, ap, sym, ◌∙◌, arith}
 use Rattle.std.proofs.lemmas.List.{length-map}
 use Rattle.aos_tree.specs.declared.module.Module.{Module as Tree}
-use Rattle.aos_typed.specs.Program.{Program}
-use Rattle.aos_typed.specs.Seen.{seen_module}
 use Rattle.aos_symbols.specs.Outcome.{went}
 use Rattle.aos_compile.specs.declared.front.Reading.{Reading}
 use Rattle.aos_compile.specs.Files.{trees_from}
@@ -62,14 +60,9 @@ in_load_order-requires-clause-few c =
 
 pub returns-clause-few : goal.returns-clause-few
 returns-clause-few c =
-    let p = c.program_of.result in
-    let w = c.in_ok-world.world in
-    let same = ap (λ (x : Program). length x.modules) c.program_of.ensures in
     omega (
       arith,
-      same,
-      length-map p.modules.items seen_module,
-      length-map w.modules.items seen_module,
+      c.in_ok-program.ensures.each,
       c.in_ok-world.ensures.each,
       ap length c.deref-3.ensures.value,
       c.in_ok-order.ensures.few,

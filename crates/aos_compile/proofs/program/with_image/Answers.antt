@@ -10,7 +10,7 @@ bodies_of-requires-clause-few_types c =
     let texts = c.args.texts.now in
     let size = length-map texts (λ t. t.items) in
     let typed = c.law_of_typing.ensures (bytes_of texts) (seen_program c.args.program) c.requires.program (omega (arith, size)) (omega (arith, size)) (omega arith) in
-    let beside = typed.beside in
+    let beside = typed.parts.beside in
     let objects = length-map c.args.program.objects.items seen_object in
     omega (arith, beside, objects)
 
@@ -20,12 +20,27 @@ bodies_of-requires-clause-typed c =
     let size = length-map texts (λ t. t.items) in
     c.law_of_typing.ensures (bytes_of texts) (seen_program c.args.program) c.requires.program (omega (arith, size)) (omega (arith, size)) (omega arith)
 
+pub conditions_of-requires-clause-few_types : goal.conditions_of-requires-clause-few_types
+conditions_of-requires-clause-few_types c =
+    let texts = c.args.texts.now in
+    let size = length-map texts (λ t. t.items) in
+    let typed = c.law_of_typing.ensures (bytes_of texts) (seen_program c.args.program) c.requires.program (omega (arith, size)) (omega (arith, size)) (omega arith) in
+    let beside = typed.parts.beside in
+    let objects = length-map c.args.program.objects.items seen_object in
+    omega (arith, beside, objects)
+
+pub conditions_of-requires-clause-typed : goal.conditions_of-requires-clause-typed
+conditions_of-requires-clause-typed c =
+    let texts = c.args.texts.now in
+    let size = length-map texts (λ t. t.items) in
+    c.law_of_typing.ensures (bytes_of texts) (seen_program c.args.program) c.requires.program (omega (arith, size)) (omega (arith, size)) (omega arith)
+
 pub link-requires-clause-few_types : goal.link-requires-clause-few_types
 link-requires-clause-few_types c =
     let texts = c.args.texts.now in
     let size = length-map texts (λ t. t.items) in
     let typed = c.law_of_typing.ensures (bytes_of texts) (seen_program c.args.program) c.requires.program (omega (arith, size)) (omega (arith, size)) (omega arith) in
-    let beside = typed.beside in
+    let beside = typed.parts.beside in
     let objects = length-map c.args.program.objects.items seen_object in
     omega (arith, beside, objects)
 
