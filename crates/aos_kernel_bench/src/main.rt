@@ -105,6 +105,7 @@ fn image(alloc: Global, activities: u32) -> Result<Image, AllocError> {
             shape(alloc, true),
         ]?,
         bodies: vec![in alloc; first, region, looping]?,
+        conds: Vec::new(alloc),
     })
 }
 

@@ -27,6 +27,10 @@ impl Test for Verdicts {
 
     ghost verdict_of = { λ s n. slice_index_or s.of n Fails };
 
+    ghost Held = { Unit {0} };
+
+    ghost held = { λ _. tt };
+
     fn verdict(&mut self, waiter: u32) -> Verdict {
         if (waiter as usize) < self.of.len() {
             self.of[waiter as usize]

@@ -29,6 +29,7 @@ pub fn of_code(alloc: Global, code: Vec<Instr>) -> Result<Image, AllocError> {
         types: Vec::new(alloc),
         shapes: vec![in alloc; body_shape(alloc)]?,
         bodies: vec![in alloc; Body { code, depth: 4 }]?,
+        conds: Vec::new(alloc),
     })
 }
 

@@ -184,6 +184,7 @@ fn image_of(rt: &impl Abort, alloc: Global, cells: &[Cell], code: &str) -> Resul
         types: types_of(alloc)?,
         shapes: Vec::new(alloc),
         bodies: Vec::new(alloc),
+        conds: Vec::new(alloc),
     };
     image.modules.push(module_of(alloc, cells)?)?;
     add_procedure(rt, alloc, &mut image, false, &(&[], &[], 0, None, code))?;

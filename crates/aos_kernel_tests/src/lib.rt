@@ -7,6 +7,8 @@ mod arithmetic;
 #[cfg(test)]
 mod assembly;
 #[cfg(test)]
+mod awaits;
+#[cfg(test)]
 mod handovers;
 #[cfg(test)]
 mod images;

@@ -10,11 +10,12 @@ use std::test::Fail;
 pub type Procedure<'a> = (u32, bool, &'a [Kind], &'a str);
 
 /// Modules, each by what its cells hold at first and the number of its body; types of objects, each by the kinds of their
-/// cells and the number of their body; and the procedures from 1 on.
+/// cells and the number of their body; the code of the conditions from 0 on; and the procedures from 1 on.
 #[derive(Clone, Copy)]
 pub struct Program<'a> {
     pub modules: &'a [(&'a [Cell], u32)],
     pub types: &'a [(&'a [Kind], u32)],
+    pub conditions: &'a [&'a str],
     pub procedures: &'a [Procedure<'a>],
 }
 
@@ -68,7 +69,12 @@ pub fn image_of(rt: &impl Abort, alloc: Global, program: Program<'_>) -> Result<
         types: types_of(alloc, program.types)?,
         shapes: Vec::new(alloc),
         bodies: Vec::new(alloc),
+        conds: Vec::new(alloc),
     };
+    for code in program.conditions {
+        let code = code_of(rt, alloc, code)?;
+        image.conds.push(Body { code, depth: 4 })?;
+    }
     for (module, method, kinds, code) in program.procedures {
         image
             .shapes

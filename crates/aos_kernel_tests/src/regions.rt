@@ -12,12 +12,13 @@ use std::sync::Arc;
 use std::test::Fail;
 
 /// How many workers there are, a schedule, what is told behind it, and its events, each behind the number of its step.
-type Run<'a> = (u32, &'a [Sched], &'a str, &'a str);
+pub type Run<'a> = (u32, &'a [Sched], &'a str, &'a str);
 
 // Two procedures of one module: the one that owns its lock calls the other, which an activity waits to enter.
 const ASKED_TWICE: Program<'static> = Program {
     modules: &[(&[Cell::Ref(0)], 1)],
     types: &[(&[], 4)],
+    conditions: &[],
     procedures: &[
         (0, false, &[], "begin 10 3; call 3; return"),
         (
@@ -55,6 +56,7 @@ static ASKED_TWICE_RUNS: [Run<'static>; 2] = [
 const TWO_LOCKS: Program<'static> = Program {
     modules: &[(&[Cell::Ref(0), Cell::Ref(0), Cell::Ref(0)], 1)],
     types: &[(&[Kind::R], 0), (&[], 4), (&[], 5)],
+    conditions: &[],
     procedures: &[
         (
             0,
@@ -140,6 +142,7 @@ static TWO_LOCKS_RUNS: [Run<'static>; 4] = [
 const CROSSWISE: Program<'static> = Program {
     modules: &[(&[Cell::Ref(0), Cell::Ref(0), Cell::Ref(0), Cell::Ref(0)], 1)],
     types: &[(&[Kind::R], 0), (&[Kind::R], 5)],
+    conditions: &[],
     procedures: &[
         (
             0,
@@ -219,6 +222,7 @@ static CROSSWISE_RUNS: [Run<'static>; 4] = [
 const QUEUED_BODY: Program<'static> = Program {
     modules: &[(&[Cell::Ref(0)], 1), (&[], 0)],
     types: &[(&[], 3)],
+    conditions: &[],
     procedures: &[
         (
             0,
@@ -256,6 +260,7 @@ static QUEUED_BODY_RUNS: [Run<'static>; 2] = [
 const CALLING_BODY: Program<'static> = Program {
     modules: &[(&[], 1), (&[], 0)],
     types: &[(&[], 3)],
+    conditions: &[],
     procedures: &[
         (
             0,
@@ -287,6 +292,7 @@ static CALLING_BODY_RUNS: [Run<'static>; 2] = [
 const TRAPPING_BODY: Program<'static> = Program {
     modules: &[(&[Cell::Ref(0)], 1)],
     types: &[(&[], 3)],
+    conditions: &[],
     procedures: &[
         (
             0,
@@ -321,6 +327,7 @@ static TRAPPING_BODY_RUNS: [Run<'static>; 1] = [(
 const APART: Program<'static> = Program {
     modules: &[(&[Cell::Ref(0)], 1), (&[], 0)],
     types: &[(&[], 0)],
+    conditions: &[],
     procedures: &[
         (
             0,
@@ -362,6 +369,7 @@ static APART_RUNS: [Run<'static>; 2] = [
 const IN_TURN: Program<'static> = Program {
     modules: &[(&[], 1)],
     types: &[(&[], 3)],
+    conditions: &[],
     procedures: &[
         (
             0,
@@ -590,7 +598,8 @@ fn expect(
     Ok(())
 }
 
-fn expect_all(
+/// Runs a program by each of these schedules.
+pub fn expect_all(
     rt: &impl Abort,
     alloc: Global,
     program: Program<'_>,
@@ -627,6 +636,7 @@ fn opens_and_closes_regions(rt: HostRuntime) -> Result<(), Fail> {
         let program = Program {
             modules: &[(&[], 1)],
             types: &[],
+            conditions: &[],
             procedures: &[(0, false, &[], *code)],
         };
         expect(&rt, alloc, program, (1, &[Steps(0, 100)], *wanted, *events))?;

@@ -56,6 +56,12 @@ fn image(alloc: Global) -> Result<Image, AllocError> {
         types: vec![in alloc; record, object]?,
         shapes: vec![in alloc; nothing, number, called, method(alloc)?]?,
         bodies: Vec::new(alloc),
+        conds: vec![in alloc;
+            Body {
+                code: Vec::new(alloc),
+                depth: 0
+            },
+        ]?,
     })
 }
 
@@ -280,6 +286,46 @@ fn soundness_of_methods(rt: HostRuntime) -> Result<(), Fail> {
     assert_eq!(rt; sound(&rt, alloc, given, 4)?, (true, false));
     let asked = "self; is 2; jump_false 3; fail 7";
     assert_eq!(rt; sound(&rt, alloc, asked, 4)?, (true, true));
+    Ok(())
+}
+
+/// Conditions, which end with a verdict.
+static VERDICTS: [&str; 4] = [
+    "num 1; verdict",
+    "module 0 1; load n; num 2; cmp <; verdict",
+    // not evaluated on both sides
+    "module 0 0; load n; jump_false 5; module 0 1; jump 6; module 0 0; load n; verdict",
+    "module 0 1; load n; jump_false 5; num 1; verdict; fail 2",
+];
+
+static NO_VERDICTS: [&str; 7] = [
+    // nothing to decide by, and not a number
+    "verdict",
+    "nil; verdict",
+    // past the end
+    "num 1; jump_false 3; num 1",
+    // visible work, and something that is kept
+    "module 0 1; num 1; store n; num 1; verdict",
+    "num 1; keep 0 n; num 1; verdict",
+    "await 0; num 1; verdict",
+    // back
+    "begin 1 1; module 0 1; load n; jump_false 0; num 1; verdict",
+];
+
+static AWAITING: [&str; 2] = [
+    "enter; begin 1 1; await 0; leave; return",
+    "await 0; return",
+];
+
+static AWAITING_NONE: [&str; 2] = ["await 1; return", "num 1; await 0; return"];
+
+#[test]
+fn soundness_of_conditions(rt: HostRuntime) -> Result<(), Fail> {
+    let alloc = rt.alloc();
+    expect(&rt, alloc, &VERDICTS, (false, true))?;
+    expect(&rt, alloc, &NO_VERDICTS, (false, false))?;
+    expect(&rt, alloc, &AWAITING, (true, false))?;
+    expect(&rt, alloc, &AWAITING_NONE, (false, false))?;
     Ok(())
 }
 

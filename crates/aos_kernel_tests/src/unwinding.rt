@@ -12,6 +12,7 @@ use std::test::Fail;
 const PROCEDURES: Program<'static> = Program {
     modules: &[(&[], 1), (&[], 2)],
     types: &[],
+    conditions: &[],
     procedures: &[
         (0, false, &[], "return"),
         (1, false, &[], "return"),

@@ -22,6 +22,10 @@ impl Test for Never {
 
     ghost verdict_of = { λ _ _. Fails };
 
+    ghost Held = { Unit {0} };
+
+    ghost held = { λ _. tt };
+
     fn verdict(&mut self, _waiter: u32) -> Verdict {
         Verdict::Fails
     }

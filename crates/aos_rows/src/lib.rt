@@ -2,6 +2,8 @@
 #![tactic(auto)]
 
 #[cfg(test)]
+mod awaits;
+#[cfg(test)]
 mod creation;
 #[cfg(test)]
 mod declarations;

@@ -499,7 +499,7 @@ PROCEDURE &P; END P; => 11: rule 24: wrong initializer
 TYPE A = POINTER TO B; B = OBJECT END B; => 21: rule 25: type not allowed
 TYPE A = OBJECT END A; PROCEDURE F(): A; BEGIN RETURN NIL END F; VAR x: ARRAY 2 OF OBJECT (A) END; => 84: rule 99: not built yet
 TYPE A = OBJECT PROCEDURE P; BEGIN {EXCLUSIVE, EXCLUSIVE} END P; END A; => 48: rule 45: wrong modifier
-TYPE A = OBJECT PROCEDURE P; BEGIN AWAIT(TRUE) END P; END A; => 36: rule 99: not built yet
+TYPE A = OBJECT PROCEDURE P; BEGIN AWAIT(TRUE) END P; END A; => 36: rule 43: AWAIT outside a region
 TYPE A = OBJECT PROCEDURE P(): R; END P; END A; R = RECORD END; => 32: rule 25: type not allowed
 TYPE A = OBJECT VAR p: POINTER TO SET; END A; => 35: rule 25: type not allowed
 TYPE A = OBJECT VAR v: ARRAY OF SET; END A; => 24: rule 21: open array not allowed

@@ -16,7 +16,7 @@ MODULE M; VAR a, a: LONGINT; END M. =! 1 M.Mod:1:18: rule 13: name declared twic
 MODULE M; BEGIN a := 1 END M. =! 1 M.Mod:1:17: rule 14: unknown name
 MODULE M; VAR a: T; END M. =! 1 M.Mod:1:18: rule 14: unknown name
 MODULE M; VAR x: SET; PROCEDURE P; END P; BEGIN x := P END M. =! 1 M.Mod:1:51: rule 31: value doesn't fit
-MODULE M; BEGIN AWAIT(TRUE) END M. =! 1 M.Mod:1:17: rule 99: not built yet
+MODULE M; BEGIN AWAIT(TRUE) END M. =! 1 M.Mod:1:17: rule 43: AWAIT outside a region
 MODULE M; VAR a: LONGINT; BEGIN a := LEN(a) END M. =! 1 M.Mod:1:42: rule 35: argument type
 MODULE M; VAR a: LONGINT; BEGIN a[1] := 2 END M. =! 1 M.Mod:1:34: rule 42: wrong selector
 MODULE M; CONST c = 1; END N. =! 1 M.Mod:1:28: rule 12: end name differs";

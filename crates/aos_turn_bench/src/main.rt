@@ -65,6 +65,7 @@ fn image(alloc: Global) -> Result<Image, AllocError> {
             },
             Body { code, depth: 2 },
         ]?,
+        conds: Vec::new(alloc),
     })
 }
 
