@@ -1,0 +1,12 @@
+pub mod Sizes
+pub mod Said
+pub mod Each
+pub mod Tests
+pub mod Largest
+pub mod Texts
+pub mod Edges
+pub mod Adds
+pub mod Initial
+pub mod Handed
+pub mod Found
+pub mod Tellings

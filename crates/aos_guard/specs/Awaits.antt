@@ -1,0 +1,36 @@
+-- What is told of each condition.
+use Rattle.std.specs.Prelude.{◌≡◌, ℕ, ◌+◌, ◌*◌, List, [], ◌∷◌, IsTrue}
+use Rattle.std.specs.List.Sorted.{IsNonDecreasingBy, IsPermutation}
+use Rattle.aos_typed.specs.Conditions.{Condition, conditions}
+use Rattle.aos_typed.specs.Program.{Program}
+use Rattle.aos_guard.specs.declared.conditions.Told.{Told}
+use Rattle.aos_guard.specs.Guarded.{Each, Lets}
+use Rattle.aos_guard.specs.Uses.{expr_uses}
+
+module _ (p : Program) where
+  -- a condition is local: it reads only locals, parameters by value, and guarded variables of the lock under which it is awaited
+  abbrev pub IsLocal : Condition → Type 0
+  IsLocal c = Each (Lets p c.home c.own) (expr_uses p c.expression)
+
+  abbrev pub Tells : Condition → Told → Type 0
+  Tells c t = (t.home ≡ c.home) × ((t.at ≡ c.at) × ((IsTrue t.is_local → IsLocal c) × (IsLocal c → IsTrue t.is_local)))
+
+  -- this is told of these conditions, in their order
+  abbrev pub AreTold : List Condition → List Told → Type 0
+  AreTold [] [] = Unit {0}
+  AreTold [] (t ∷ ts) = ⊥
+  AreTold (c ∷ cs) [] = ⊥
+  AreTold (c ∷ cs) (t ∷ ts) = Tells c t × AreTold cs ts
+
+  -- each condition is told once
+  pub record TellsEach (ts : List Told) : Type 0 where
+    pub told : List Told
+    pub are : AreTold (conditions p) told
+    pub once : IsPermutation told ts
+
+-- where a condition comes in the order: by its module, and there by its line and its column, each of which has 32 bits
+abbrev pub place_of : Told → ℕ
+place_of t = (t.home * 4294967296 + t.at.line) * 4294967296 + t.at.col
+
+abbrev pub AreInOrder : List Told → Type 0
+AreInOrder ts = IsNonDecreasingBy place_of ts

@@ -1,0 +1,149 @@
+// The conditions of a program, and whether they are local.
+
+ghost use Rattle.std.specs.Prelude.{◌≡◌, ◌≤◌, ◌^◌, ◌+◌, ◌*◌, ◌++◌, ◌∷◌, [], length, IfOk, OnOk};
+ghost use Rattle.aos_typed.specs.Conditions.{condition_in, conditions, conditions_of};
+ghost use Rattle.aos_typed.specs.Seen.{seen_program};
+ghost use Rattle.aos_typed.specs.WellTyped.{IsWellTyped};
+ghost use Rattle.aos_laid.specs.Awaits.{seen_await};
+ghost use Rattle.aos_laid.specs.Routines.{seen_routine};
+ghost use Rattle.aos_guard.specs.Awaits.{AreInOrder, AreTold, Tells, TellsEach, place_of};
+ghost use Rattle.aos_guard.specs.Edges.{AreMarks, AreTexts};
+
+use crate::exprs::value_uses;
+use crate::guarded::home_of;
+use crate::local::is_local;
+use crate::quiet::quiet_of;
+use crate::stats::texts_of;
+use crate::uses::Use;
+use aos_base::{NoMemory, Pos};
+use aos_laid::{Await, Laid, Routine, awaits_of};
+use aos_typed::Program;
+use std::alloc::{AllocError, Global};
+
+/// A condition, by the number of its module in load order and the place of its AWAIT, and whether it is local.
+#[derive(Clone, Copy, PartialEq, Eq, Debug)]
+pub struct Told {
+    pub home: u32,
+    pub at: Pos,
+    pub is_local: bool,
+}
+
+// What is told of a condition in a routine.
+#[tactic(auto, using(crate::proofs::Tellings::told_one))]
+fn tell(
+    alloc: Global,
+    laid: &Laid<'_>,
+    quiet: &[bool],
+    texts: &[Vec<Use>],
+    routine: &Routine<'_>,
+    one: &Await<'_>,
+) -> Result<Told, AllocError>
+    requires quiet { AreMarks (seen_program laid.now) quiet.now }
+    requires texts { AreTexts (seen_program laid.now) texts.now }
+    ensures { IfOk result (λ t. Tells (seen_program laid.now)
+        (condition_in (seen_routine routine.now).home (seen_routine routine.now).own (seen_await one.now)) t) }
+{
+    let mut uses = Vec::new(alloc);
+    value_uses(laid, &mut uses, one.condition)?;
+    Ok(Told {
+        home: home_of(routine),
+        at: one.at,
+        is_local: is_local(laid, quiet, texts, routine, &uses)?,
+    })
+}
+
+// One more.
+fn put(all: &mut Vec<Told>, one: Told) -> Result<(), AllocError>
+    ensures { OnOk result (all.new.items ≡ all.old.items ++ one ∷ []) }
+{
+    all.push(one)?;
+    Ok(())
+}
+
+// What is told of several more.
+fn put_all(all: &mut Vec<Told>, more: &[Told]) -> Result<(), AllocError>
+    ensures { OnOk result (all.new.items ≡ all.old.items ++ more.now) }
+{
+    all.extend_from_slice(more)?;
+    Ok(())
+}
+
+// What is told of those of a routine.
+fn routine_told(
+    alloc: Global,
+    laid: &Laid<'_>,
+    quiet: &[bool],
+    texts: &[Vec<Use>],
+    routine: &Routine<'_>,
+) -> Result<Vec<Told>, AllocError>
+    requires quiet { AreMarks (seen_program laid.now) quiet.now }
+    requires texts { AreTexts (seen_program laid.now) texts.now }
+    ensures { IfOk result (λ all. AreTold (seen_program laid.now) (conditions_of (seen_routine routine.now)) all.items) }
+{
+    let mut all = Vec::new(alloc);
+    let awaits = awaits_of(alloc, routine)?;
+    for one in &awaits {
+        put(&mut all, tell(alloc, laid, quiet, texts, routine, one)?)?;
+    }
+    Ok(all)
+}
+
+// What is told of all, routine by routine.
+#[tactic(auto, using(crate::proofs::Tellings::all_first))]
+fn all_told(
+    alloc: Global,
+    laid: &Laid<'_>,
+    quiet: &[bool],
+    texts: &[Vec<Use>],
+) -> Result<Vec<Told>, AllocError>
+    requires quiet { AreMarks (seen_program laid.now) quiet.now }
+    requires texts { AreTexts (seen_program laid.now) texts.now }
+    ensures { IfOk result (λ all. AreTold (seen_program laid.now) (conditions (seen_program laid.now)) all.items) }
+{
+    let mut all = Vec::new(alloc);
+    let routines = laid.routines();
+    for routine in routines {
+        let here = routine_told(alloc, laid, quiet, texts, routine)?;
+        put_all(&mut all, &here)?;
+    }
+    Ok(all)
+}
+
+// A line of a module, as one number.
+fn with_line(home: u32, line: u32) -> u64
+    ensures { result ≡ home * 4294967296 + line }
+{
+    let before = u64::from(home) * 4294967296;
+    before + u64::from(line)
+}
+
+// A column of such a line.
+fn with_column(line: u64, col: u32) -> u128
+    ensures { result ≡ line * 4294967296 + col }
+{
+    let before = u128::from(line) * 4294967296;
+    before + u128::from(col)
+}
+
+// Where a condition comes in the order: by its module, its line and its column.
+fn place_of(one: &Told) -> u128
+    ensures { result ≡ place_of one.now }
+{
+    with_column(with_line(one.home, one.at.line), one.at.col)
+}
+
+/// Each condition of a well-typed program, the modules in load order and in each in the order of the text, with whether it is local.
+pub fn locals(alloc: Global, program: &Program) -> Result<Vec<Told>, NoMemory>
+    requires few { length program.now.modules.items ≤ 64 }
+    requires few_types { length program.now.objects.items ≤ 2 ^ 26 }
+    requires typed { IsWellTyped (seen_program program.now) }
+    ensures each { IfOk result (λ all. TellsEach (seen_program program.now) all.items) }
+    ensures order { IfOk result (λ all. AreInOrder all.items) }
+{
+    let laid = Laid::new(alloc, program)?;
+    let texts = texts_of(alloc, &laid)?;
+    let quiet = quiet_of(alloc, &laid, &texts)?;
+    let mut all = all_told(alloc, &laid, &quiet, &texts)?;
+    all.sort_by_key(|one| place_of(one))?;
+    Ok(all)
+}

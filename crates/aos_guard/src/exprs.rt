@@ -1,0 +1,428 @@
+// What expressions use.
+
+ghost use Rattle.std.specs.Prelude.{◌≡◌, ◌≤◌, suc, ◌++◌, ◌∷◌, [], false, map, slice_get, option_map, IfOk, OnOk};
+ghost use Rattle.std.specs.Option.{unwrap_or};
+ghost use Rattle.aos_typed.specs.Program.{Arguments, MethodOf, Program};
+ghost use Rattle.aos_typed.specs.Routines.{parameters_of};
+ghost use Rattle.aos_laid.specs.Routines.{seen_routine};
+ghost use Rattle.aos_typed.specs.Seen.{seen_argument, seen_callee, seen_expr, seen_list, seen_parameter, seen_place, seen_program, seen_rows};
+ghost use Rattle.aos_guard.specs.Sizes.{callee_size, front_size, front_uses, place_size, rest_size, rest_uses, rows_size, value_size};
+ghost use Rattle.aos_guard.specs.Uses.{arguments_uses, call_uses, called, callee_number, expr_uses, follows, is_variable, place_uses, receiver_uses, rows_target, rows_uses, target, varies};
+
+use crate::fronts::Front;
+use crate::target::{array_target, is_own, is_self, place_target};
+use crate::uses::{Target, Use};
+use aos_laid::{Laid, Routine};
+use aos_typed::{TArgument, TCallee, TExpr, TParameter, TPlace, TRows};
+use std::alloc::AllocError;
+
+/// One more use.
+pub fn put(uses: &mut Vec<Use>, one: Use) -> Result<(), AllocError>
+    ensures { OnOk result (uses.new.items ≡ uses.old.items ++ one ∷ []) }
+{
+    uses.push(one)?;
+    Ok(())
+}
+
+// Whether one of these parameters is one by reference.
+fn is_reference(parameters: &[TParameter], number: usize) -> bool
+    ensures { result ≡ unwrap_or (option_map (λ a. a.by_reference) (slice_get (map seen_parameter parameters.now) number)) false }
+{
+    match parameters.get(number) {
+        Some(parameter) => parameter.by_reference,
+        None => false,
+    }
+}
+
+// Whether a parameter of a routine is one by reference.
+fn has_reference(routine: &Routine<'_>, parameter: usize) -> bool
+    ensures { result ≡ unwrap_or (option_map (λ a. a.by_reference)
+        (slice_get (parameters_of (seen_routine routine.now).own) parameter)) false }
+{
+    match routine {
+        Routine::Body(_, _, _) => false,
+        Routine::Procedure(_, procedure) => is_reference(&procedure.parameters, parameter),
+    }
+}
+
+// Whether a parameter of what runs under a number is one by reference.
+fn is_variable(laid: &Laid<'_>, number: u32, parameter: usize) -> bool
+    ensures { result ≡ is_variable (seen_program laid.now) number parameter }
+{
+    if number == 0 {
+        return false;
+    }
+    match laid.routines().get(number as usize - 1) {
+        Some(routine) => has_reference(routine, parameter),
+        None => false,
+    }
+}
+
+// A variable for a VAR parameter.
+fn put_varies(uses: &mut Vec<Use>, by_reference: bool, target: Target) -> Result<(), AllocError>
+    ensures { OnOk result (uses.new.items ≡ uses.old.items ++ varies by_reference target) }
+{
+    if by_reference {
+        put(uses, Use::Varies(target))
+    } else {
+        Ok(())
+    }
+}
+
+// An object that a method value is of, if that isn't SELF.
+fn put_follows(uses: &mut Vec<Use>, object: &TExpr) -> Result<(), AllocError>
+    ensures { OnOk result (uses.new.items ≡ uses.old.items ++ follows (seen_expr object.now)) }
+{
+    if is_self(object) {
+        Ok(())
+    } else {
+        put(uses, Use::Follows)
+    }
+}
+
+// What is called.
+fn put_called(uses: &mut Vec<Use>, callee: &TCallee) -> Result<(), AllocError>
+    ensures { OnOk result (uses.new.items ≡ uses.old.items ++ called (seen_callee callee.now)) }
+{
+    match callee {
+        TCallee::Plain(_, _) => put(uses, Use::Calls),
+        TCallee::Dispatched(_, of, slot) => {
+            put(uses, Use::Calls)?;
+            put(uses, Use::Finds(*of, *slot))
+        }
+        TCallee::Upper(of, slot) => put(uses, Use::Raises(*of, *slot)),
+        TCallee::Through(_, _) => put(uses, Use::Calls),
+    }
+}
+
+// The number under which runs what a call names.
+fn callee_number(laid: &Laid<'_>, callee: &TCallee) -> Result<u32, AllocError>
+    ensures { IfOk result (λ n. n ≡ callee_number (seen_program laid.now) (seen_callee callee.now)) }
+{
+    match callee {
+        TCallee::Plain(home, number) => laid.called(*home, *number),
+        TCallee::Dispatched(_, of, slot) => laid.method(*of, *slot),
+        TCallee::Upper(of, slot) => laid.method(*of, *slot),
+        TCallee::Through(_, of) => laid.body(*of),
+    }
+}
+
+// A designator, but what it begins with.
+#[cycle(value_uses)]
+fn place_end<'b>(
+    laid: &Laid<'_>,
+    uses: &mut Vec<Use>,
+    place: &'b TPlace,
+) -> Result<Option<Front<'b>>, AllocError>
+    ensures uses { IfOk result (λ rest. uses.new.items ++ rest_uses (seen_program laid.now) rest ≡
+        uses.old.items ++ place_uses (seen_program laid.now) (seen_place place.now)) }
+    ensures less { IfOk result (λ rest. rest_size rest ≤ place_size (seen_place place.now)) }
+{
+    match place {
+        TPlace::ModuleVar(_, _) => Ok(None),
+        TPlace::Local(_) => Ok(None),
+        TPlace::Passed(_) => Ok(None),
+        TPlace::Field(whole, _, _) => {
+            if is_own(whole) {
+                return Ok(None);
+            }
+            Ok(Some(Front::Place(whole)))
+        }
+        TPlace::Index(whole, _, _, index) => {
+            value_uses(laid, uses, index)?;
+            Ok(Some(Front::Place(whole)))
+        }
+        TPlace::Of(rows) => Ok(Some(Front::Rows(rows))),
+        TPlace::Deref(object, _) => {
+            put(uses, Use::Follows)?;
+            Ok(Some(Front::Value(object)))
+        }
+        TPlace::Typed(whole, _) => Ok(Some(Front::Place(whole))),
+        TPlace::Guarded(whole, _) => Ok(Some(Front::Place(whole))),
+    }
+}
+
+#[cycle(value_uses)]
+fn rows_end<'b>(
+    laid: &Laid<'_>,
+    uses: &mut Vec<Use>,
+    rows: &'b TRows,
+) -> Result<Option<Front<'b>>, AllocError>
+    ensures uses { IfOk result (λ rest. uses.new.items ++ rest_uses (seen_program laid.now) rest ≡
+        uses.old.items ++ rows_uses (seen_program laid.now) (seen_rows rows.now)) }
+    ensures less { IfOk result (λ rest. rest_size rest ≤ rows_size (seen_rows rows.now)) }
+{
+    match rows {
+        TRows::Known(place, _) => Ok(Some(Front::Place(place))),
+        TRows::Opened(_, _) => Ok(None),
+        TRows::Row(whole, _, index) => {
+            value_uses(laid, uses, index)?;
+            Ok(Some(Front::Rows(whole)))
+        }
+        TRows::Spread(object, _) => {
+            put(uses, Use::Follows)?;
+            Ok(Some(Front::Value(object)))
+        }
+        TRows::Longer(whole, _) => Ok(Some(Front::Rows(whole))),
+    }
+}
+
+// What is handed over for a parameter of what runs under a number.
+#[cycle(value_uses)]
+fn argument_uses(
+    laid: &Laid<'_>,
+    uses: &mut Vec<Use>,
+    argument: &TArgument,
+    number: u32,
+    parameter: usize,
+) -> Result<(), AllocError>
+    ensures { OnOk result ((more : Arguments) →
+        uses.new.items ++ arguments_uses (seen_program laid.now) number (suc parameter) more ≡
+        uses.old.items ++ arguments_uses (seen_program laid.now) number parameter (seen_argument argument.now more)) }
+{
+    match argument {
+        TArgument::Scalar(value) => value_uses(laid, uses, value),
+        TArgument::Whole(place) => {
+            let target = place_target(laid, place)?;
+            put_varies(uses, is_variable(laid, number, parameter), target)?;
+            place_uses(laid, uses, place)
+        }
+        TArgument::Opening(rows) => {
+            let target = array_target(laid, rows)?;
+            put_varies(uses, is_variable(laid, number, parameter), target)?;
+            rows_uses(laid, uses, rows)
+        }
+    }
+}
+
+/// What is handed over to what runs under a number.
+#[cycle(value_uses)]
+#[tactic(auto, using(crate::proofs::Sizes::argument_less, crate::proofs::Handed::arguments_next))]
+pub fn arguments_uses(
+    laid: &Laid<'_>,
+    uses: &mut Vec<Use>,
+    arguments: &[TArgument],
+    number: u32,
+) -> Result<(), AllocError>
+    ensures { OnOk result (uses.new.items ≡
+        uses.old.items ++ arguments_uses (seen_program laid.now) number 0 (seen_list arguments.now)) }
+{
+    for parameter in 0..arguments.len() {
+        argument_uses(laid, uses, &arguments[parameter], number, parameter)?;
+    }
+    Ok(())
+}
+
+// What something is called on.
+fn receiver_of<'b>(callee: &'b TCallee) -> Option<Front<'b>>
+    ensures uses { (p : Program) → rest_uses p result ≡ receiver_uses p (seen_callee callee.now) }
+    ensures less { rest_size result ≤ suc (callee_size (seen_callee callee.now)) }
+{
+    match callee {
+        TCallee::Plain(_, _) => None,
+        TCallee::Dispatched(object, _, _) => Some(Front::Value(object)),
+        TCallee::Upper(_, _) => None,
+        TCallee::Through(value, _) => Some(Front::Value(value)),
+    }
+}
+
+// A call, but what something is called on.
+#[cycle(value_uses)]
+fn call_end<'b>(
+    laid: &Laid<'_>,
+    uses: &mut Vec<Use>,
+    callee: &'b TCallee,
+    arguments: &[TArgument],
+) -> Result<Option<Front<'b>>, AllocError>
+    ensures uses { IfOk result (λ rest. uses.new.items ++ rest_uses (seen_program laid.now) rest ≡
+        uses.old.items ++ call_uses (seen_program laid.now) (seen_callee callee.now) (seen_list arguments.now)) }
+    ensures less { IfOk result (λ rest. rest_size rest ≤ suc (callee_size (seen_callee callee.now))) }
+{
+    let number = callee_number(laid, callee)?;
+    put_called(uses, callee)?;
+    arguments_uses(laid, uses, arguments, number)?;
+    Ok(receiver_of(callee))
+}
+
+// A variable that is read, but what it begins with.
+fn read_end<'b>(
+    laid: &Laid<'_>,
+    uses: &mut Vec<Use>,
+    place: &'b TPlace,
+) -> Result<Option<Front<'b>>, AllocError>
+    ensures uses { IfOk result (λ rest. uses.new.items ++ rest_uses (seen_program laid.now) rest ≡ uses.old.items ++
+        (Use.Reads (target (seen_program laid.now) (seen_place place.now)) ∷ place_uses (seen_program laid.now) (seen_place place.now))) }
+    ensures less { IfOk result (λ rest. rest_size rest ≤ suc (place_size (seen_place place.now))) }
+{
+    put(uses, Use::Reads(place_target(laid, place)?))?;
+    Ok(Some(Front::Place(place)))
+}
+
+// Two texts, but what the first one begins with.
+#[cycle(value_uses)]
+fn texts_end<'b>(
+    laid: &Laid<'_>,
+    uses: &mut Vec<Use>,
+    left: &'b TRows,
+    right: &TRows,
+) -> Result<Option<Front<'b>>, AllocError>
+    ensures uses { IfOk result (λ rest. uses.new.items ++ rest_uses (seen_program laid.now) rest ≡ uses.old.items ++
+        ((Use.Reads (rows_target (seen_program laid.now) (seen_rows right.now)) ∷ rows_uses (seen_program laid.now) (seen_rows right.now)) ++
+        (Use.Reads (rows_target (seen_program laid.now) (seen_rows left.now)) ∷ rows_uses (seen_program laid.now) (seen_rows left.now)))) }
+    ensures less { IfOk result (λ rest. rest_size rest ≤ suc (rows_size (seen_rows left.now))) }
+{
+    array_read(laid, uses, right)?;
+    put(uses, Use::Reads(array_target(laid, left)?))?;
+    Ok(Some(Front::Rows(left)))
+}
+
+// A method as a value, but the object.
+fn method_end<'b>(
+    uses: &mut Vec<Use>,
+    object: &'b TExpr,
+    of: u32,
+    slot: u32,
+) -> Result<Option<Front<'b>>, AllocError>
+    ensures uses { IfOk result (λ rest. (p : Program) → uses.new.items ++ rest_uses p rest ≡
+        uses.old.items ++ expr_uses p (MethodOf (seen_expr object.now) of slot)) }
+    ensures less { IfOk result (λ rest. rest_size rest ≤ suc (value_size (seen_expr object.now))) }
+{
+    put(uses, Use::Binds)?;
+    put(uses, Use::Finds(of, slot))?;
+    put_follows(uses, object)?;
+    Ok(Some(Front::Value(object)))
+}
+
+// Two operands, but the first one.
+#[cycle(value_uses)]
+fn both_end<'b>(
+    laid: &Laid<'_>,
+    uses: &mut Vec<Use>,
+    left: &'b TExpr,
+    right: &TExpr,
+) -> Result<Option<Front<'b>>, AllocError>
+    ensures uses { IfOk result (λ rest. uses.new.items ++ rest_uses (seen_program laid.now) rest ≡ uses.old.items ++
+        (expr_uses (seen_program laid.now) (seen_expr right.now) ++ expr_uses (seen_program laid.now) (seen_expr left.now))) }
+    ensures less { IfOk result (λ rest. rest_size rest ≤ suc (value_size (seen_expr left.now))) }
+{
+    value_uses(laid, uses, right)?;
+    Ok(Some(Front::Value(left)))
+}
+
+// An expression, but what it begins with.
+#[cycle(value_uses)]
+fn value_end<'b>(
+    laid: &Laid<'_>,
+    uses: &mut Vec<Use>,
+    value: &'b TExpr,
+) -> Result<Option<Front<'b>>, AllocError>
+    ensures uses { IfOk result (λ rest. uses.new.items ++ rest_uses (seen_program laid.now) rest ≡
+        uses.old.items ++ expr_uses (seen_program laid.now) (seen_expr value.now)) }
+    ensures less { IfOk result (λ rest. rest_size rest ≤ value_size (seen_expr value.now)) }
+{
+    match value {
+        TExpr::Lit(_) => Ok(None),
+        TExpr::SelfRef => {
+            put(uses, Use::SelfValue)?;
+            Ok(None)
+        }
+        TExpr::Read(_, place) => read_end(laid, uses, place),
+        TExpr::Len(rows, _) => Ok(Some(Front::Rows(rows))),
+        TExpr::LenBehind(rows, _) => Ok(Some(Front::Rows(rows))),
+        TExpr::CompareTexts(_, left, right) => texts_end(laid, uses, left, right),
+        TExpr::Function(callee, arguments) => call_end(laid, uses, callee, arguments),
+        TExpr::Unary(_, operand) => Ok(Some(Front::Value(operand))),
+        TExpr::Binary(_, left, right) => both_end(laid, uses, left, right),
+        TExpr::And(left, right) => both_end(laid, uses, left, right),
+        TExpr::Or(left, right) => both_end(laid, uses, left, right),
+        TExpr::Element(operand) => Ok(Some(Front::Value(operand))),
+        TExpr::Ord(operand) => Ok(Some(Front::Value(operand))),
+        TExpr::Chr(operand) => Ok(Some(Front::Value(operand))),
+        TExpr::Same(left, right) => both_end(laid, uses, left, right),
+        TExpr::Is(operand, _) => Ok(Some(Front::Value(operand))),
+        TExpr::IsRecord(place, _) => read_end(laid, uses, place),
+        TExpr::Guard(operand, _) => Ok(Some(Front::Value(operand))),
+        TExpr::ProcedureOf(_, _) => Ok(None),
+        TExpr::MethodOf(object, of, slot) => method_end(uses, object, *of, *slot),
+        TExpr::SameProcedure(left, right) => both_end(laid, uses, left, right),
+    }
+}
+
+#[cycle(value_uses)]
+fn front_end<'b>(
+    laid: &Laid<'_>,
+    uses: &mut Vec<Use>,
+    front: Front<'b>,
+) -> Result<Option<Front<'b>>, AllocError>
+    ensures uses { IfOk result (λ rest. uses.new.items ++ rest_uses (seen_program laid.now) rest ≡
+        uses.old.items ++ front_uses (seen_program laid.now) front.entry) }
+    ensures less { IfOk result (λ rest. rest_size rest ≤ front_size front.entry) }
+{
+    match front {
+        Front::Value(value) => value_end(laid, uses, value),
+        Front::Place(place) => place_end(laid, uses, place),
+        Front::Rows(rows) => rows_end(laid, uses, rows),
+    }
+}
+
+// A long designator and a long sum have as many parts, one in another: the loop over them takes no stack.
+#[cycle(value_uses)]
+fn front_uses(laid: &Laid<'_>, uses: &mut Vec<Use>, all: Front<'_>) -> Result<(), AllocError>
+    ensures { OnOk result (uses.new.items ≡ uses.old.items ++ front_uses (seen_program laid.now) all.entry) }
+{
+    let mut rest = Some(all);
+    while let Some(front) = rest {
+        rest = front_end(laid, uses, front)?;
+    }
+    Ok(())
+}
+
+/// What evaluating an expression uses.
+#[cycle(value_uses)]
+pub fn value_uses(laid: &Laid<'_>, uses: &mut Vec<Use>, value: &TExpr) -> Result<(), AllocError>
+    ensures { OnOk result (uses.new.items ≡ uses.old.items ++ expr_uses (seen_program laid.now) (seen_expr value.now)) }
+{
+    front_uses(laid, uses, Front::Value(value))
+}
+
+/// What finding a designator's place uses.
+#[cycle(value_uses)]
+pub fn place_uses(laid: &Laid<'_>, uses: &mut Vec<Use>, place: &TPlace) -> Result<(), AllocError>
+    ensures { OnOk result (uses.new.items ≡ uses.old.items ++ place_uses (seen_program laid.now) (seen_place place.now)) }
+{
+    front_uses(laid, uses, Front::Place(place))
+}
+
+/// What finding an array uses.
+#[cycle(value_uses)]
+pub fn rows_uses(laid: &Laid<'_>, uses: &mut Vec<Use>, rows: &TRows) -> Result<(), AllocError>
+    ensures { OnOk result (uses.new.items ≡ uses.old.items ++ rows_uses (seen_program laid.now) (seen_rows rows.now)) }
+{
+    front_uses(laid, uses, Front::Rows(rows))
+}
+
+/// An array that is read.
+#[cycle(value_uses)]
+pub fn array_read(laid: &Laid<'_>, uses: &mut Vec<Use>, rows: &TRows) -> Result<(), AllocError>
+    ensures { OnOk result (uses.new.items ≡ uses.old.items ++
+        (Use.Reads (rows_target (seen_program laid.now) (seen_rows rows.now)) ∷ rows_uses (seen_program laid.now) (seen_rows rows.now))) }
+{
+    put(uses, Use::Reads(array_target(laid, rows)?))?;
+    rows_uses(laid, uses, rows)
+}
+
+/// What a call uses.
+pub fn call_uses(
+    laid: &Laid<'_>,
+    uses: &mut Vec<Use>,
+    callee: &TCallee,
+    arguments: &[TArgument],
+) -> Result<(), AllocError>
+    ensures { OnOk result (uses.new.items ≡
+        uses.old.items ++ call_uses (seen_program laid.now) (seen_callee callee.now) (seen_list arguments.now)) }
+{
+    match call_end(laid, uses, callee, arguments)? {
+        Some(object) => front_uses(laid, uses, object),
+        None => Ok(()),
+    }
+}
