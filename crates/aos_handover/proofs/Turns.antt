@@ -1,162 +1,179 @@
 -- Each turn of a frame is of one of the kinds.
-use Rattle.std.proofs.Common.{◌≡◌, ℕ, zero, suc, List, [], ◌∷◌, ◌++◌, Bool, true, false, Option, Some, None, refl, ap, ◌∙◌, subst}
+use Rattle.std.proofs.Common.{◌≡◌, inl, inr, ℕ, zero, suc, List, [], ◌∷◌, ◌++◌, Bool, true, false, Option, Some, None, refl, sym, ap, ◌∙◌, subst}
 use Rattle.std.specs.Prelude.{map, if◌then◌else◌, unsigned_abs}
 use Rattle.aos_base.specs.declared.kernel.Did.TheVariants.{Start, Await, Trapped}
 use Rattle.aos_base.specs.declared.kernel.LockName.{LockName}
 use Rattle.aos_base.specs.declared.text.Pos.{Pos}
 use Rattle.aos_base.specs.declared.place.Root.{Root}
 use Rattle.aos_base.specs.Number.{array_lengths}
-use Rattle.aos_base.specs.Rooted.{Made, by_number}
-use Rattle.aos_base.specs.Question.{Val, Asks, Traps, bind, feed, Reads, Stores, Copies, PutsText, ComparesTexts, Calls, Ends, Makes, Starts, Enters, Leaves, Awaits, PutsInt, PutsChar, PutsString, PutsLn, PutsNothing, Places, Lengths, Opens, Sizes, Tests}
-use Rattle.aos_types.specs.Shape.{Shape}
-use Rattle.aos_types.specs.Content.{Content, first_content, overlay, placed, Scalar}
+use Rattle.aos_base.specs.Rooted.{Made, Rooted, by_number}
+use Rattle.aos_base.specs.Question.{Val, Asks, Traps, bind, feed, Manner, Reads, Stores, Copies, PutsText, ComparesTexts, Calls, Ends, Makes, Starts, Enters, Leaves, Awaits, PutsInt, PutsChar, PutsString, PutsLn, PutsNothing, Places, Lengths, Opens, Sizes, Tests}
+use Rattle.aos_types.specs.Content.{Content, first_content, placed, Scalar}
 use Rattle.aos_types.specs.World.{read}
+use Rattle.aos_typed.specs.declared.tree.TType.{TType}
 use Rattle.aos_typed.specs.Program.{Program, Repeat}
 use Rattle.aos_typed.specs.Numbers.{id_of}
 use Rattle.aos_typed.specs.Routines.{Routine, routines}
-use Rattle.aos_typed.specs.Sort.{Sort, variable_shape}
+use Rattle.aos_typed.specs.Sort.{variable_shape}
 use Rattle.aos_typed.specs.Spot.{Spot}
-use Rattle.aos_typed.specs.Text.{text_in, fitted, with_text}
+use Rattle.aos_typed.specs.Text.{text_in, fitted}
 use Rattle.aos_typed.specs.Value.{Value, Int, Flag, Char, Set, Object, Callable, Place, number_of, is_true}
-use Rattle.aos_typed.specs.Store.{Store, has_room, made_in, value_at}
+use Rattle.aos_typed.specs.Store.{Store, has_room, made_in}
 use Rattle.aos_typed.specs.Meaning.{Question, Doing, Item, Do, Rounds, Round, Until, Region, End, Gives, After, Into, Exits, Returns, leave, leave_all, item_of, pos_of, value_of}
 use Rattle.aos_typed.specs.Source.{Frame, Turned, here_of, lock_of, locks_in, answered, done, all_rooted, goes_on, leaves, begins, writes, prints, makes, starts, awaits, copies, stores_text, is_deep, enters, called_frame, calls, makes_with, first_value, made_shape, answer, tests, finishes, settles, goes, item_turn, turn_at, calm, noted, written, ends}
-use Rattle.aos_sim.proofs.Does.{feed_noted, feed_noted_bind}
+use Rattle.aos_sim.proofs.Does.{IsVisible, IsCalm, calm_seen, feed_noted, feed_noted_bind}
 use Rattle.aos_sim.proofs.Runs.{feed-append}
-use Rattle.aos_handover.specs.Kinds.{follow, IsSameFrame, settled_work, written_by, HasCome, IsAsking, IsNext, Stood, Followed, AnotherRound, Repeated, Behind, Stands, Kind, Settled, Stopped, Left, Popped, Told, Written, Stored, Created, Called}
+use Rattle.aos_handover.specs.Kinds.{follow, settled_work, written_by, MakesNone, told_as, HasCome, IsAsking, so_far, IsNext, Stood, Followed, AnotherRound, Repeated, Behind, Stands, HasHad, Rests, Begins, GoesOn, Tested, IsStored, OneScalar, OneWhole, OneText, AtEnd, AtResult, Nowhere, Kind, Settled, Stopped, Left, Popped, Told, Written, Stored, Created, Called}
 
 module _ (p : Program) (following : List ℕ) (s : Store) (f : Frame) (fs : List Frame) where
   abbrev Is : Turned → Type 0
   Is t = Kind p following s f fs t
 
-  module _ (g : Frame) (stands : Stands p f fs g) where
+  module _ (g : Frame) (stands : Stands p s f fs g) where
     stopped : (n c : ℕ) → Is (leaves following (Trapped n c) (g ∷ fs) s)
     stopped n c = Stopped g n c stands (record { store_is = refl; frames_are = refl; output_is = refl; left_is = refl })
 
     module _ (q : Question) (asks : IsAsking p g fs q) where
-      told : (v : Value) → Is (goes_on following (answered v g ∷ fs) s)
-      told v = Told g q v stands asks (record { store_is = refl; frames_are = refl; output_is = refl; left_is = refl })
+      abbrev seen : Rooted (Content Value)
+      seen = all_rooted (g ∷ fs) s
+
+      told : MakesNone q → Is (goes_on following (answered (told_as seen q) g ∷ fs) s)
+      told none = Told g q none stands asks (record { store_is = refl; frames_are = refl; output_is = refl; left_is = refl })
 
       prints_kind : (o : Option (List ℕ)) → written_by (all_rooted (g ∷ fs) s) q ≡ o → Is (prints following o g fs s)
       prints_kind None is = stopped 14 0
       prints_kind (Some bytes) is = Written g q bytes stands asks is (record { store_is = refl; frames_are = refl; output_is = refl; left_is = refl })
 
-      makes_kind : (room : Bool) (m : Made) (c : Content Value) → Is (makes following room m c g fs s)
-      makes_kind true m c = Created g q m c stands asks (record { store_is = refl; frames_are = refl; output_is = refl; left_is = refl })
-      makes_kind false m c = stopped 12 0
+      stored : (r : Root) (change : Content Value → Content Value) → IsStored p seen q r change → Is (writes following r change (answered done g ∷ fs) s)
+      stored r change is = Stored g q r change stands asks is (record { store_is = refl; frames_are = refl; output_is = refl; left_is = refl })
 
-      makes_with_kind : (ns : Option (List ℕ)) (t : ℕ) → Is (makes_with p following ns t g fs s)
-      makes_with_kind None t = stopped 15 0
-      makes_with_kind (Some ns) t =
+    module _ (t : ℕ) (vs : List Value) (asks : IsAsking p g fs (Makes t vs)) where
+      makes_kind : (room : Bool) (ns : List ℕ) → array_lengths (map number_of vs) ≡ Some ns → (let m : Made = record { type = t; lengths = ns } in Is (makes following room m (first_content (first_value p) (made_shape p.types m)) g fs s))
+      makes_kind true ns are = Created g t vs ns stands asks are (record { store_is = refl; frames_are = refl; output_is = refl; left_is = refl })
+      makes_kind false ns are = stopped 12 0
+
+      makes_with_kind : (ns : Option (List ℕ)) → array_lengths (map number_of vs) ≡ ns → Is (makes_with p following ns t g fs s)
+      makes_with_kind None are = stopped 15 0
+      makes_with_kind (Some ns) are =
           let m : Made = record { type = t; lengths = ns } in
-          let c = first_content (first_value p) (made_shape p.types m) in makes_kind (has_room m c s) m c
+          makes_kind (has_room m (first_content (first_value p) (made_shape p.types m)) s) ns are
 
-      stored : (r : Root) (change : Content Value → Content Value) → Is (writes following r change (answered done g ∷ fs) s)
-      stored r change = Stored g q r change stands asks (record { store_is = refl; frames_are = refl; output_is = refl; left_is = refl })
+    module _ (t : TType) (from to : Spot) (asks : IsAsking p g fs (Copies t from to)) where
+      copies_kind : (new old : Option (Content Value)) → read from.root from.path (all_rooted (g ∷ fs) s) ≡ new → read to.root to.path (all_rooted (g ∷ fs) s) ≡ old → Is (copies following (variable_shape p.types (id_of t)) new old to (answered done g ∷ fs) s)
+      copies_kind (Some new) (Some old) e e' = stored (Copies t from to) asks to.root _ (OneWhole t from to new old e e')
+      copies_kind (Some new) None e e' = told (Copies t from to) asks tt
+      copies_kind None old e e' = told (Copies t from to) asks tt
 
-      copies_kind : (c : Shape Sort) (from to : Option (Content Value)) (x : Spot) → Is (copies following c from to x (answered done g ∷ fs) s)
-      copies_kind c (Some new) (Some old) x = stored x.root (placed x.path (overlay c new old))
-      copies_kind c (Some new) None x = told done
-      copies_kind c None to x = told done
+    module _ (strict : Bool) (from : Spot) (n : Value) (to : Spot) (room : Value) (asks : IsAsking p g fs (PutsText strict from n to room)) where
+      stores_text_kind : (text : Option (List ℕ)) (old : Option (Content Value)) → read to.root to.path (all_rooted (g ∷ fs) s) ≡ old → Is (stores_text following text old to g fs s)
+      stores_text_kind None old e = stopped 15 0
+      stores_text_kind (Some cs) None e = told (PutsText strict from n to room) asks tt
+      stores_text_kind (Some cs) (Some old) e = stored (PutsText strict from n to room) asks to.root _ (OneText strict from n to room cs old e)
 
-      stores_text_kind : (text : Option (List ℕ)) (old : Option (Content Value)) (x : Spot) → Is (stores_text following text old x g fs s)
-      stores_text_kind None old x = stopped 15 0
-      stores_text_kind (Some cs) None x = told done
-      stores_text_kind (Some cs) (Some old) x = stored x.root (placed x.path (with_text cs old))
-
-      calls_kind : (r : Option Routine) (vs : List Value) → Is (calls p following r vs g fs s)
-      calls_kind None vs = told done
-      calls_kind (Some r) vs = by (is_deep following (called_frame p following r vs (g ∷ fs) s) (g ∷ fs))
+    module _ (how : Manner) (n : ℕ) (vs : List Value) (asks : IsAsking p g fs (Calls how n vs)) where
+      calls_kind : (r : Option Routine) → by_number n (routines p) ≡ r → Is (calls p following r vs g fs s)
+      calls_kind None there = told (Calls how n vs) asks tt
+      calls_kind (Some r) there = by (is_deep following (called_frame p following r vs (g ∷ fs) s) (g ∷ fs))
         where
           by : (deep : Bool) → Is (enters following deep (called_frame p following r vs (g ∷ fs) s) (g ∷ fs) s)
           by true = stopped 11 0
-          by false = Called g q r vs stands asks (record { store_is = refl; frames_are = refl; output_is = refl; left_is = refl })
+          by false = Called g how n vs r stands asks there (record { store_is = refl; frames_are = refl; output_is = refl; left_is = refl })
 
     starts_kind : (v : Value) → IsAsking p g fs (Starts v) → Is (starts following v g fs s)
-    starts_kind (Object zero) asks = told (Starts (Object zero)) asks done
+    starts_kind (Object zero) asks = told (Starts (Object zero)) asks tt
     starts_kind (Object (suc k)) asks = Left g (Starts (Object (suc k))) (Start (suc k)) stands asks (k, refl, refl) (record { store_is = refl; frames_are = refl; output_is = refl; left_is = refl })
-    starts_kind (Int z) asks = told (Starts (Int z)) asks done
-    starts_kind (Flag b) asks = told (Starts (Flag b)) asks done
-    starts_kind (Char c) asks = told (Starts (Char c)) asks done
-    starts_kind (Set x) asks = told (Starts (Set x)) asks done
-    starts_kind (Callable k o) asks = told (Starts (Callable k o)) asks done
-    starts_kind (Place x) asks = told (Starts (Place x)) asks done
+    starts_kind (Int z) asks = told (Starts (Int z)) asks tt
+    starts_kind (Flag b) asks = told (Starts (Flag b)) asks tt
+    starts_kind (Char c) asks = told (Starts (Char c)) asks tt
+    starts_kind (Set x) asks = told (Starts (Set x)) asks tt
+    starts_kind (Callable k o) asks = told (Starts (Callable k o)) asks tt
+    starts_kind (Place x) asks = told (Starts (Place x)) asks tt
 
     awaits_kind : (c : ℕ) → IsAsking p g fs (Awaits c) → (ls : List LockName) → locks_in (lock_of g) g.items ≡ ls → Is (awaits following ls c g fs s)
-    awaits_kind c asks [] e = told (Awaits c) asks done
+    awaits_kind c asks [] e = told (Awaits c) asks tt
     awaits_kind c asks (l ∷ ls) e = Left g (Awaits c) (Await l c) stands asks (l, ls, e, refl) (record { store_is = refl; frames_are = refl; output_is = refl; left_is = refl })
 
-    answer_kind : (q : Question) → IsAsking p g fs q → Is (answer p following q g fs s)
-    answer_kind (Reads t x) asks = told (Reads t x) asks (value_at x (all_rooted (g ∷ fs) s))
-    answer_kind (Stores x v) asks = stored (Stores x v) asks x.root (placed x.path (Scalar v))
-    answer_kind (Makes t vs) asks = makes_with_kind (Makes t vs) asks (array_lengths (map number_of vs)) t
-    answer_kind (Starts v) asks = starts_kind v asks
-    answer_kind (PutsInt v n) asks = prints_kind (PutsInt v n) asks (written v n) refl
-    answer_kind (PutsChar v) asks = prints_kind (PutsChar v) asks (Some (unsigned_abs (number_of v) ∷ [])) refl
-    answer_kind PutsNothing asks = prints_kind PutsNothing asks (Some []) refl
-    answer_kind PutsLn asks = prints_kind PutsLn asks (Some (10 ∷ [])) refl
-    answer_kind (Copies t from to) asks =
-        let x = all_rooted (g ∷ fs) s in
-        copies_kind (Copies t from to) asks (variable_shape p.types (id_of t)) (read from.root from.path x) (read to.root to.path x) to
-    answer_kind (PutsText strict from n to room) asks =
+    answer_kind : (q : Question) → IsVisible q → IsAsking p g fs q → Is (answer p following q g fs s)
+    answer_kind (Reads t x) visible asks = told (Reads t x) asks tt
+    answer_kind (Stores x v) visible asks = stored (Stores x v) asks x.root (placed x.path (Scalar v)) (OneScalar x v)
+    answer_kind (Makes t vs) visible asks = makes_with_kind t vs asks (array_lengths (map number_of vs)) refl
+    answer_kind (Starts v) visible asks = starts_kind v asks
+    answer_kind (PutsInt v n) visible asks = prints_kind (PutsInt v n) asks (written v n) refl
+    answer_kind (PutsChar v) visible asks = prints_kind (PutsChar v) asks (Some (unsigned_abs (number_of v) ∷ [])) refl
+    answer_kind PutsNothing visible asks = prints_kind PutsNothing asks (Some []) refl
+    answer_kind PutsLn visible asks = prints_kind PutsLn asks (Some (10 ∷ [])) refl
+    answer_kind (Copies t from to) visible asks =
+        let x = all_rooted (g ∷ fs) s in copies_kind t from to asks (read from.root from.path x) (read to.root to.path x) refl refl
+    answer_kind (PutsText strict from n to room) visible asks =
         let x = all_rooted (g ∷ fs) s in
         let text = fitted strict (unsigned_abs (number_of room)) (text_in (read from.root from.path x)) in
-        stores_text_kind (PutsText strict from n to room) asks text (read to.root to.path x) to
-    answer_kind (ComparesTexts r a n b m) asks = told (ComparesTexts r a n b m) asks _
-    answer_kind (Calls how k vs) asks = calls_kind (Calls how k vs) asks (by_number k (routines p)) vs
-    answer_kind (PutsString a n) asks = prints_kind (PutsString a n) asks (Some (text_in (read a.root a.path (all_rooted (g ∷ fs) s)))) refl
-    answer_kind (Awaits c) asks = awaits_kind c asks (locks_in (lock_of g) g.items) refl
-    answer_kind (Places a) asks = told (Places a) asks done
-    answer_kind (Lengths a) asks = told (Lengths a) asks done
-    answer_kind (Opens v) asks = told (Opens v) asks done
-    answer_kind (Sizes v d) asks = told (Sizes v d) asks done
-    answer_kind (Tests v t) asks = told (Tests v t) asks done
-    answer_kind (Ends r) asks = told (Ends r) asks done
-    answer_kind Enters asks = told Enters asks done
-    answer_kind Leaves asks = told Leaves asks done
+        stores_text_kind strict from n to room asks text (read to.root to.path x) refl
+    answer_kind (ComparesTexts r a n b m) visible asks = told (ComparesTexts r a n b m) asks tt
+    answer_kind (Calls how k vs) visible asks = calls_kind how k vs asks (by_number k (routines p)) refl
+    answer_kind (PutsString a n) visible asks = prints_kind (PutsString a n) asks (Some (text_in (read a.root a.path (all_rooted (g ∷ fs) s)))) refl
+    answer_kind (Awaits c) visible asks = awaits_kind c asks (locks_in (lock_of g) g.items) refl
+    answer_kind (Places a) visible asks = absurd visible
+    answer_kind (Lengths a) visible asks = absurd visible
+    answer_kind (Opens v) visible asks = absurd visible
+    answer_kind (Sizes v d) visible asks = absurd visible
+    answer_kind (Tests v t) visible asks = absurd visible
+    answer_kind (Ends r) visible asks = told (Ends r) asks tt
+    answer_kind Enters visible asks = told Enters asks tt
+    answer_kind Leaves visible asks = told Leaves asks tt
 
-  ends_kind : (r : Option Value) → Is (ends following r fs s)
-  ends_kind None = Popped done (record { store_is = refl; frames_are = refl; output_is = refl; left_is = refl })
-  ends_kind (Some v) = Popped v (record { store_is = refl; frames_are = refl; output_is = refl; left_is = refl })
+  ends_kind : (r : Option Value) (is : List Item) → IsNext p s f fs (Gives r ∷ is) → Is (ends following r fs s)
+  ends_kind None is next = Popped None (AtResult None is next) (record { store_is = refl; frames_are = refl; output_is = refl; left_is = refl })
+  ends_kind (Some v) is next = Popped (Some v) (AtResult (Some v) is next) (record { store_is = refl; frames_are = refl; output_is = refl; left_is = refl })
 
-  -- the frame itself, or as it stands behind questions that are answered at once
-  module _ (g : Frame) (stands : Stands p f fs g) where
-    same_with : (at : Option Pos) (is : List Item) (answers : Option (List Value)) → IsSameFrame f (record g { at = at; items = is; answers = answers })
-    same_with at is answers = record { is = ap (λ (x : Frame). record x { at = at; items = is; answers = answers }) stands.same.is }
+  -- the frame itself, whose first item may have had answers of questions that are answered at once
+  module _ (a : Option (List Value)) (had : HasHad p s f fs f.items a) where
+    abbrev g : Frame
+    g = record f { answers = a }
 
-    -- these items are next
-    settled : (at : Option Pos) (is : List Item) (answers : Option (List Value)) → IsNext p f fs is → (begun : Bool) →
-        Is (record { store = s; frames = record { following = following; frames = record g { at = at; items = is; answers = answers } ∷ fs }; output = []; begun = begun; left = settled_work (lock_of g) is })
-    settled at is answers next begun =
-        Settled (record g { at = at; items = is; answers = answers }) (record { same = same_with at is answers; items = next }) (record { store_is = refl; frames_are = refl; output_is = refl; left_is = refl })
+    stands : Stands p s f fs g
+    stands = record { same = record { is = refl }; had = had }
 
-    finishes_kind : (function : Bool) → Is (finishes p following function g fs s)
-    finishes_kind true = stopped g stands 10 0
-    finishes_kind false = Popped done (record { store_is = refl; frames_are = refl; output_is = refl; left_is = refl })
+    -- these items are next, of which the first rests
+    rests : (is : List Item) → IsNext p s f fs is →
+        Is (record { store = s; frames = record { following = following; frames = record f { items = is; answers = None } ∷ fs }; output = []; begun = false; left = settled_work (lock_of f) is })
+    rests is next =
+        Settled (record f { items = is; answers = None }) (record { same = record { is = refl }; had = Rests is next }) (inl refl)
+        (record { store_is = refl; frames_are = refl; output_is = refl; left_is = refl })
 
-    settles_kind : (is : List Item) → IsNext p f fs is → Is (settles p following is g fs s)
-    settles_kind [] next = finishes_kind g.gives
-    settles_kind (Do st ∷ is) next = settled (Some (pos_of st)) (Do st ∷ is) (Some []) next true
-    settles_kind (Rounds at w q last step b ∷ is) next = settled (Some at) (Rounds at w q last step b ∷ is) (Some []) next true
-    settles_kind (Round st ∷ is) next = settled (Some (pos_of st)) (Do st ∷ is) (Some []) (AnotherRound st is next) true
-    settles_kind (Until at b e ∷ is) next = by (settles_kind is (Behind at b e is next)) (calm p.types (made_in s) g.variables test) refl
+    -- or begins
+    settled : (at : Pos) (i : Item) (is : List Item) → IsNext p s f fs (i ∷ is) →
+        Is (record { store = s; frames = record { following = following; frames = record f { at = Some at; items = i ∷ is; answers = Some [] } ∷ fs }; output = []; begun = true; left = settled_work (lock_of f) (i ∷ is) })
+    settled at i is next =
+        Settled (record f { at = Some at; items = i ∷ is; answers = Some [] }) (record { same = record { is = refl }; had = Begins i is next }) (inr refl)
+        (record { store_is = refl; frames_are = refl; output_is = refl; left_is = refl })
+
+    finishes_kind : IsNext p s f fs [] → (function : Bool) → f.gives ≡ function → Is (finishes p following function g fs s)
+    finishes_kind next true e = stopped g stands 10 0
+    finishes_kind next false e = Popped None (AtEnd next e) (record { store_is = refl; frames_are = refl; output_is = refl; left_is = refl })
+
+    settles_kind : (is : List Item) → IsNext p s f fs is → Is (settles p following is g fs s)
+    settles_kind [] next = finishes_kind next f.gives refl
+    settles_kind (Do st ∷ is) next = settled (pos_of st) (Do st) is next
+    settles_kind (Rounds at w q last step b ∷ is) next = settled at (Rounds at w q last step b) is next
+    settles_kind (Round st ∷ is) next = settled (pos_of st) (Do st) is (AnotherRound st is next)
+    settles_kind (Until at b e ∷ is) next = by (λ v come t. settles_kind is (Behind at b e is v next come t)) (calm p.types (made_in s) f.variables test) refl
       where
         test : Doing Value
-        test = value_of p (here_of g fs) e
+        test = value_of p (here_of f fs) e
 
         answers : List Value
-        answers = noted p.types (made_in s) g.variables test
+        answers = noted p.types (made_in s) f.variables test
 
         begun : Frame
-        begun = record g { items = Until at b e ∷ is; answers = Some answers }
+        begun = record f { items = Until at b e ∷ is; answers = Some answers }
 
-        so : Stands p f fs begun
-        so = record { same = same_with g.at (Until at b e ∷ is) (Some answers); items = next }
+        so : Stands p s f fs begun
+        so = record { same = record { is = refl }; had = Tested at b e is next }
 
         on : Value → Doing After
         on v = Val (Into (if is_true v then [] else Do (Repeat at b e) ∷ []))
 
-        come : (left : Doing Value) → calm p.types (made_in s) g.variables test ≡ left → HasCome p begun fs (bind left on)
+        come : (left : Doing Value) → calm p.types (made_in s) f.variables test ≡ left → HasCome p begun fs (bind left on)
         come left e' =
             record {
               item = Until at b e;
@@ -164,32 +181,35 @@ module _ (p : Program) (following : List ℕ) (s : Store) (f : Frame) (fs : List
               items = refl;
               answers = answers;
               begun = refl;
-              is = feed_noted_bind p.types (made_in s) g.variables on test ∙ ap (λ d. bind d on) e';
+              is = feed_noted_bind p.types (made_in s) f.variables on test ∙ ap (λ d. bind d on) e';
             }
 
-        by : Is (settles p following is g fs s) → (left : Doing Value) → calm p.types (made_in s) g.variables test ≡ left →
+        by : ((v : Value) → calm p.types (made_in s) f.variables test ≡ Val v → is_true v ≡ true → Is (settles p following is g fs s)) → (left : Doing Value) → calm p.types (made_in s) f.variables test ≡ left →
             Is (tests p following left (settles p following is g fs s) (begins following at (Do (Repeat at b e) ∷ is) g fs s) begun fs s)
-        by behind (Val v) e' = chosen (is_true v)
+        by behind (Val v) e' = chosen (is_true v) refl
           where
-            chosen : (c : Bool) → Is (if c then settles p following is g fs s else begins following at (Do (Repeat at b e) ∷ is) g fs s)
-            chosen true = behind
-            chosen false = settled (Some at) (Do (Repeat at b e) ∷ is) (Some []) (Repeated at b e is next) true
-        by behind (Asks q k) e' = answer_kind begun so q (_, come (Asks q k) e')
+            chosen : (c : Bool) → is_true v ≡ c → Is (if c then settles p following is g fs s else begins following at (Do (Repeat at b e) ∷ is) g fs s)
+            chosen true t = behind v e' t
+            chosen false t = settled at (Do (Repeat at b e)) is (Repeated at b e is v next e' t)
+        by behind (Asks q k) e' = answer_kind begun so q (subst IsCalm e' (calm_seen p.types (made_in s) f.variables test)) (_, come (Asks q k) e')
         by behind (Traps n c) e' = stopped begun so n c
-    settles_kind (Region ss ∷ is) next = settled g.at (Region ss ∷ is) None next false
-    settles_kind (End ∷ is) next = settled g.at (End ∷ is) None next false
-    settles_kind (Gives r ∷ is) next = ends_kind r
+    settles_kind (Region ss ∷ is) next = rests (Region ss ∷ is) next
+    settles_kind (End ∷ is) next = rests (End ∷ is) next
+    settles_kind (Gives r ∷ is) next = ends_kind r is next
 
   item_kind : (answers : Option (List Value)) (is : List Item) → f.answers ≡ answers → f.items ≡ is → Is (item_turn p following answers is f fs s)
-  item_kind None is had e = settles_kind f (record { same = record { is = refl }; items = Stood }) is (subst (IsNext p f fs) e Stood)
-  item_kind (Some vs) [] had e = Popped done (record { store_is = refl; frames_are = refl; output_is = refl; left_is = refl })
+  item_kind None is had e = settles_kind f.answers (subst (HasHad p s f fs f.items) (sym had) (Rests f.items (Stood had))) is (subst (IsNext p s f fs) e (Stood had))
+  item_kind (Some vs) [] had e = Popped None (Nowhere vs had e) (record { store_is = refl; frames_are = refl; output_is = refl; left_is = refl })
   item_kind (Some vs) (i ∷ is) had e = by (calm p.types (made_in s) f.variables left) refl
     where
       left : Doing After
       left = feed vs (item_of p (here_of f fs) i)
 
+      all : List Value
+      all = so_far p s f fs i vs
+
       now : Frame
-      now = record f { answers = Some (vs ++ noted p.types (made_in s) f.variables left) }
+      now = record f { answers = Some all }
 
       come : (d : Doing After) → calm p.types (made_in s) f.variables left ≡ d → HasCome p now fs d
       come d e' =
@@ -197,23 +217,23 @@ module _ (p : Program) (following : List ℕ) (s : Store) (f : Frame) (fs : List
             item = i;
             rest = is;
             items = e;
-            answers = vs ++ noted p.types (made_in s) f.variables left;
+            answers = all;
             begun = refl;
             is = feed-append vs (noted p.types (made_in s) f.variables left) (item_of p (here_of f fs) i) ∙ feed_noted p.types (made_in s) f.variables left ∙ e';
           }
 
-      stands : Stands p f fs now
-      stands = record { same = record { is = refl }; items = Stood }
+      goes_on : HasHad p s f fs f.items (Some all)
+      goes_on = subst (λ l. HasHad p s f fs l (Some all)) (sym e) (GoesOn i is vs e had)
 
-      next : (a : After) → calm p.types (made_in s) f.variables left ≡ Val a → IsNext p f fs (follow a is)
-      next a e' = Followed now a (come (Val a) e') (record { is = refl }) refl
+      next : (a : After) → calm p.types (made_in s) f.variables left ≡ Val a → IsNext p s f fs (follow a is)
+      next a e' = Followed i is vs a e had (let c = come (Val a) e' in c.is)
 
       by : (d : Doing After) → calm p.types (made_in s) f.variables left ≡ d → Is (goes p following d is now fs s)
-      by (Val (Into js)) e' = settles_kind now stands (js ++ is) (next (Into js) e')
-      by (Val Exits) e' = settles_kind now stands (leave is) (next Exits e')
-      by (Val (Returns r)) e' = settles_kind now stands (leave_all r is) (next (Returns r) e')
-      by (Asks q k) e' = answer_kind now stands q (k, come (Asks q k) e')
-      by (Traps n c) e' = stopped now stands n c
+      by (Val (Into js)) e' = settles_kind (Some all) goes_on (js ++ is) (next (Into js) e')
+      by (Val Exits) e' = settles_kind (Some all) goes_on (leave is) (next Exits e')
+      by (Val (Returns r)) e' = settles_kind (Some all) goes_on (leave_all r is) (next (Returns r) e')
+      by (Asks q k) e' = answer_kind now (stands (Some all) goes_on) q (subst IsCalm e' (calm_seen p.types (made_in s) f.variables left)) (k, come (Asks q k) e')
+      by (Traps n c) e' = stopped now (stands (Some all) goes_on) n c
 
 pub turn_kind : (p : Program) (following : List ℕ) (s : Store) (f : Frame) (fs : List Frame) → Kind p following s f fs (turn_at p following (f ∷ fs) s)
 turn_kind p following s f fs = item_kind p following s f fs f.answers f.items refl refl

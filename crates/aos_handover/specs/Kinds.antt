@@ -1,22 +1,27 @@
 -- What a turn of an activity does to the store and to its frames, what it writes out and what it leaves to the kernel: nine kinds, by which
 -- what every turn keeps is shown.
-use Rattle.std.specs.Prelude.{◌≡◌, ℕ, suc, List, [], ◌∷◌, ◌++◌, Option, Some, None, unsigned_abs}
+use Rattle.std.specs.Prelude.{◌≡◌, ◌⊎◌, ℕ, suc, List, [], ◌∷◌, ◌++◌, Bool, true, false, Option, Some, None, map, unsigned_abs}
 use Rattle.aos_base.specs.declared.kernel.Did.{Did}
 use Rattle.aos_base.specs.declared.kernel.Did.TheVariants.{Went, Enter, Leave, Start, Await, Trapped}
 use Rattle.aos_base.specs.declared.kernel.LockName.{LockName}
 use Rattle.aos_base.specs.declared.place.Root.{Root}
 use Rattle.aos_base.specs.declared.text.Pos.{Pos}
-use Rattle.aos_base.specs.Question.{Val, Asks, feed, Starts, Awaits, PutsInt, PutsChar, PutsString, PutsLn, PutsNothing}
-use Rattle.aos_base.specs.Rooted.{Made, Rooted}
-use Rattle.aos_types.specs.Content.{Content}
+use Rattle.aos_base.specs.Number.{array_lengths}
+use Rattle.aos_base.specs.Question.{Val, Asks, feed, Manner, Reads, Stores, Copies, PutsText, ComparesTexts, Calls, Makes, Starts, Awaits, PutsInt, PutsChar, PutsString, PutsLn, PutsNothing, Places, Lengths, Opens, Sizes, Tests}
+use Rattle.aos_base.specs.Rooted.{Made, Rooted, by_number}
+use Rattle.aos_types.specs.Content.{Content, Scalar, overlay, placed, first_content}
 use Rattle.aos_types.specs.World.{read}
+use Rattle.aos_typed.specs.Numbers.{id_of}
 use Rattle.aos_typed.specs.Program.{Program, Expr, Stat, Stats, Repeat}
-use Rattle.aos_typed.specs.Routines.{Routine}
-use Rattle.aos_typed.specs.Text.{text_in}
-use Rattle.aos_typed.specs.Value.{Value, Object, number_of}
-use Rattle.aos_typed.specs.Store.{Store, new_number, with_object, store_with}
-use Rattle.aos_typed.specs.Meaning.{Question, Doing, Item, Do, Round, Until, Region, End, After, Into, Exits, Returns, leave, leave_all, item_of}
-use Rattle.aos_typed.specs.Source.{Frame, Turned, here_of, lock_of, locks_in, all_rooted, all_frames, written, answered, done, frames_with, with_result, called_frame}
+use Rattle.aos_typed.specs.Routines.{Routine, routines}
+use Rattle.aos_typed.specs.Sort.{variable_shape}
+use Rattle.aos_typed.specs.Spot.{Spot}
+use Rattle.aos_typed.specs.Text.{text_in, with_text}
+use Rattle.aos_typed.specs.declared.tree.TType.{TType}
+use Rattle.aos_typed.specs.Value.{Value, Object, number_of, is_true}
+use Rattle.aos_typed.specs.Store.{Store, new_number, with_object, store_with, made_in, value_at}
+use Rattle.aos_typed.specs.Meaning.{Question, Doing, Item, Do, Round, Until, Region, End, Gives as GivesItem, After, Into, Exits, Returns, leave, leave_all, item_of, value_of}
+use Rattle.aos_typed.specs.Source.{Frame, Turned, here_of, lock_of, locks_in, all_rooted, all_frames, written, answered, done, compared, calm, noted, frames_with, with_result, called_frame, first_value, made_shape}
 
 -- what follows these items behind what the first of them comes to
 abbrev pub follow : After → List Item → List Item
@@ -34,6 +39,10 @@ settled_work l (Region ss ∷ is) = Enter l
 settled_work l (End ∷ is) = Leave l
 settled_work l is = Went
 
+-- none of its questions has been answered
+abbrev pub HasNotAsked : Frame → Type 0
+HasNotAsked g = (g.answers ≡ None) ⊎ (g.answers ≡ Some [])
+
 -- a question is left to the kernel as this work: the start of an object's activity, or a condition in an open region
 abbrev pub IsLeftAs : Frame → Question → Did → Type 0
 IsLeftAs f (Starts v) work = (k : ℕ) × (v ≡ Object (suc k)) × (work ≡ Start (suc k))
@@ -49,6 +58,27 @@ written_by x PutsLn = Some (10 ∷ [])
 written_by x PutsNothing = Some []
 written_by x q = None
 
+-- what a question is answered that changes nothing, where the variables below the roots are these
+abbrev pub told_as : Rooted (Content Value) → Question → Value
+told_as x (Reads t a) = value_at a x
+told_as x (ComparesTexts r a n b m) = compared r (read a.root a.path x) (read b.root b.path x)
+told_as x q = done
+
+-- a question asks for no object, and isn't answered at once
+abbrev pub MakesNone : Question → Type 0
+MakesNone (Makes t vs) = ⊥
+MakesNone (Places a) = ⊥
+MakesNone (Lengths a) = ⊥
+MakesNone (Opens v) = ⊥
+MakesNone (Sizes v d) = ⊥
+MakesNone (Tests v t) = ⊥
+MakesNone q = Unit {0}
+
+-- the answer for the frame below that a result is
+abbrev pub answer_in : Option Value → Value
+answer_in None = done
+answer_in (Some v) = v
+
 module _ (p : Program) where
   -- the first of a frame's items, from the answers that it has had, has come so far
   pub record HasCome (f : Frame) (fs : List Frame) (left : Doing After) : Type 0 where
@@ -63,19 +93,50 @@ module _ (p : Program) where
   abbrev pub IsAsking : Frame → List Frame → Question → Type 0
   IsAsking f fs q = (next : Value → Doing After) × HasCome f fs (Asks q next)
 
-  -- Where the items come from that are next: they stood in the frame, or follow what its first one has come to; and those may be told by
+  -- what the first item of a frame has been answered, where it has had these answers, with those of questions that are answered at once
+  abbrev pub so_far : Store → Frame → List Frame → Item → List Value → List Value
+  so_far s f fs i vs = vs ++ noted p.types (made_in s) f.variables (feed vs (item_of p (here_of f fs) i))
+
+  -- Where the items come from that are next: they stood in the frame that had begun none, or follow what its first one has come to; and those may be told by
   -- the first one alone, where it is a LOOP's next round or what is behind a REPEAT's statements.
-  pub data IsNext (f : Frame) (fs : List Frame) : List Item → Type 0 where
-    Stood : IsNext f fs f.items
-    Followed : (g : Frame) (after : After) (come : HasCome g fs (Val after)) → IsSameFrame f g → g.items ≡ f.items → IsNext f fs (follow after come.rest)
-    AnotherRound : (st : Stat) (is : List Item) → IsNext f fs (Round st ∷ is) → IsNext f fs (Do st ∷ is)
-    Repeated : (at : Pos) (b : Stats) (e : Expr) (is : List Item) → IsNext f fs (Until at b e ∷ is) → IsNext f fs (Do (Repeat at b e) ∷ is)
-    Behind : (at : Pos) (b : Stats) (e : Expr) (is : List Item) → IsNext f fs (Until at b e ∷ is) → IsNext f fs is
+  pub data IsNext (s : Store) (f : Frame) (fs : List Frame) : List Item → Type 0 where
+    Stood : f.answers ≡ None → IsNext s f fs f.items
+    Followed : (i : Item) (is : List Item) (vs : List Value) (after : After) → f.items ≡ i ∷ is → f.answers ≡ Some vs
+        → feed (so_far s f fs i vs) (item_of p (here_of f fs) i) ≡ Val after → IsNext s f fs (follow after is)
+    AnotherRound : (st : Stat) (is : List Item) → IsNext s f fs (Round st ∷ is) → IsNext s f fs (Do st ∷ is)
+    Repeated : (at : Pos) (b : Stats) (e : Expr) (is : List Item) (v : Value) → IsNext s f fs (Until at b e ∷ is)
+        → calm p.types (made_in s) f.variables (value_of p (here_of f fs) e) ≡ Val v → is_true v ≡ false → IsNext s f fs (Do (Repeat at b e) ∷ is)
+    Behind : (at : Pos) (b : Stats) (e : Expr) (is : List Item) (v : Value) → IsNext s f fs (Until at b e ∷ is)
+        → calm p.types (made_in s) f.variables (value_of p (here_of f fs) e) ≡ Val v → is_true v ≡ true → IsNext s f fs is
+
+  -- The items then, and the answers that the first of them has had: they are next, and it hasn't begun or begins, or it is the condition behind
+  -- a REPEAT's statements, which has had those of questions that are answered at once; or they stay, and the first one goes on with such answers.
+  pub data HasHad (s : Store) (f : Frame) (fs : List Frame) : List Item → Option (List Value) → Type 0 where
+    Rests : (is : List Item) → IsNext s f fs is → HasHad s f fs is None
+    Begins : (i : Item) (is : List Item) → IsNext s f fs (i ∷ is) → HasHad s f fs (i ∷ is) (Some [])
+    GoesOn : (i : Item) (is : List Item) (vs : List Value) → f.items ≡ i ∷ is → f.answers ≡ Some vs
+        → HasHad s f fs (i ∷ is) (Some (so_far s f fs i vs))
+    Tested : (at : Pos) (b : Stats) (e : Expr) (is : List Item) → IsNext s f fs (Until at b e ∷ is)
+        → HasHad s f fs (Until at b e ∷ is) (Some (noted p.types (made_in s) f.variables (value_of p (here_of f fs) e)))
 
   -- the frame with these items next, of which the first may have had answers of questions that are answered at once
-  pub record Stands (f : Frame) (fs : List Frame) (g : Frame) : Type 0 where
+  pub record Stands (s : Store) (f : Frame) (fs : List Frame) (g : Frame) : Type 0 where
     pub same : IsSameFrame f g
-    pub items : IsNext f fs g.items
+    pub had : HasHad s f fs g.items g.answers
+
+  -- the frame ends with this result: at the end of its text, or where a result is next
+  pub data IsLeft (s : Store) (f : Frame) (fs : List Frame) : Option Value → Type 0 where
+    AtEnd : IsNext s f fs [] → f.gives ≡ false → IsLeft s f fs None
+    AtResult : (r : Option Value) (is : List Item) → IsNext s f fs (GivesItem r ∷ is) → IsLeft s f fs r
+    Nowhere : (vs : List Value) → f.answers ≡ Some vs → f.items ≡ [] → IsLeft s f fs None
+
+  -- what a question stores below a root, where the variables below the roots are these: a scalar, a whole, or a text
+  pub data IsStored (x : Rooted (Content Value)) : Question → Root → (Content Value → Content Value) → Type 0 where
+    OneScalar : (a : Spot) (v : Value) → IsStored x (Stores a v) a.root (placed a.path (Scalar v))
+    OneWhole : (t : TType) (from to : Spot) (new old : Content Value) → read from.root from.path x ≡ Some new → read to.root to.path x ≡ Some old
+        → IsStored x (Copies t from to) to.root (placed to.path (overlay (variable_shape p.types (id_of t)) new old))
+    OneText : (strict : Bool) (from : Spot) (n : Value) (to : Spot) (room : Value) (cs : List ℕ) (old : Content Value) → read to.root to.path x ≡ Some old
+        → IsStored x (PutsText strict from n to room) to.root (placed to.path (with_text cs old))
 
   module _ (following : List ℕ) (s : Store) (f : Frame) (fs : List Frame) where
     -- a turn has come to this store and these frames, with this output, and leaves this work to the kernel
@@ -88,24 +149,27 @@ module _ (p : Program) where
     -- a turn of the frame f, above fs
     pub data Kind (t : Turned) : Type 0 where
       -- the next item begins, or asks the kernel for the entry of a region or for its end
-      Settled : (g : Frame) → Stands f fs g → Gives t s (g ∷ fs) [] (settled_work (lock_of g) g.items) → Kind t
+      Settled : (g : Frame) → Stands s f fs g → HasNotAsked g → Gives t s (g ∷ fs) [] (settled_work (lock_of g) g.items) → Kind t
       -- the turn traps, and the frame stays where it stands
-      Stopped : (g : Frame) (number code : ℕ) → Stands f fs g → Gives t s (g ∷ fs) [] (Trapped number code) → Kind t
+      Stopped : (g : Frame) (number code : ℕ) → Stands s f fs g → Gives t s (g ∷ fs) [] (Trapped number code) → Kind t
       -- the frame stays where it stands, and the question that it asks is left to the kernel
-      Left : (g : Frame) (q : Question) (work : Did) → Stands f fs g → IsAsking g fs q → IsLeftAs g q work → Gives t s (g ∷ fs) [] work → Kind t
+      Left : (g : Frame) (q : Question) (work : Did) → Stands s f fs g → IsAsking g fs q → IsLeftAs g q work → Gives t s (g ∷ fs) [] work → Kind t
       -- the frame ends, and its result is the answer for the one below
-      Popped : (v : Value) → Gives t s (with_result following v fs) [] Went → Kind t
+      Popped : (r : Option Value) → IsLeft s f fs r → Gives t s (with_result following (answer_in r) fs) [] Went → Kind t
       -- a question is answered that changes nothing: a scalar is read, or texts are compared
-      Told : (g : Frame) (q : Question) (v : Value) → Stands f fs g → IsAsking g fs q → Gives t s (answered v g ∷ fs) [] Went → Kind t
+      Told : (g : Frame) (q : Question) → MakesNone q → Stands s f fs g → IsAsking g fs q → Gives t s (answered (told_as (all_rooted (g ∷ fs) s) q) g ∷ fs) [] Went → Kind t
       -- what a question asks for is written out
-      Written : (g : Frame) (q : Question) (bytes : List ℕ) → Stands f fs g → IsAsking g fs q → written_by (all_rooted (g ∷ fs) s) q ≡ Some bytes
+      Written : (g : Frame) (q : Question) (bytes : List ℕ) → Stands s f fs g → IsAsking g fs q → written_by (all_rooted (g ∷ fs) s) q ≡ Some bytes
           → Gives t s (answered done g ∷ fs) bytes Went → Kind t
       -- a scalar is stored, a whole copied or a text put: what stands below a root is changed
-      Stored : (g : Frame) (q : Question) (r : Root) (change : Content Value → Content Value) → Stands f fs g → IsAsking g fs q
+      Stored : (g : Frame) (q : Question) (r : Root) (change : Content Value → Content Value) → Stands s f fs g → IsAsking g fs q
+          → IsStored (all_rooted (g ∷ fs) s) q r change
           → Gives t (store_with r change s) (frames_with r change (answered done g ∷ fs)) [] Went → Kind t
       -- an object is made
-      Created : (g : Frame) (q : Question) (m : Made) (c : Content Value) → Stands f fs g → IsAsking g fs q
-          → Gives t (with_object m c s) (answered (Object (new_number s)) g ∷ fs) [] Went → Kind t
+      Created : (g : Frame) (type : ℕ) (vs : List Value) (ns : List ℕ) → Stands s f fs g → IsAsking g fs (Makes type vs)
+          → array_lengths (map number_of vs) ≡ Some ns
+          → (let m : Made = record { type = type; lengths = ns } in
+          Gives t (with_object m (first_content (first_value p) (made_shape p.types m)) s) (answered (Object (new_number s)) g ∷ fs) [] Went) → Kind t
       -- a routine is called
-      Called : (g : Frame) (q : Question) (r : Routine) (vs : List Value) → Stands f fs g → IsAsking g fs q
-          → Gives t s (called_frame p following r vs (g ∷ fs) s ∷ g ∷ fs) [] Went → Kind t
+      Called : (g : Frame) (how : Manner) (n : ℕ) (vs : List Value) (r : Routine) → Stands s f fs g → IsAsking g fs (Calls how n vs)
+          → by_number n (routines p) ≡ Some r → Gives t s (called_frame p following r vs (g ∷ fs) s ∷ g ∷ fs) [] Went → Kind t

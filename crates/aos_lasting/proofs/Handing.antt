@@ -1,0 +1,195 @@
+-- The machine of a program keeps what its locks guard: what a lock that is passed to a waiter leaves to say.
+use Rattle.std.proofs.Common.{◌≡◌, ◌≢◌, ◌<◌, ◌≤◌, inl, ℕ, List, [], ◌∷◌, ◌++◌, length, map, Option, Some, None, refl, sym, ap, ◌∙◌, subst, arith}
+use Rattle.std.specs.Prelude.{slice_get}
+use Rattle.std.proofs.lemmas.List.{length-map}
+use Rattle.std.proofs.lemmas.Option.{slice_get_within}
+use Rattle.aos_base.specs.Machine.{Choice, execution, start_of, State}
+use Rattle.aos_base.specs.declared.kernel.Did.{Did}
+use Rattle.aos_base.specs.declared.kernel.Did.TheVariants.{Went}
+use Rattle.aos_base.specs.declared.kernel.LockName.{LockName}
+use Rattle.aos_base.specs.declared.kernel.LockName.TheVariants as lock
+use Rattle.aos_concurrency.specs.Acting.{KeepsTidy, ByTurn, ByGoingPast, ByStart, ByTrap, ByEnd, acting, acts}
+use Rattle.aos_concurrency.specs.Handover.{GuardsBy, HandsOver}
+use Rattle.aos_concurrency.specs.Regions.{Outside, times}
+use Rattle.aos_concurrency.specs.Simulates.{Simulates}
+use Rattle.aos_concurrency.specs.Sound.{Sound}
+use Rattle.aos_concurrency.proofs.Begin.{each_start, start_sound}
+use Rattle.aos_concurrency.proofs.Changes.{execution_tidy}
+use Rattle.aos_concurrency.proofs.Handed.{hands_over}
+use Rattle.aos_concurrency.proofs.Itself.{sound_fitting}
+use Rattle.aos_concurrency.proofs.Steps.{execution_sound, sound_always}
+use Rattle.aos_types.specs.Content.{Content}
+use Rattle.aos_typed.specs.Program.{Module, Program, Variable}
+use Rattle.aos_typed.specs.Store.{Store, made_in, new_number}
+use Rattle.aos_typed.specs.Value.{Value}
+use Rattle.aos_typed.specs.Typing.{Is}
+use Rattle.aos_typed.specs.Text.{text_content}
+use Rattle.aos_typed.specs.Source as S
+use Rattle.aos_typed.specs.Source.{Frame, first_module, first_store, first_value, first_variable, row_of, next_body, opened_by, regions_of, source, turn_at}
+use Rattle.aos_typed.specs.WellTyped.{IsWellTyped}
+use Rattle.aos_code.specs.declared.image.Image.{Image}
+use Rattle.aos_code.specs.Machine as I
+use Rattle.aos_code.specs.Machine.{machine}
+use Rattle.aos_sim.specs.Cells.{cell_of}
+use Rattle.aos_sim.specs.Shows.{IsCodeOf}
+use Rattle.aos_sim.proofs.Does.{scheme}
+use Rattle.aos_sim.proofs.States.{SameStore, world_of}
+use Rattle.aos_sim.proofs.Turns.{Together}
+use Rattle.aos_guard.specs.Guarded.{IsQuiet}
+use Rattle.aos_handover.proofs.Turns.{turn_kind}
+use Rattle.aos_naming.specs.Naming.{AreOf, Builds, ContentIs, ContentsAre, FramesAre, HideAll, IsLoud, IsOther, StoreIs}
+use Rattle.aos_naming.proofs.Names.{HasNames}
+use Rattle.aos_naming.proofs.Steps.{loud_plainly, other_plainly}
+use Rattle.aos_naming.proofs.Tidying.{IsTidy, keeps_tidy}
+use Rattle.aos_naming.proofs.Traced.{Traces, next_numbers, opened_are, opened_numbers, traced}
+use Rattle.aos_naming.proofs.Values.{Simply, first_is, simply, sort_begins}
+use Rattle.aos_lasting.specs.Agree.{AgreeOn, IsLocalAt}
+use Rattle.aos_lasting.specs.Lasts.{Lasts}
+use Rattle.aos_lasting.specs.Spots.{IsFree}
+use Rattle.aos_lasting.proofs.Told.{free_simply}
+use Rattle.aos_lasting.proofs.Reading.{reads}
+use Rattle.aos_lasting.proofs.Transfer.{source_hands_over}
+use Rattle.aos_lasting.proofs.Agreeing.{agree_same, agree_then, hidden_regions, shown_long, turn_agrees}
+use Rattle.aos_lasting.proofs.Fitting.{Fits, fits_kept, names, opened_serves, turn_up, typed}
+use Rattle.aos_lasting.proofs.Serve.{AllServe}
+
+module _ (p : Program) (image : Image) (well : IsWellTyped p) (ok : IsCodeOf p image) (simulates : Simulates (SameStore p) (Together p image) (Outside (source p)) (source p) (machine image)) (first_stores : SameStore p (first_store p) (I.first_memory image)) (first_together : Together p image (first_store p) (I.first_memory image) Went (S.first_frames p) (I.first_frames image)) where
+  abbrev named : HasNames p
+  named = names p image well ok simulates
+
+  abbrev X : Type 0
+  X = Traces p named
+
+  abbrev Fit : Store → Did → X → Type 0
+  Fit = Fits p image well ok simulates
+
+  -- who names an object, where all frames fit
+  tidy_kept : KeepsTidy (traced p named) (Outside (traced p named)) Fit (IsTidy p named)
+  tidy_kept _ _ _ _ (ByTurn s t a x is fits) tidy = keeps_tidy p named _ _ _ _ (ByTurn s t a x is fits.traces) tidy
+  tidy_kept _ _ _ _ (ByGoingPast s t a w x is goes fits) tidy = keeps_tidy p named _ _ _ _ (ByGoingPast s t a w x is goes fits.traces) tidy
+  tidy_kept _ _ _ _ (ByStart s t new a b x none is fits) tidy = keeps_tidy p named _ _ _ _ (ByStart s t new a b x none is fits.traces) tidy
+  tidy_kept _ _ _ _ (ByTrap s t a w x is may fits) tidy = keeps_tidy p named _ _ _ _ (ByTrap s t a w x is may fits.traces) tidy
+  tidy_kept _ _ _ _ (ByEnd s t a x is) tidy = keeps_tidy p named _ _ _ _ (ByEnd s t a x is) tidy
+
+  -- the topmost frame is that of no quiet initializer on the object of the lock
+  abbrev NotBuilding : LockName → List ℕ → List Frame → Type 0
+  NotBuilding l [] fs = Unit {0}
+  NotBuilding l (n ∷ ns) [] = Unit {0}
+  NotBuilding l (n ∷ ns) (f ∷ fs) = IsQuiet p n → l ≡ lock.Object f.object → ⊥
+
+  not_building : (l : LockName) (others : List Frame) → 0 < times l (regions_of others) → (ns : List ℕ) (fs : List Frame) → ((o : ℕ) → Builds p o ns fs → HideAll o others) → NotBuilding l ns fs
+  not_building l others inside [] fs hide = tt
+  not_building l others inside (n ∷ ns) [] hide = tt
+  not_building l others inside (n ∷ ns) (f ∷ fs) hide = λ quiet e.
+      let h = hide f.object (inl (quiet, refl)) in
+      let none = ap (λ k. times k (regions_of others)) e ∙ hidden_regions f.object others h.selves in absurd (omega (arith, inside, none))
+
+  opened_not : (l : LockName) (fs : List Frame) (ms ns : List ℕ) → NotBuilding l ns fs → NotBuilding l (opened_numbers p named fs ms ns) (opened_by p fs ms).frames
+  opened_not l [] [] ns h = tt
+  opened_not l (f ∷ fs) ms ns h = h
+  opened_not l [] (m ∷ ms) ns h = by (slice_get p.modules m) refl
+    where
+      by : (o : Option Module) → slice_get p.modules m ≡ o → NotBuilding l (next_numbers p named m o) (next_body p m ms o).frames
+      by None e = tt
+      by (Some x) e = λ quiet same. let k = named in k.modules m (slice_get_within p.modules m x e) quiet
+
+  frames_agree : (l : LockName) (following : List ℕ) (s : Store) (fs : List Frame) (ns : List ℕ) → AreOf p ns fs → AllServe p (typed p image well ok simulates) (made_in s) ns fs → length s.objects ≡ length s.made → NotBuilding l ns fs →
+      times l (regions_of (turn_at p following fs s).frames.frames) ≡ 0 → AgreeOn p l s (turn_at p following fs s).store
+  frames_agree l following s [] ns are serve long not none = agree_same p l s
+  frames_agree l following s (f ∷ fs) [] are serve long not none = absurd are
+  frames_agree l following s (f ∷ fs) (n ∷ ns) are serve long not none =
+      turn_agrees p (typed p image well ok simulates) following s f fs (turn_at p following (f ∷ fs) s) n ns are serve long (turn_up p image well ok simulates following (f ∷ fs) s) l not (turn_kind p following s f fs) none
+
+  -- a turn of one that is in no region of a lock, while another is in one
+  outside : (s : Store) (t : ℕ → Option X) (l : LockName) (a b : ℕ) (f g : X) → IsTidy p named s t → a ≢ b → t a ≡ Some f → 0 < times l (regions_of f.0.frames) → t b ≡ Some g → Fit s Went g → Outside (traced p named) l g → AgreeOn p l s (S.turn p s g.0).store
+  outside s t l a b f g tidy ne at_a inside at_b fits out =
+      let x = g.0 in
+      let now = S.opened p x in
+      let tr = fits.traces in
+      let stores = fits.stores in
+      let keeps = fits_kept p image well ok simulates in
+      let long : length s.objects ≡ length s.made = shown_long (Is p) cell_of (world_of p s.made []) (map (scheme p).made s.made) s.objects (let mem = fits.memory in mem.objects) stores.of_objects ∙ length-map s.made (scheme p).made in
+      let hide : (o : ℕ) → Builds p o g.1 x.frames → HideAll o f.0.frames = λ o builds. let k = tidy.built b g o at_b builds in k.others a f ne at_a in
+      frames_agree l now.following s now.frames (opened_numbers p named x.frames x.following g.1) (opened_are p named x.frames x.following g.1 tr.are)
+      (opened_serves p image well ok simulates (made_in s) x.frames x.following g.1 tr.are fits.serve) long
+      (opened_not l x.frames x.following g.1 (not_building l f.0.frames inside g.1 x.frames hide))
+      (ap (times l) (keeps.turn s g fits) ∙ out)
+
+  -- At the beginning.
+
+  row_is : (C : Value → Type 0) (cs : List (Content Value)) → ContentsAre C cs → ContentIs C (row_of cs)
+  row_is C [] h = tt
+  row_is C (c ∷ cs) h = (h.0, row_is C cs h.1)
+
+  variables_are : (C : Value → Type 0) → Simply C → (vs : List Variable) (more : List (Content Value)) → ContentsAre C more → ContentsAre C (map (first_variable p) vs ++ more)
+  variables_are C simple [] more h = h
+  variables_are C simple (v ∷ vs) more h = (first_is C (first_value p) _ (sort_begins p C simple), variables_are C simple vs more h)
+
+  text_is : (C : Value → Type 0) → Simply C → (cs : List ℕ) → ContentIs C (text_content cs)
+  text_is C simple [] = (simple.char 0, tt)
+  text_is C simple (c ∷ cs) = (simple.char c, text_is C simple cs)
+
+  texts_are : (C : Value → Type 0) → Simply C → (ts : List (List ℕ)) → ContentsAre C (map text_content ts)
+  texts_are C simple [] = tt
+  texts_are C simple (t ∷ ts) = (text_is C simple t, texts_are C simple ts)
+
+  firsts_are : (C : Value → Type 0) → Simply C → (ms : List Module) → ContentsAre C (map (first_module p) ms)
+  firsts_are C simple [] = tt
+  firsts_are C simple (m ∷ ms) = (row_is C _ (variables_are C simple m.variables (map text_content m.texts) (texts_are C simple m.texts)), firsts_are C simple ms)
+
+  first_is_store : (C : Value → Type 0) → Simply C → StoreIs C (first_store p)
+  first_is_store C simple = record { modules = firsts_are C simple p.modules; objects = tt }
+
+  abbrev first : X
+  first = (S.first_frames p, [])
+
+  abbrev start : ℕ → State Store X
+  start budget = start_of (first_store p) first budget
+
+  first_tidy : (budget : ℕ) → IsTidy p named (first_store p) (acting (traced p named) (start budget))
+  first_tidy budget =
+      record {
+        loud = first_is_store (IsLoud p) (simply p (IsLoud p) (loud_plainly p named));
+        loud_frames = λ a f e. subst (λ (z : X). FramesAre (IsLoud p) z.0.frames) (only a f e) tt;
+        unmade = λ o le. first_is_store (IsOther o) (simply p (IsOther o) (other_plainly p o (real o le)));
+        unmade_frames = λ o le a f e. subst (λ (z : X). HideAll o z.0.frames) (only a f e) (record { selves = tt; values = tt });
+        built = λ a f o e builds. absurd (subst (λ (z : X). Builds p o z.1 z.0.frames) (sym (only a f e)) builds);
+      }
+    where
+      only : (a : ℕ) (f : X) → acting (traced p named) (start budget) a ≡ Some f → first ≡ f
+      only = each_start (first_store p) first budget (λ _ y. (f : X) → acts (traced p named) y.next y.frames ≡ Some f → first ≡ f) (λ f e. cc e) (λ x ne f e. absurd (cc e))
+
+      real : (o : ℕ) → new_number (first_store p) ≤ o → 0 ≢ o
+      real o le e = absurd (omega (arith, le, e))
+
+  first_fits : Fit (first_store p) Went first
+  first_fits =
+      record {
+        traces = record { stands = tt; are = tt; asks = tt };
+        memory = I.first_memory image;
+        code = I.first_frames image;
+        stores = first_stores;
+        together = first_together;
+        serve = tt;
+        free = first_is_store (IsFree p (made_in (first_store p))) (free_simply p (made_in (first_store p)));
+      }
+
+  guards : GuardsBy (traced p named) Fit (IsTidy p named) (AgreeOn p) (IsLocalAt p)
+  guards =
+      record {
+        same = agree_same p;
+        then_ = agree_then p;
+        tidy = tidy_kept;
+        outside = outside;
+        reads = reads p image well ok simulates;
+      }
+
+  traced_hands_over : (budget : ℕ) (before others : List Choice) (entry : Choice) (a : ℕ) (l : LockName) (c : ℕ) → HandsOver (traced p named) (IsLocalAt p) (execution (traced p named) before (start budget)) entry a l c others
+  traced_hands_over budget before others entry a l c =
+      let keeps = fits_kept p image well ok simulates in
+      let sound : Sound (traced p named) Fit (start budget) = start_sound (first_store p) first budget (traced p named) Fit first_fits refl in
+      hands_over (traced p named) Fit (IsTidy p named) (AgreeOn p) (IsLocalAt p) keeps guards (execution (traced p named) before (start budget)) entry a l c others (execution_sound (traced p named) Fit keeps before (start budget) sound)
+      (execution_tidy (traced p named) (Outside (traced p named)) Fit keeps.fits (IsTidy p named) tidy_kept before (start budget) (sound_always (traced p named) Fit keeps (start budget) sound) (sound_fitting (traced p named) Fit (start budget) sound) (first_tidy budget))
+
+  pub lasts : Lasts p
+  lasts budget before others entry a l c = source_hands_over p named (IsLocalAt p) budget before others entry a l c (traced_hands_over budget before others entry a l c)

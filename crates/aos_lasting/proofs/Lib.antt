@@ -1,0 +1,16 @@
+pub mod Fields
+pub mod Serving
+pub mod Law
+pub mod Statements
+pub mod Told
+pub mod Asked
+pub mod Serve
+pub mod Keeps
+pub mod Fitting
+pub mod Outside
+pub mod Agreeing
+pub mod Looking
+pub mod Reading
+pub mod Transfer
+pub mod Handing
+pub mod Simulated

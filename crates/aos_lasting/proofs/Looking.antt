@@ -1,0 +1,198 @@
+-- A local condition comes out alike over stores that agree on what its lock guards.
+use Rattle.std.proofs.Common.{◌≡◌, ◌⊎◌, inl, inr, ℕ, suc, List, [], ◌∷◌, Bool, true, false, Option, Some, None, refl, sym, ap, ◌∙◌, subst}
+use Rattle.std.specs.Prelude.{option_and_then, not}
+use Rattle.aos_base.specs.Question.{Val, Asks, Traps, Reads, Stores, Copies, PutsText, ComparesTexts, Calls, Ends, Makes, Starts, Enters, Leaves, Awaits, PutsInt, PutsChar, PutsString, PutsNothing, PutsLn, Places, Lengths, Opens, Sizes, Tests}
+use Rattle.aos_base.specs.Rooted.{Made, at_root}
+use Rattle.aos_base.specs.declared.kernel.LockName.{LockName}
+use Rattle.aos_base.specs.declared.kernel.LockName.TheVariants as lock
+use Rattle.aos_base.specs.declared.kernel.Verdict.{Verdict}
+use Rattle.aos_base.specs.declared.place.Root.{Root}
+use Rattle.aos_base.specs.declared.place.Root.TheVariants as root
+use Rattle.aos_types.specs.Content.{Content, element, found}
+use Rattle.aos_types.specs.World.{World, read}
+use Rattle.aos_typed.specs.declared.tree.TType.{TType}
+use Rattle.aos_typed.specs.Conditions.{Condition}
+use Rattle.aos_typed.specs.Numbers.{id_of}
+use Rattle.aos_typed.specs.Program.{Program}
+use Rattle.aos_typed.specs.Routines.{Routine, has_self, self_type}
+use Rattle.aos_typed.specs.Sort.{Sort, Plain}
+use Rattle.aos_typed.specs.Spot.{Spot}
+use Rattle.aos_typed.specs.Store.{Store, made_in, scalar_in, value_at}
+use Rattle.aos_typed.specs.Typing.{Is}
+use Rattle.aos_typed.specs.Value.{Value}
+use Rattle.aos_typed.specs.Meaning.{Here, Question, Doing, object_in}
+use Rattle.aos_typed.specs.Source.{Frame, all_rooted, calm, compared, has_type_in, here_of, judged, known, length_in, lock_of, object_place, own_lock}
+use Rattle.aos_code.specs.declared.image.Image.{Image}
+use Rattle.aos_code.specs.declared.instr.Cell.{Cell}
+use Rattle.aos_places.proofs.Grow.{grows_same}
+use Rattle.aos_sim.specs.Cells.{cell_of}
+use Rattle.aos_sim.proofs.Does.{HasScalar, HasShapes, HasTypes, IsSelf, IsWhole, Valid, Conforms, Does, Calmly, placed, calm_does}
+use Rattle.aos_sim.proofs.Runs.{Run, tables_of}
+use Rattle.aos_sim.proofs.Runs as runs
+use Rattle.aos_sim.proofs.States.{shapes_of, top_shape, world_of}
+use Rattle.aos_places.specs.Shows.{Shown}
+use Rattle.aos_guard.specs.Guarded.{IsGuarded, MayRead, Spares, is_of_module}
+use Rattle.aos_guard.specs.declared.uses.Target.{Target}
+use Rattle.aos_guard.specs.declared.uses.Use.{Use}
+use Rattle.aos_guard.specs.declared.uses.Use.TheVariants as used
+use Rattle.aos_guard.specs.declared.uses.Variable.{Variable}
+use Rattle.aos_guard.specs.declared.uses.Variable.TheVariants as variable
+use Rattle.aos_naming.specs.Naming.{StoreIs, VariablesAre}
+use Rattle.aos_naming.proofs.Values.{known_is, length_is, value_is}
+use Rattle.aos_lasting.specs.Agree.{AgreeOn, AreSame, IsSame, Looks}
+use Rattle.aos_lasting.specs.Spots.{HasFields, IsAt, IsFree, field_of}
+use Rattle.aos_lasting.proofs.Law.{IsRead, Law}
+use Rattle.aos_lasting.proofs.Serving.{is_serves}
+use Rattle.aos_lasting.proofs.Told.{free_simply, opens_told, tests_told}
+
+-- what stands behind a part is read alike where the part is the same
+behind_part : (k : ℕ) (rest : List ℕ) (o : Option (Content Value)) → option_and_then (found (k ∷ rest)) o ≡ option_and_then (found rest) (option_and_then (found (k ∷ [])) o)
+behind_part k rest None = refl
+behind_part k rest (Some c) = by (element k c)
+  where
+    by : (d : Option (Content Value)) → option_and_then (found rest) d ≡ option_and_then (found rest) (option_and_then (found []) d)
+    by None = refl
+    by (Some d) = refl
+
+read_behind : (s t : Store) (r : Root) (k : ℕ) (rest : List ℕ) → IsSame s t r k → read r (k ∷ rest) (all_rooted [] s) ≡ read r (k ∷ rest) (all_rooted [] t)
+read_behind s t r k rest e =
+    behind_part k rest (at_root r (all_rooted [] s)) ∙ ap (option_and_then (found rest)) e ∙ sym (behind_part k rest (at_root r (all_rooted [] t)))
+
+-- what a local condition may use spares all
+pub looks_spare : (p : Program) (d : Condition) (n : ℕ) (r : Routine) (u : Use) → Looks p d u → (v : Variable) → IsGuarded p v → Spares p v n r u
+looks_spare p d n r (used.Writes t x) h v g = absurd h.0
+looks_spare p d n r (used.Reads t) h v g = tt
+looks_spare p d n r (used.Varies t) h v g = absurd h.0
+looks_spare p d n r used.Follows h v g = tt
+looks_spare p d n r used.SelfValue h v g = tt
+looks_spare p d n r used.Calls h v g = tt
+looks_spare p d n r (used.Raises t k) h v g = tt
+looks_spare p d n r (used.Finds t k) h v g = tt
+looks_spare p d n r used.Binds h v g = tt
+looks_spare p d n r used.Makes h v g = tt
+
+module _ (p : Program) (typed : HasTypes p) (image : Image) (shaped : HasShapes p (tables_of image)) (s t : Store) (f : Frame) (fs : List Frame) (cells : List Cell)
+    (shown : Shown (Is p) cell_of (world_of p s.made (shapes_of (f ∷ fs))) f.shape f.variables cells) (whole : IsWhole p (world_of p s.made (shapes_of (f ∷ fs))))
+    (typed_at : (ty : TType) (a : Spot) → HasScalar p (world_of p s.made (shapes_of (f ∷ fs))) a (Plain (id_of ty)) → Is p (world_of p s.made (shapes_of (f ∷ fs))) (Plain (id_of ty)) (value_at a (all_rooted (f ∷ fs) s)))
+    (variables : VariablesAre (IsFree p (made_in s)) (f ∷ fs)) (store : StoreIs (IsFree p (made_in s)) s) where
+  abbrev now : World Sort
+  now = world_of p s.made (shapes_of (f ∷ fs))
+
+  abbrev made : ℕ → Option Made
+  made = made_in s
+
+  abbrev here : Here
+  here = here_of f fs
+
+  abbrev c : Content Value
+  c = f.variables
+
+  -- what is answered at once is of the sort that is asked for
+  abbrev Answered : Question → World Sort → Value → Run → Type 0
+  Answered q w v m = Conforms p w q v
+
+  alone_does : (q : Question) → Valid p here now q → Does p here (Answered q) now (Asks (placed p now q) (λ x. Traps 0 0)) (Asks q (λ v. Val v))
+  alone_does q valid = ((λ x. Traps 0 0), refl, valid, λ w up v conforms. conforms)
+
+  quiet : (q : Question) → Valid p here now q → Calmly p here (Answered q) image.types.items cells now (runs.calm image.types.items made cells (Asks (placed p now q) (λ x. Traps 0 0))) (calm p.types made c (Asks q (λ v. Val v)))
+  quiet q valid = calm_does p here now f.shape c cells (top_shape p s.made f fs) shown whole (tables_of image) shaped (Answered q) (Asks (placed p now q) (λ x. Traps 0 0)) (Asks q (λ v. Val v)) (alone_does q valid)
+
+  module _ (l : LockName) (agree : AgreeOn p l s t) (d : Condition) (n : ℕ) (r : Routine) (own : r.own ≡ d.own) (is_self_of : IsSelf p made (self_type r.own) here.self) (x : Bool) (lock_is : l ≡ lock_of f) (home : d.home ≡ f.home) (alone : has_self d.own ≡ false → f.object ≡ 0) where
+    abbrev LawAt : {A : Type 0} → (A → Type 0) → Doing A → Type 0
+    LawAt R e = Law p typed made n r here is_self_of x (Looks p d) (looks_spare p d n r) R e
+
+    abbrev IsSeen : Spot → Type 0
+    IsSeen a = IsRead p typed made n r here is_self_of x (Looks p d) (looks_spare p d n r) a
+
+    same_module : (m k : ℕ) → MayRead p d.home d.own false (variable.Module m k) → IsSame s t (root.Module m) k
+    same_module m k may = by (is_of_module p m k) refl may.0
+      where
+        own_lock_is : d.home ≡ m → has_self d.own ≡ false → l ≡ lock.Module m
+        own_lock_is is none = lock_is ∙ (λ i. own_lock (sym home i) (alone none i)) ∙ ap (λ z. lock.Module z) is
+
+        by : (b : Bool) → is_of_module p m k ≡ b → (not b ≡ true) ⊎ ((d.home ≡ m) × (has_self d.own ≡ false)) → IsSame s t (root.Module m) k
+        by b e (inr h) = subst (λ z. AreSame p z s t) (own_lock_is h.0 h.1) agree.guarded k may.1
+        by false e (inl none) = agree.constants m k e may.1
+        by true e (inl none) = absurd (cc none)
+
+    same_field : (o k u : ℕ) (m : Made) → made (suc o) ≡ Some m → HasFields p m → IsGuarded p (field_of p m k) → suc o ≡ f.object → IsSame s t (root.Object (suc o)) k
+    same_field o k u m there fields g self =
+        let is : l ≡ lock.Object (suc o) = lock_is ∙ ap (own_lock f.home) (sym self) in subst (λ z. AreSame p z s t) is agree.guarded m there fields k g
+
+    -- what is read is the same
+    same_read : (a : Spot) → IsSeen a → read a.root a.path (all_rooted (f ∷ fs) s) ≡ read a.root a.path (all_rooted (f ∷ fs) t)
+    same_read a seen = by (seen.0).of refl seen.1 seen.2
+      where
+        tg : Target
+        tg = seen.0
+
+        by : (v : Variable) → tg.of ≡ v → IsAt p made here.self a tg → Looks p d (used.Reads tg) → read a.root a.path (all_rooted (f ∷ fs) s) ≡ read a.root a.path (all_rooted (f ∷ fs) t)
+        by v e at looks = of v e (subst (λ z. IsAt p made here.self a (record { of = z; through_self = tg.through_self })) e at) (subst (λ z. MayRead p d.home d.own tg.through_self z) e looks.0) looks.1
+          where
+            of : (v : Variable) → tg.of ≡ v → IsAt p made here.self a (record { of = v; through_self = tg.through_self }) → MayRead p d.home d.own tg.through_self v → ((k : ℕ) → tg.of ≡ variable.Opened k → ⊥) → read a.root a.path (all_rooted (f ∷ fs) s) ≡ read a.root a.path (all_rooted (f ∷ fs) t)
+            of (variable.Module m k) e at may closed =
+                subst (λ z. read z a.path (all_rooted (f ∷ fs) s) ≡ read z a.path (all_rooted (f ∷ fs) t)) (sym at.0)
+                (subst (λ z. read (root.Module m) z (all_rooted (f ∷ fs) s) ≡ read (root.Module m) z (all_rooted (f ∷ fs) t)) (sym at.1.1) (read_behind s t (root.Module m) k at.1.0 (same_module m k may)))
+            of (variable.Field u k) e at may closed =
+                subst (λ z. read z a.path (all_rooted (f ∷ fs) s) ≡ read z a.path (all_rooted (f ∷ fs) t)) (sym at.2)
+                (subst (λ z. read (root.Object (suc at.0)) z (all_rooted (f ∷ fs) s) ≡ read (root.Object (suc at.0)) z (all_rooted (f ∷ fs) t)) (sym at.6.1)
+                (read_behind s t (root.Object (suc at.0)) k at.6.0 (same_field at.0 k u at.1 at.3 at.4 (subst (IsGuarded p) (sym at.5) may.1) (at.7 may.0))))
+            of variable.Local e at may closed = subst (λ z. read z a.path (all_rooted (f ∷ fs) s) ≡ read z a.path (all_rooted (f ∷ fs) t)) (sym at.1) refl
+            of variable.Passed e at may closed = absurd may
+            of (variable.Opened k) e at may closed = absurd (closed k e)
+            of variable.Heap e at may closed = absurd may
+
+    abbrev JudgedAt : Store → Doing Value → Verdict
+    JudgedAt z e = judged p.types (made_in z) c (all_rooted (f ∷ fs) z) e
+
+    -- objects are what they were
+    same_made : (o : ℕ) (m : Made) → made o ≡ Some m → made o ≡ made_in t o
+    same_made o m e = e ∙ sym (agree.made o m e)
+
+    -- evaluated question by question
+    pub judged_same : (R : World Sort → Value → Run → Type 0) (Q : Value → Type 0) (m : Run) (e : Doing Value) → Does p here R now m e → LawAt Q e → JudgedAt s e ≡ JudgedAt t e
+    judged_same R Q m (Val v) does law = refl
+    judged_same R Q m (Traps i code) does law = refl
+    judged_same R Q m (Asks (Reads ty a) k) does law =
+        let v = value_at a (all_rooted (f ∷ fs) s) in
+        let is = typed_at ty a does.2.1 in
+        let serves = is_serves p typed now ty v is (value_is p (IsFree p made) (free_simply p made) a (f ∷ fs) s variables store) in
+        judged_same R Q (does.0 (cell_of now v)) (k v) (does.3 now (grows_same now) v is) (law.1 v serves)
+        ∙ ap (λ z. JudgedAt t (k (scalar_in z))) (same_read a law.0)
+    judged_same R Q m (Asks (ComparesTexts o a i b j) k) does law =
+        let v = compared o (read a.root a.path (all_rooted (f ∷ fs) s)) (read b.root b.path (all_rooted (f ∷ fs) s)) in
+        judged_same R Q (does.0 (cell_of now v)) (k v) (does.3 now (grows_same now) v tt) (law.1 v (_, refl))
+        ∙ (λ q. JudgedAt t (k (compared o (same_read a law.0.0 q) (same_read b law.0.1 q))))
+    judged_same R Q m (Asks (Places a) k) does law =
+        let v = known c a in
+        judged_same R Q (does.0 (cell_of now v)) (k v) (does.3 now (grows_same now) v (quiet (Places a) does.2).2) (law.1 v (known_is p (IsFree p made) (free_simply p made) made c variables.0 a))
+    judged_same R Q m (Asks (Lengths a) k) does law =
+        let v = known c a in
+        judged_same R Q (does.0 (cell_of now v)) (k v) (does.3 now (grows_same now) v (quiet (Lengths a) does.2).2) (law.1 v (known_is p (IsFree p made) (free_simply p made) made c variables.0 a))
+    judged_same R Q m (Asks (Opens u) k) does law =
+        let v = object_place (object_in u) (made (object_in u)) in
+        judged_same R Q (does.0 (cell_of now v)) (k v) (does.3 now (grows_same now) v (quiet (Opens u) does.2).2) (law.1 v (opens_told p made u law.0.0 law.0.1))
+        ∙ ap (λ z. JudgedAt t (k (object_place (object_in u) z))) (same_made (object_in u) law.0.0 law.0.1)
+    judged_same R Q m (Asks (Sizes u i) k) does law =
+        let v = length_in i (made (object_in u)) in
+        judged_same R Q (does.0 (cell_of now v)) (k v) (does.3 now (grows_same now) v (quiet (Sizes u i) does.2).2) (law.1 v (length_is p (IsFree p made) (free_simply p made) made c variables.0 i (made (object_in u))))
+        ∙ ap (λ z. JudgedAt t (k (length_in i z))) (same_made (object_in u) law.0.0 law.0.1)
+    judged_same R Q m (Asks (Tests u ty) k) does law =
+        let v = has_type_in p.types made c ty (made (object_in u)) in
+        judged_same R Q (does.0 (cell_of now v)) (k v) (does.3 now (grows_same now) v (quiet (Tests u ty) does.2).2) (law.1 v (tests_told p made c u ty law.0.0 law.0.1))
+        ∙ ap (λ z. JudgedAt t (k (has_type_in p.types made c ty z))) (same_made (object_in u) law.0.0 law.0.1)
+    judged_same R Q m (Asks (Stores a v) k) does law = refl
+    judged_same R Q m (Asks (Copies ty a b) k) does law = refl
+    judged_same R Q m (Asks (PutsText strict a i b j) k) does law = refl
+    judged_same R Q m (Asks (Calls how i vs) k) does law = refl
+    judged_same R Q m (Asks (Ends v) k) does law = refl
+    judged_same R Q m (Asks (Makes ty vs) k) does law = refl
+    judged_same R Q m (Asks (Starts v) k) does law = refl
+    judged_same R Q m (Asks Enters k) does law = refl
+    judged_same R Q m (Asks Leaves k) does law = refl
+    judged_same R Q m (Asks (Awaits i) k) does law = refl
+    judged_same R Q m (Asks (PutsInt v i) k) does law = refl
+    judged_same R Q m (Asks (PutsChar v) k) does law = refl
+    judged_same R Q m (Asks (PutsString a i) k) does law = refl
+    judged_same R Q m (Asks PutsNothing k) does law = refl
+    judged_same R Q m (Asks PutsLn k) does law = refl

@@ -1,0 +1,204 @@
+-- One turn of the image is one turn of the source. (What `image_shows_program` of aos_sim stands on; there it is private: with `pub` on `simulates`,
+-- `first_store_same` and `first_same` of aos_sim/proofs/Shown this file is needless.)
+use Rattle.std.proofs.Common.{◌≡◌, ℕ, zero, suc, ◌+◌, List, [], ◌∷◌, ◌++◌, map, length, true, Option, Some, None, refl, sym, ap, ◌∙◌, subst, arith}
+use Rattle.std.specs.Prelude.{slice_get, flat_map, is_some, option_map, option_and_then}
+use Rattle.std.specs.List.{range_with_len}
+use Rattle.std.proofs.Common.{◌⊎◌, inl, inr, ◌<◌, ◌≤◌}
+use Rattle.std.proofs.lemmas.Bool.{cases_lt}
+use Rattle.std.proofs.lemmas.Option.{slice_get-map}
+use Rattle.std.proofs.lemmas.List.Elements.{All-nil}
+use Rattle.aos_types.specs.Extension.{comes_to}
+use Rattle.aos_types.proofs.Tables.{comes_on}
+use Rattle.aos_types.specs.Shape.{Nothing}
+use Rattle.aos_base.specs.Rooted.{Made, by_number}
+use Rattle.aos_typed.specs.Program.{Variable, ObjectType, Module, Program}
+use Rattle.aos_typed.specs.Routines.{routine_of}
+use Rattle.aos_typed.specs.Numbers.{id_of_made, body_number}
+use Rattle.aos_typed.specs.Methods.{body_type}
+use Rattle.aos_typed.specs.Typing.{Is}
+use Rattle.aos_typed.specs.Store.{Store}
+use Rattle.aos_typed.specs.Source as S
+use Rattle.aos_typed.specs.WellTyped.{IsWellTyped}
+use Rattle.aos_code.specs.declared.image.Image.{Image}
+use Rattle.aos_code.specs.declared.image.ModuleDesc.{ModuleDesc}
+use Rattle.aos_code.specs.declared.image.TypeDesc.{TypeDesc}
+use Rattle.aos_code.specs.Numbered.{numbered}
+use Rattle.aos_code.specs.Memory.{Memory}
+use Rattle.aos_code.specs.Machine as I
+use Rattle.aos_code.specs.Machine.{machine, bodies}
+use Rattle.aos_concurrency.specs.Simulates.{Simulates}
+use Rattle.aos_concurrency.specs.Regions.{Outside}
+use Rattle.aos_sim.proofs.Regions.{body_none}
+use Rattle.aos_sim.proofs.Locks.{regions_same}
+use Rattle.aos_sim.specs.Shows.{numbers_from, body_in, IsCodeOf}
+use Rattle.aos_places.specs.Shows.{AllShown}
+use Rattle.aos_sim.specs.Cells.{cell_of}
+use Rattle.aos_sim.proofs.Items.{items_do}
+use Rattle.aos_sim.proofs.First.{modules_shown}
+use Rattle.aos_sim.proofs.Methods.{HasBody, object_type}
+use Rattle.aos_sim.proofs.Objects.{some_same}
+use Rattle.aos_sim.proofs.References.{comes_same}
+use Rattle.aos_sim.proofs.Typed.{has_types}
+use Rattle.aos_sim.proofs.Runs.{tables_of}
+use Rattle.aos_sim.proofs.Does.{HasTypes, HasShapes, IsFrameOf, IsSelf}
+use Rattle.aos_sim.proofs.States.{world_of, IsFew, AreFew, number_get, SameStore, RoutinesRun, Follows, SameFrames, Same, body_same, body_shown, opened_same, same_grows}
+use Rattle.aos_sim.proofs.Routines.{module_there, object_there}
+use Rattle.aos_sim.proofs.Bodies.{alike_at, range_get, range_past, has_shapes, routines_run}
+use Rattle.aos_sim.proofs.Grown.{turn_grown}
+use Rattle.aos_sim.proofs.Turns.{Awaited, awaited_grows, Together, turn_alike}
+use Rattle.aos_sim.proofs.Verdicts.{verdict_same}
+use Rattle.aos_base.specs.declared.kernel.Did.TheVariants.{Went}
+use Rattle.aos_sim.proofs.Shown.{position_same}
+
+module _ (p : Program) (image : Image) (well : IsWellTyped p) (ok : IsCodeOf p image) where
+  abbrev ms : List Module
+  ms = p.modules
+
+  abbrev os : List ObjectType
+  os = p.objects
+
+  pub first_store_same : SameStore p (S.first_store p) (I.first_memory image)
+  first_store_same =
+      record {
+        made = refl;
+        few = All-nil (IsFew p);
+        of_modules = subst (λ ys. AllShown (Is p) cell_of (world_of p [] []) (map (S.module_shape p) ms) (S.first_store p).modules ys) (sym ok.cells) (modules_shown p (world_of p [] []) well.parts.predeclared ms well.parts.texts);
+        of_objects = tt;
+      }
+
+  abbrev typed : HasTypes p
+  typed = has_types p image.bodies.items image.conds.items image.shapes.items image.modules.items image.types.items well ok
+
+  abbrev shaped : HasShapes p (tables_of image)
+  shaped = has_shapes p image ok typed
+
+  abbrev run : RoutinesRun p image
+  run = routines_run p image ok well shaped
+
+  -- the bodies of modules follow one another
+  bodies_follow : (k : ℕ) (xs : List Module) (ds : List ModuleDesc) → ((j : ℕ) (m : Module) → slice_get xs j ≡ Some m → slice_get ms (k + j) ≡ Some m) → map (λ (d : ModuleDesc). d.body) ds ≡ numbers_from (suc k) xs → Follows p image (range_with_len k (length xs)) (flat_map (λ (d : ModuleDesc). bodies d.body) ds)
+  bodies_follow k [] [] each e = tt
+  bodies_follow k [] (d ∷ ds) each e = absurd (cc e)
+  bodies_follow k (m ∷ xs) [] each e = absurd (cc e)
+  bodies_follow k (m ∷ xs) (d ∷ ds) each e =
+      let here : d.body ≡ suc k = cc e in
+      let rest : map (λ (x : ModuleDesc). x.body) ds ≡ numbers_from (suc (suc k)) xs = cc e in
+      let up : suc k ≡ k + 1 = omega arith in
+      let n : k + 0 ≡ k = omega arith in
+      let there : slice_get ms k ≡ Some m = subst (λ j. slice_get ms j ≡ Some m) n (each 0 m refl) in
+      let below = bodies_follow (k + 1) xs ds (λ j x at. let n' : k + suc j ≡ k + 1 + j = omega arith in subst (λ q. slice_get ms q ≡ Some x) n' (each (suc j) x at)) (rest ∙ ap (λ n. numbers_from (suc n) xs) up) in
+      subst (λ b. Follows p image (k ∷ range_with_len (k + 1) (length xs)) (bodies b ++ flat_map (λ (x : ModuleDesc). bodies x.body) ds)) (sym here)
+      ((m, there, module_there p k m there), below)
+
+  -- the body of an object, by its type on both sides
+  module _ (made : List Made) (o t : ℕ) (self : IsSelf p (λ o. by_number o made) (Some t) o) where
+    body_begins : (b : ℕ) (has : HasBody p t b) → SameFrames p image made (S.body_frame has.object.home o has.object.body.body ∷ []) (I.body_frame o (body_number p b) ∷ [])
+    body_begins b has =
+        let x = has.object in
+        let is = object_type p well.parts.objects b x has.there in
+        let extends = comes_on p.types typed.ranked (id_of_made self.1.type) (id_of_made (suc t)) (id_of_made (suc b)) self.5 has.extends in
+        body_same p image run made o (body_number p b) (routine_of x.home x.body) (object_there p b x has.there) (sym (ap is_some has.body.proper)) (frame is.bare)
+        (subst (λ z. IsSelf p (λ o. by_number o made) z o) (sym has.body.own) (self.0, self.1, self.2, self.3, self.4, extends))
+        (λ e. absurd (let some : Some b ≡ None = sym has.body.own ∙ e in cc some))
+      where
+        frame : has.object.body.locals ≡ [] → IsFrameOf p (Some has.object.body) Nothing
+        frame bare =
+            record {
+              parameters = λ k a e. absurd (let none : slice_get has.object.body.parameters k ≡ None = ap (λ l. slice_get l k) has.body.plain in cc (none, e));
+              locals = λ k u e.
+                  let own : Some has.object.body ≡ Some e.0 = e.2 in
+                  let same : has.object.body ≡ e.0 = cc in
+                  let none : option_map (λ (v : Variable). v.of) (slice_get e.0.locals e.1) ≡ None = ap (λ q. option_map (λ (v : Variable). v.of) (slice_get q.locals e.1)) (sym same) ∙ ap (λ l. option_map (λ (v : Variable). v.of) (slice_get l e.1)) bare in
+                  let some = e.4 in
+                  absurd (cc (none, some));
+              few = omega arith;
+            }
+
+    -- which one it is the type's description tells
+    told : t < length os → (d : TypeDesc) × (slice_get image.types.items t ≡ Some d) × (d.body ≡ body_in p (body_type p t))
+    told l =
+        let z : t + 0 ≡ t = omega arith in
+        let r = alike_at (λ (y : TypeDesc). y.body) (λ k. body_in p (body_type p k)) image.types.items (range_with_len 0 (length os)) ok.types t (t + 0) (range_get (length os) 0 t l) in
+        (r.0, r.1, r.2 ∙ ap (λ k. body_in p (body_type p k)) z)
+
+    described : (d : TypeDesc) → slice_get image.types.items t ≡ Some d → d.body ≡ body_in p (body_type p t)
+    described d e = by (cases_lt t (length os))
+      where
+        by : (t < length os) ⊎ (length os ≤ t) → d.body ≡ body_in p (body_type p t)
+        by (inl l) =
+            let r = told l in
+            let there = r.1 in
+            let same : r.0 ≡ d = some_same r.0 d (sym there ∙ e) in
+            ap (λ (y : TypeDesc). y.body) (sym same) ∙ r.2
+        by (inr l) =
+            let none : Some d.body ≡ None = ap (option_map (λ (y : TypeDesc). y.body)) (sym e) ∙ sym (slice_get-map (λ (y : TypeDesc). y.body) image.types.items t) ∙ ap (λ l. slice_get l t) ok.types
+            ∙ slice_get-map (λ k. body_in p (body_type p k)) (range_with_len 0 (length os)) t ∙ ap (option_map (λ k. body_in p (body_type p k))) (range_past (length os) 0 t l) in
+            absurd (cc none)
+
+    object_same : (d : Option TypeDesc) → slice_get image.types.items t ≡ d → Same p image made (S.object_frames o (option_and_then (λ b. slice_get os b) (body_type p t))) (I.object_frames o d)
+    object_same d ed = by (body_type p t) refl d ed
+      where
+        begun : List S.Frame → ℕ → Type 0
+        begun fs n = Same p image made (record { following = []; frames = fs }) (record { following = []; frames = map (I.body_frame o) (bodies n) })
+
+        by : (body : Option ℕ) → body_type p t ≡ body → (d : Option TypeDesc) → slice_get image.types.items t ≡ d → Same p image made (S.object_frames o (option_and_then (λ b. slice_get os b) body)) (I.object_frames o d)
+        by None e None f = record { follows = tt; frames = tt; shown = tt; regions = tt }
+        by None e (Some d) f = subst (begun []) (sym (described d f ∙ ap (body_in p) e)) (record { follows = tt; frames = tt; shown = tt; regions = tt })
+        by (Some b) e None f = let r = told (typed.methods.bodies t b e).below in let there = r.1 in absurd (cc (f, there))
+        by (Some b) e (Some d) f =
+            let has = typed.methods.bodies t b e in
+            let x = has.object in
+            subst (λ z. Same p image made (S.object_frames o z) (I.object_frames o (Some d))) (sym has.there)
+            (subst (begun (S.body_frame x.home o x.body.body ∷ [])) (sym (described d f ∙ ap (body_in p) e))
+            (record { follows = tt; frames = body_begins b has; shown = body_shown p image made o (body_number p b) x.home x.body.body; regions = (body_none (S.lock_of (S.body_frame x.home o x.body.body)) x.body.body, tt) }))
+
+  -- an object is one of its own type
+  self_made : (made : List Made) → AreFew p made → (o : ℕ) (m : Made) (t : ℕ) → by_number o made ≡ Some m → m.type ≡ suc t → IsSelf p (λ o. by_number o made) (Some t) o
+  self_made made few zero m t e type_is = absurd (cc e)
+  self_made made few (suc k) m t e type_is =
+      (k, m, refl, e, (number_get (IsFew p) (suc k) made m few e).1, subst (λ z. comes_to p.types (id_of_made m.type) (id_of_made z) ≡ true) type_is (comes_same p.types (id_of_made m.type)))
+
+  made_same : (made : List Made) → AreFew p made → (o : ℕ) (m : Option Made) → by_number o made ≡ m → Same p image made (S.object_frames o (option_and_then (λ t. slice_get os t) (option_and_then (S.made_body p) (option_map (λ (m : Made). m.type) m)))) (I.object_frames o (option_and_then (numbered image.types.items) (option_map (λ (m : Made). m.type) m)))
+  made_same made few o None e = record { follows = tt; frames = tt; shown = tt; regions = tt }
+  made_same made few o (Some m) e = by m.type refl
+    where
+      by : (n : ℕ) → m.type ≡ n → Same p image made (S.object_frames o (option_and_then (λ t. slice_get os t) (S.made_body p n))) (I.object_frames o (numbered image.types.items n))
+      by zero is = record { follows = tt; frames = tt; shown = tt; regions = tt }
+      by (suc n) is = object_same made o n (self_made made few o m n e is) (slice_get image.types.items n) refl
+
+  object_body_same : (s : Store) (mem : Memory) (o : ℕ) → SameStore p s mem → Same p image s.made (S.body_of p s o) (I.body_of image mem o)
+  object_body_same s mem o stores =
+      let t : List Made → Option ℕ = λ l. option_map (λ (m : Made). m.type) (by_number o l) in
+      subst (λ l. Same p image s.made (S.body_of p s o) (I.object_frames o (option_and_then (numbered image.types.items) (t l)))) (sym stores.made) (made_same s.made stores.few o (by_number o s.made) refl)
+
+  -- one turn of the image is one turn of the source
+  pub simulates : Simulates (SameStore p) (Together p image) (Outside (S.source p)) (S.source p) (machine image)
+  simulates = record {
+    turn = λ s mem fs gs stores h. turn_alike p image typed shaped run (items_do p) s mem fs gs stores h.now;
+    kept = λ s mem fs gs stores h w fs' gs' h'.
+        let g = turn_grown p (S.opened p fs).following (S.opened p fs).frames s in
+        record {
+          now = subst (λ l. Same p image l fs' gs') (sym g.1) (same_grows p image s.made g.0 fs' gs' h'.now);
+          behind = λ goes. subst (λ l. Same p image l (S.past p fs') (I.past image gs')) (sym g.1) (same_grows p image s.made g.0 (S.past p fs') (I.past image gs') (h'.behind goes));
+          awaited = subst (λ l. Awaited p image l w fs') (sym g.1) (awaited_grows p image s.made g.0 w fs' h'.awaited);
+        };
+    past = λ s mem w fs gs goes stores h. record { now = h.behind goes; behind = λ k. absurd k; awaited = tt };
+    verdict = λ s mem l c fs gs stores h. verdict_same p image typed shaped ok.conditions s mem fs gs c stores h.now h.awaited;
+    regions = λ s mem w fs gs may stores h. regions_same p image shaped s.made fs.frames gs.frames h.now.frames h.now.regions;
+    position = λ s mem w fs gs may stores h. position_same p image shaped s.made (S.opened p fs).frames (I.opened gs).frames (opened_same p image run s.made fs gs h.now).frames;
+    anew = λ s mem w fs gs may stores h. tt;
+    body = λ s mem o fs gs stores h. record { now = object_body_same s mem o stores; behind = λ k. absurd k; awaited = tt };
+    priority = λ s mem o fs gs stores h. refl;
+  }
+
+  first_same : Same p image [] (S.first_frames p) (I.first_frames image)
+  first_same =
+      record {
+        follows = bodies_follow 0 ms image.modules.items (λ j m e. let n : j ≡ 0 + j = omega arith in subst (λ q. slice_get ms q ≡ Some m) n e) ok.starts;
+        frames = tt;
+        shown = tt;
+        regions = tt;
+      }
+
+  pub first_together : Together p image (S.first_store p) (I.first_memory image) Went (S.first_frames p) (I.first_frames image)
+  first_together = record { now = first_same; behind = λ k. absurd k; awaited = tt }

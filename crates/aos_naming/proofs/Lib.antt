@@ -1,0 +1,11 @@
+pub mod Items
+pub mod Names
+pub mod Telling
+pub mod Saying
+pub mod Values
+pub mod Steps
+pub mod Building
+pub mod Keeping
+pub mod Traced
+pub mod Tidying
+pub mod Named
