@@ -91,7 +91,7 @@ module _ (p : Program) (image : Image) (well : IsWellTyped p) (ok : IsCodeOf p i
   abbrev os : List ObjectType
   os = p.objects
 
-  first_store_same : SameStore p (S.first_store p) (I.first_memory image)
+  pub first_store_same : SameStore p (S.first_store p) (I.first_memory image)
   first_store_same =
       record {
         made = refl;
@@ -206,7 +206,7 @@ module _ (p : Program) (image : Image) (well : IsWellTyped p) (ok : IsCodeOf p i
       subst (λ l. Same p image s.made (S.body_of p s o) (I.object_frames o (option_and_then (numbered image.types.items) (t l)))) (sym stores.made) (made_same s.made stores.few o (by_number o s.made) refl)
 
   -- one turn of the image is one turn of the source
-  simulates : Simulates (SameStore p) (Together p image) (Outside (S.source p)) (S.source p) (machine image)
+  pub simulates : Simulates (SameStore p) (Together p image) (Outside (S.source p)) (S.source p) (machine image)
   simulates = record {
     turn = λ s mem fs gs stores h. turn_alike p image typed shaped run (items_do p) s mem fs gs stores h.now;
     kept = λ s mem fs gs stores h w fs' gs' h'.
@@ -225,7 +225,7 @@ module _ (p : Program) (image : Image) (well : IsWellTyped p) (ok : IsCodeOf p i
     priority = λ s mem o fs gs stores h. refl;
   }
 
-  first_same : Same p image [] (S.first_frames p) (I.first_frames image)
+  pub first_same : Same p image [] (S.first_frames p) (I.first_frames image)
   first_same =
       record {
         follows = bodies_follow 0 ms image.modules.items (λ j m e. let n : j ≡ 0 + j = omega arith in subst (λ q. slice_get ms q ≡ Some m) n e) ok.starts;
