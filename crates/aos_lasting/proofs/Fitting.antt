@@ -3,19 +3,22 @@ use Rattle.std.proofs.Common.{◌≡◌, ℕ, zero, suc, List, [], ◌∷◌, �
 use Rattle.std.specs.Prelude.{is_some, option_and_then, option_map, slice_get}
 use Rattle.aos_base.specs.Question.{Awaits, Starts}
 use Rattle.aos_base.specs.Rooted.{Made, by_number}
+use Rattle.aos_base.specs.declared.place.Root.{Root}
 use Rattle.aos_base.specs.declared.kernel.Did.{Did}
 use Rattle.aos_base.specs.declared.kernel.Did.TheVariants.{Went, Ended, Enter, Leave, Start, Await, Trapped}
 use Rattle.aos_concurrency.specs.Regions.{KeepsFits, KeepsRegions, Outside}
 use Rattle.aos_concurrency.specs.Simulates.{Simulates}
 use Rattle.aos_concurrency.specs.Spot.{GoesPast}
 use Rattle.aos_types.specs.Extension.{comes_to}
-use Rattle.aos_types.specs.Content.{Content}
+use Rattle.aos_types.specs.Content.{Content, Empty, EachSort}
+use Rattle.aos_types.specs.Shape.{Shape}
+use Rattle.aos_types.specs.World.{read, shape_at}
 use Rattle.aos_types.proofs.Tables.{comes_on}
 use Rattle.aos_typed.specs.declared.tree.TType.{TType}
 use Rattle.aos_typed.specs.Numbers.{body_number, id_of, id_of_made}
 use Rattle.aos_typed.specs.Program.{Module, Program}
 use Rattle.aos_typed.specs.Routines.{Routine, routine_of}
-use Rattle.aos_typed.specs.Sort.{Plain}
+use Rattle.aos_typed.specs.Sort.{Sort, Plain}
 use Rattle.aos_typed.specs.Spot.{Spot}
 use Rattle.aos_typed.specs.Store.{Store, made_in, scalar_in, type_of_object, value_at}
 use Rattle.aos_typed.specs.Typing.{Is, IsPlain}
@@ -30,7 +33,7 @@ use Rattle.aos_code.specs.Machine.{machine}
 use Rattle.aos_code.specs.Memory.{Memory}
 use Rattle.aos_places.specs.Shows.{Shows}
 use Rattle.aos_places.proofs.Grow.{objects_grow}
-use Rattle.aos_places.proofs.Places.{read_alike}
+use Rattle.aos_places.proofs.Places.{at_place, read_alike}
 use Rattle.aos_sim.specs.Cells.{cell_of}
 use Rattle.aos_sim.specs.Shows.{IsCodeOf}
 use Rattle.aos_sim.proofs.Bodies.{has_shapes, routines_run}
@@ -47,12 +50,13 @@ use Rattle.aos_sim.proofs.Turns.{Together}
 use Rattle.aos_sim.proofs.Typed.{has_types}
 use Rattle.aos_handover.specs.Kinds.{IsAsking}
 use Rattle.aos_handover.proofs.Turns.{turn_kind}
-use Rattle.aos_naming.specs.Naming.{AreOf, ContentsAre, StoreIs}
+use Rattle.aos_naming.specs.Naming.{AreOf, ContentIs, ContentsAre, StoreIs}
 use Rattle.aos_naming.proofs.Named.{has_names}
 use Rattle.aos_naming.proofs.Names.{HasNames}
 use Rattle.aos_naming.proofs.Traced.{AsksFor, IsTraced, Traces, body_at, body_numbers, next_numbers, opened_are, opened_numbers, traced, traced_keeps, turned_numbers}
 use Rattle.aos_lasting.specs.Spots.{IsFree, IsTold}
 use Rattle.aos_lasting.proofs.Asked.{asked_valid}
+use Rattle.aos_lasting.proofs.Copies.{IsNoPlace, no_copies, no_places}
 use Rattle.aos_lasting.proofs.Keeps.{step_serves}
 use Rattle.aos_lasting.proofs.Serve.{AllServe, AreAnswers, FrameServes, all_grow, answer_told}
 use Rattle.aos_lasting.proofs.Statements.{ItemsServe, block_serves, text_serves}
@@ -102,7 +106,7 @@ module _ (p : Program) (image : Image) (well : IsWellTyped p) (ok : IsCodeOf p i
   module_serves : (made : ℕ → Option Made) (m : ℕ) (x : Module) → slice_get p.modules m ≡ Some x → FrameServes p typed made (suc m) (body_frame m 0 x.body) 0
   module_serves made m x e =
       let r : Routine = record { home = m; own = None; body = x.body } in
-      record { routine = r; there = module_there p m x e; function = refl; self = tt; variables = tt; items = block_serves p typed made (suc m) r x.body.is_exclusive x.body.statements; answers = tt }
+      record { routine = r; there = module_there p m x e; function = refl; self = tt; variables = tt; copies = no_copies p None Empty refl; items = block_serves p typed made (suc m) r x.body.is_exclusive x.body.statements; answers = tt }
 
   pub opened_serves : (made : ℕ → Option Made) (fs : List Frame) (ms ns : List ℕ) → AreOf p ns fs → AllServe p typed made ns fs → AllServe p typed made (opened_numbers p names fs ms ns) (opened_by p fs ms).frames
   opened_serves made [] [] ns are h = tt
@@ -121,6 +125,14 @@ module _ (p : Program) (image : Image) (well : IsWellTyped p) (ok : IsCodeOf p i
       let r = read_alike (Is p) cell_of IsPlain (values_kept p) (scheme p) s.made (shapes_of fs) (all_rooted fs s) (I.rooted gs memory) a.root a.path (Plain (id_of t)) shows has in
       subst (Is p (world_of p s.made (shapes_of fs)) (Plain (id_of t))) (sym (ap scalar_in r.source)) r.is
 
+  -- Where a shape of plain scalars stands, no places are.
+  plain_read : (s : Store) (memory : Memory) (fs : List Frame) (gs : List I.Frame) → SameStore p s memory → SameVariables p s.made fs gs → (r : Root) (path : List ℕ) (shape : Shape Sort) → shape_at (world_of p s.made (shapes_of fs)) r path ≡ Some shape → EachSort IsPlain shape →
+      (old : Content Value) × (read r path (all_rooted fs s) ≡ Some old) × ContentIs IsNoPlace old
+  plain_read s memory fs gs stores shown r path shape there plain =
+      let shows : Shows (Is p) cell_of (scheme p) s.made (shapes_of fs) (all_rooted fs s) (I.rooted gs memory) = record { of_frames = shown; of_modules = stores.of_modules; of_objects = stores.of_objects } in
+      let q = at_place (Is p) cell_of IsPlain (values_kept p) (scheme p) s.made (shapes_of fs) (all_rooted fs s) (I.rooted gs memory) r path shape shows there in
+      (q.inner, q.got, no_places p (world_of p s.made (shapes_of fs)) shape q.inner plain q.fits)
+
   -- A turn.
 
   abbrev Turns : (following : List ℕ) → Store → List Frame → List ℕ → Type 0
@@ -135,7 +147,7 @@ module _ (p : Program) (image : Image) (well : IsWellTyped p) (ok : IsCodeOf p i
   turn_serves following s memory (f ∷ fs) (n ∷ ns) (g ∷ gs) are serve free stores same shown =
       let t = turn_at p following (f ∷ fs) s in
       let up = turn_up following (f ∷ fs) s in
-      let all = step_serves p typed names following s f fs t n ns are serve free (asked_valid p typed image shaped (items_do p) s memory f fs g gs same.0 same.1 stores shown) (read_typed s memory (f ∷ fs) (g ∷ gs) stores shown) (turn_kind p following s f fs) in (
+      let all = step_serves p typed names following s f fs t n ns are serve free (asked_valid p typed image shaped (items_do p) s memory f fs g gs same.0 same.1 stores shown) (read_typed s memory (f ∷ fs) (g ∷ gs) stores shown) (plain_read s memory (f ∷ fs) (g ∷ gs) stores shown) (turn_kind p following s f fs) in (
         all_grow p typed (made_in s) (made_in t.store) up (turned_numbers p names following s (f ∷ fs) (n ∷ ns)) t.frames.frames all.0,
         store_grows s t.store up t.store all.1,
       )
@@ -156,8 +168,9 @@ module _ (p : Program) (image : Image) (well : IsWellTyped p) (ok : IsCodeOf p i
         function = h.function;
         self = h.self;
         variables = h.variables;
+        copies = h.copies;
         items = text_serves p typed made n h.routine ss (End ∷ is) (subst (ItemsServe p typed made n h.routine) e h.items);
-        answers = subst (λ a. AreAnswers p typed made (record { below = below; self = f.object }) a (items_of ss ++ End ∷ is)) (sym none) tt;
+        answers = subst (λ a. AreAnswers p typed made h.routine.own (record { below = below; self = f.object }) a (items_of ss ++ End ∷ is)) (sym none) tt;
       }
   goes_into_serves made n f below (End ∷ is) e none h =
       record {
@@ -166,14 +179,15 @@ module _ (p : Program) (image : Image) (well : IsWellTyped p) (ok : IsCodeOf p i
         function = h.function;
         self = h.self;
         variables = h.variables;
+        copies = h.copies;
         items = subst (ItemsServe p typed made n h.routine) e h.items;
-        answers = subst (λ a. AreAnswers p typed made (record { below = below; self = f.object }) a is) (sym none) tt;
+        answers = subst (λ a. AreAnswers p typed made h.routine.own (record { below = below; self = f.object }) a is) (sym none) tt;
       }
 
-  past_begun : (made : ℕ → Option Made) (n : ℕ) (f : Frame) (fs : List Frame) (q : _) (asks : IsAsking p f fs q) → IsTold p made q done → FrameServes p typed made n f (length fs) → FrameServes p typed made n (past_by f.answers f) (length fs)
-  past_begun made n f fs q asks is h =
+  past_begun : (made : ℕ → Option Made) (n : ℕ) (f : Frame) (fs : List Frame) (q : _) (asks : IsAsking p f fs q) (h : FrameServes p typed made n f (length fs)) → IsTold p made h.routine.own q done → FrameServes p typed made n (past_by f.answers f) (length fs)
+  past_begun made n f fs q asks h is =
       let come = asks.1 in
-      let answers = answer_told p typed made f fs q asks done is h.answers in
+      let answers = answer_told p typed made h.routine.own f fs q asks done is h.answers in
       subst (λ (a : Option (List Value)). FrameServes p typed made n (past_by a f) (length fs)) (sym come.begun)
       (record {
         routine = h.routine;
@@ -181,8 +195,9 @@ module _ (p : Program) (image : Image) (well : IsWellTyped p) (ok : IsCodeOf p i
         function = h.function;
         self = h.self;
         variables = h.variables;
+        copies = h.copies;
         items = h.items;
-        answers = subst (λ a. AreAnswers p typed made (here_of f fs) (S.told done a) f.items) come.begun answers;
+        answers = subst (λ a. AreAnswers p typed made h.routine.own (here_of f fs) (S.told done a) f.items) come.begun answers;
       })
 
   past_rests : (made : ℕ → Option Made) (n : ℕ) (f : Frame) (below : ℕ) → f.answers ≡ None → FrameServes p typed made n f below → FrameServes p typed made n (past_by f.answers f) below
@@ -200,8 +215,8 @@ module _ (p : Program) (image : Image) (well : IsWellTyped p) (ok : IsCodeOf p i
   past_serves s w x ms (f ∷ fs) [] goes at asks h = absurd h
   past_serves s (Enter l) x ms (f ∷ fs) (n ∷ ns) goes at asks h = (past_rests (made_in s) n f (length fs) at.rests h.0, h.1)
   past_serves s (Leave l) x ms (f ∷ fs) (n ∷ ns) goes at asks h = (past_rests (made_in s) n f (length fs) at.rests h.0, h.1)
-  past_serves s (Await l c) x ms (f ∷ fs) (n ∷ ns) goes at asks h = (past_begun (made_in s) n f fs (Awaits c) asks tt h.0, h.1)
-  past_serves s (Start o) x ms (f ∷ fs) (n ∷ ns) goes at asks h = (past_begun (made_in s) n f fs (Starts _) asks tt h.0, h.1)
+  past_serves s (Await l c) x ms (f ∷ fs) (n ∷ ns) goes at asks h = (past_begun (made_in s) n f fs (Awaits c) asks h.0 tt, h.1)
+  past_serves s (Start o) x ms (f ∷ fs) (n ∷ ns) goes at asks h = (past_begun (made_in s) n f fs (Starts _) asks h.0 tt, h.1)
 
   goes_same : (w : Did) (x : Traces p names) → GoesPast (Outside (traced p names)) w x → GoesPast (Outside (source p)) w x.0
   goes_same Went x h = h
@@ -238,6 +253,7 @@ module _ (p : Program) (image : Image) (well : IsWellTyped p) (ok : IsCodeOf p i
               function = sym (ap is_some has.body.proper);
               self = subst (λ z. IsSelf p (made_in s) z o) (sym has.body.own) (self_made s.made stores.few o m t b e is has.extends);
               variables = tt;
+              copies = no_copies p (Some x.body) Empty has.body.plain;
               items = block_serves p typed (made_in s) (body_number p b) (routine_of x.home x.body) x.body.body.is_exclusive x.body.body.statements;
               answers = tt;
             },

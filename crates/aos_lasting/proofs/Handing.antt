@@ -1,31 +1,28 @@
 -- The machine of a program keeps what its locks guard: what a lock that is passed to a waiter leaves to say.
-use Rattle.std.proofs.Common.{◌≡◌, ◌≢◌, ◌<◌, ◌≤◌, inl, ℕ, List, [], ◌∷◌, ◌++◌, length, map, Option, Some, None, refl, sym, ap, ◌∙◌, subst, arith}
+use Rattle.std.proofs.Common.{◌≡◌, ◌≢◌, ◌<◌, inl, ℕ, List, [], ◌∷◌, length, map, Option, Some, None, refl, ap, ◌∙◌, arith}
 use Rattle.std.specs.Prelude.{slice_get}
 use Rattle.std.proofs.lemmas.List.{length-map}
 use Rattle.std.proofs.lemmas.Option.{slice_get_within}
-use Rattle.aos_base.specs.Machine.{Choice, execution, start_of, State}
+use Rattle.aos_base.specs.Machine.{Choice, execution}
 use Rattle.aos_base.specs.declared.kernel.Did.{Did}
 use Rattle.aos_base.specs.declared.kernel.Did.TheVariants.{Went}
 use Rattle.aos_base.specs.declared.kernel.LockName.{LockName}
 use Rattle.aos_base.specs.declared.kernel.LockName.TheVariants as lock
-use Rattle.aos_concurrency.specs.Acting.{KeepsTidy, ByTurn, ByGoingPast, ByStart, ByTrap, ByEnd, acting, acts}
+use Rattle.aos_concurrency.specs.Acting.{KeepsTidy, ByTurn, ByGoingPast, ByStart, ByTrap, ByEnd}
 use Rattle.aos_concurrency.specs.Handover.{GuardsBy, HandsOver}
 use Rattle.aos_concurrency.specs.Regions.{Outside, times}
 use Rattle.aos_concurrency.specs.Simulates.{Simulates}
 use Rattle.aos_concurrency.specs.Sound.{Sound}
-use Rattle.aos_concurrency.proofs.Begin.{each_start, start_sound}
+use Rattle.aos_concurrency.proofs.Begin.{start_sound}
 use Rattle.aos_concurrency.proofs.Changes.{execution_tidy}
 use Rattle.aos_concurrency.proofs.Handed.{hands_over}
 use Rattle.aos_concurrency.proofs.Itself.{sound_fitting}
 use Rattle.aos_concurrency.proofs.Steps.{execution_sound, sound_always}
-use Rattle.aos_types.specs.Content.{Content}
-use Rattle.aos_typed.specs.Program.{Module, Program, Variable}
-use Rattle.aos_typed.specs.Store.{Store, made_in, new_number}
-use Rattle.aos_typed.specs.Value.{Value}
+use Rattle.aos_typed.specs.Program.{Module, Program}
+use Rattle.aos_typed.specs.Store.{Store, made_in}
 use Rattle.aos_typed.specs.Typing.{Is}
-use Rattle.aos_typed.specs.Text.{text_content}
 use Rattle.aos_typed.specs.Source as S
-use Rattle.aos_typed.specs.Source.{Frame, first_module, first_store, first_value, first_variable, row_of, next_body, opened_by, regions_of, source, turn_at}
+use Rattle.aos_typed.specs.Source.{Frame, first_store, next_body, opened_by, regions_of, source, turn_at}
 use Rattle.aos_typed.specs.WellTyped.{IsWellTyped}
 use Rattle.aos_code.specs.declared.image.Image.{Image}
 use Rattle.aos_code.specs.Machine as I
@@ -37,12 +34,12 @@ use Rattle.aos_sim.proofs.States.{SameStore, world_of}
 use Rattle.aos_sim.proofs.Turns.{Together}
 use Rattle.aos_guard.specs.Guarded.{IsQuiet}
 use Rattle.aos_handover.proofs.Turns.{turn_kind}
-use Rattle.aos_naming.specs.Naming.{AreOf, Builds, ContentIs, ContentsAre, FramesAre, HideAll, IsLoud, IsOther, StoreIs}
+use Rattle.aos_naming.specs.Naming.{AreOf, Builds, HideAll}
+use Rattle.aos_naming.proofs.Alike.{first, start}
+use Rattle.aos_naming.proofs.Beginning.{first_is_store, first_tidy}
 use Rattle.aos_naming.proofs.Names.{HasNames}
-use Rattle.aos_naming.proofs.Steps.{loud_plainly, other_plainly}
 use Rattle.aos_naming.proofs.Tidying.{IsTidy, keeps_tidy}
 use Rattle.aos_naming.proofs.Traced.{Traces, next_numbers, opened_are, opened_numbers, traced}
-use Rattle.aos_naming.proofs.Values.{Simply, first_is, simply, sort_begins}
 use Rattle.aos_lasting.specs.Agree.{AgreeOn, IsLocalAt}
 use Rattle.aos_lasting.specs.Lasts.{Lasts}
 use Rattle.aos_lasting.specs.Spots.{IsFree}
@@ -117,52 +114,7 @@ module _ (p : Program) (image : Image) (well : IsWellTyped p) (ok : IsCodeOf p i
 
   -- At the beginning.
 
-  row_is : (C : Value → Type 0) (cs : List (Content Value)) → ContentsAre C cs → ContentIs C (row_of cs)
-  row_is C [] h = tt
-  row_is C (c ∷ cs) h = (h.0, row_is C cs h.1)
-
-  variables_are : (C : Value → Type 0) → Simply C → (vs : List Variable) (more : List (Content Value)) → ContentsAre C more → ContentsAre C (map (first_variable p) vs ++ more)
-  variables_are C simple [] more h = h
-  variables_are C simple (v ∷ vs) more h = (first_is C (first_value p) _ (sort_begins p C simple), variables_are C simple vs more h)
-
-  text_is : (C : Value → Type 0) → Simply C → (cs : List ℕ) → ContentIs C (text_content cs)
-  text_is C simple [] = (simple.char 0, tt)
-  text_is C simple (c ∷ cs) = (simple.char c, text_is C simple cs)
-
-  texts_are : (C : Value → Type 0) → Simply C → (ts : List (List ℕ)) → ContentsAre C (map text_content ts)
-  texts_are C simple [] = tt
-  texts_are C simple (t ∷ ts) = (text_is C simple t, texts_are C simple ts)
-
-  firsts_are : (C : Value → Type 0) → Simply C → (ms : List Module) → ContentsAre C (map (first_module p) ms)
-  firsts_are C simple [] = tt
-  firsts_are C simple (m ∷ ms) = (row_is C _ (variables_are C simple m.variables (map text_content m.texts) (texts_are C simple m.texts)), firsts_are C simple ms)
-
-  first_is_store : (C : Value → Type 0) → Simply C → StoreIs C (first_store p)
-  first_is_store C simple = record { modules = firsts_are C simple p.modules; objects = tt }
-
-  abbrev first : X
-  first = (S.first_frames p, [])
-
-  abbrev start : ℕ → State Store X
-  start budget = start_of (first_store p) first budget
-
-  first_tidy : (budget : ℕ) → IsTidy p named (first_store p) (acting (traced p named) (start budget))
-  first_tidy budget =
-      record {
-        loud = first_is_store (IsLoud p) (simply p (IsLoud p) (loud_plainly p named));
-        loud_frames = λ a f e. subst (λ (z : X). FramesAre (IsLoud p) z.0.frames) (only a f e) tt;
-        unmade = λ o le. first_is_store (IsOther o) (simply p (IsOther o) (other_plainly p o (real o le)));
-        unmade_frames = λ o le a f e. subst (λ (z : X). HideAll o z.0.frames) (only a f e) (record { selves = tt; values = tt });
-        built = λ a f o e builds. absurd (subst (λ (z : X). Builds p o z.1 z.0.frames) (sym (only a f e)) builds);
-      }
-    where
-      only : (a : ℕ) (f : X) → acting (traced p named) (start budget) a ≡ Some f → first ≡ f
-      only = each_start (first_store p) first budget (λ _ y. (f : X) → acts (traced p named) y.next y.frames ≡ Some f → first ≡ f) (λ f e. cc e) (λ x ne f e. absurd (cc e))
-
-      real : (o : ℕ) → new_number (first_store p) ≤ o → 0 ≢ o
-      real o le e = absurd (omega (arith, le, e))
-
-  first_fits : Fit (first_store p) Went first
+  first_fits : Fit (first_store p) Went (first p named)
   first_fits =
       record {
         traces = record { stands = tt; are = tt; asks = tt };
@@ -171,7 +123,7 @@ module _ (p : Program) (image : Image) (well : IsWellTyped p) (ok : IsCodeOf p i
         stores = first_stores;
         together = first_together;
         serve = tt;
-        free = first_is_store (IsFree p (made_in (first_store p))) (free_simply p (made_in (first_store p)));
+        free = first_is_store p (IsFree p (made_in (first_store p))) (free_simply p (made_in (first_store p)));
       }
 
   guards : GuardsBy (traced p named) Fit (IsTidy p named) (AgreeOn p) (IsLocalAt p)
@@ -184,12 +136,12 @@ module _ (p : Program) (image : Image) (well : IsWellTyped p) (ok : IsCodeOf p i
         reads = reads p image well ok simulates;
       }
 
-  traced_hands_over : (budget : ℕ) (before others : List Choice) (entry : Choice) (a : ℕ) (l : LockName) (c : ℕ) → HandsOver (traced p named) (IsLocalAt p) (execution (traced p named) before (start budget)) entry a l c others
+  traced_hands_over : (budget : ℕ) (before others : List Choice) (entry : Choice) (a : ℕ) (l : LockName) (c : ℕ) → HandsOver (traced p named) (IsLocalAt p) (execution (traced p named) before (start p named budget)) entry a l c others
   traced_hands_over budget before others entry a l c =
       let keeps = fits_kept p image well ok simulates in
-      let sound : Sound (traced p named) Fit (start budget) = start_sound (first_store p) first budget (traced p named) Fit first_fits refl in
-      hands_over (traced p named) Fit (IsTidy p named) (AgreeOn p) (IsLocalAt p) keeps guards (execution (traced p named) before (start budget)) entry a l c others (execution_sound (traced p named) Fit keeps before (start budget) sound)
-      (execution_tidy (traced p named) (Outside (traced p named)) Fit keeps.fits (IsTidy p named) tidy_kept before (start budget) (sound_always (traced p named) Fit keeps (start budget) sound) (sound_fitting (traced p named) Fit (start budget) sound) (first_tidy budget))
+      let sound : Sound (traced p named) Fit (start p named budget) = start_sound (first_store p) (first p named) budget (traced p named) Fit first_fits refl in
+      hands_over (traced p named) Fit (IsTidy p named) (AgreeOn p) (IsLocalAt p) keeps guards (execution (traced p named) before (start p named budget)) entry a l c others (execution_sound (traced p named) Fit keeps before (start p named budget) sound)
+      (execution_tidy (traced p named) (Outside (traced p named)) Fit keeps.fits (IsTidy p named) tidy_kept before (start p named budget) (sound_always (traced p named) Fit keeps (start p named budget) sound) (sound_fitting (traced p named) Fit (start p named budget) sound) (first_tidy p named budget))
 
   pub lasts : Lasts p
   lasts budget before others entry a l c = source_hands_over p named (IsLocalAt p) budget before others entry a l c (traced_hands_over budget before others entry a l c)

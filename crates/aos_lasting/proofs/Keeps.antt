@@ -3,16 +3,17 @@ use Rattle.std.proofs.Common.{◌≡◌, ℕ, suc, List, [], ◌∷◌, length, 
 use Rattle.aos_base.specs.declared.place.Root.{Root}
 use Rattle.aos_base.specs.Question.{Manner, Reads, Stores, Copies, PutsText, ComparesTexts, Calls, Ends, Makes, Starts, Enters, Leaves, Awaits, PutsInt, PutsChar, PutsString, PutsNothing, PutsLn, Places, Lengths, Opens, Sizes, Tests}
 use Rattle.aos_base.specs.Rooted.{Made, Rooted, by_number}
-use Rattle.aos_types.specs.Content.{Content, Scalar}
-use Rattle.aos_types.specs.World.{World}
+use Rattle.aos_types.specs.Content.{Content, EachSort, Scalar}
+use Rattle.aos_types.specs.Shape.{Shape}
+use Rattle.aos_types.specs.World.{World, read, shape_at}
 use Rattle.aos_typed.specs.declared.tree.TType.{TType}
 use Rattle.aos_typed.specs.Numbers.{id_of}
-use Rattle.aos_typed.specs.Program.{Program}
+use Rattle.aos_typed.specs.Program.{Procedure, Program}
 use Rattle.aos_typed.specs.Routines.{Routine, has_self, parameters_of, routines, self_type}
 use Rattle.aos_typed.specs.Sort.{Sort, Plain}
 use Rattle.aos_typed.specs.Spot.{Spot}
 use Rattle.aos_typed.specs.Store.{Store, made_in, store_with, value_at}
-use Rattle.aos_typed.specs.Typing.{Is}
+use Rattle.aos_typed.specs.Typing.{Is, IsPlain}
 use Rattle.aos_typed.specs.Value.{Value}
 use Rattle.aos_typed.specs.Meaning.{Question}
 use Rattle.aos_typed.specs.Source.{Frame, Turned, all_rooted, answered, arguments_in, called_frame, done, first_value, frames_with, here_of, with_result}
@@ -25,22 +26,32 @@ use Rattle.aos_naming.proofs.Names.{HasNames}
 use Rattle.aos_naming.proofs.Steps.{given}
 use Rattle.aos_naming.proofs.Values.{first_is, found_same, object_added, overlay_is, placed_is, read_is, sort_begins, store_is, text_is, value_is, vars_with}
 use Rattle.aos_lasting.specs.Spots.{IsFree, IsTold}
-use Rattle.aos_lasting.proofs.Serve.{AllServe, FrameServes, answered_serves, asked_law, called_free, left_serves, result_told, self_called, stands_serves}
+use Rattle.aos_lasting.proofs.Copies.{FramesKeep, IsNoPlace, copies_kept, frames_kept, stored_put}
+use Rattle.aos_lasting.proofs.Serve.{AllServe, FrameServes, answered_serves, asked_law, called_copies, called_free, left_serves, result_told, self_called, stands_serves}
 use Rattle.aos_lasting.proofs.Serving.{is_serves, plain_serves}
 use Rattle.aos_lasting.proofs.Statements.{ResultServes, block_serves}
 use Rattle.aos_lasting.proofs.Told.{free_simply}
 
 module _ (p : Program) (typed : HasTypes p) (names : HasNames p) where
   -- with other variables
-  serve_moved : (made : ℕ → Option Made) (ns : List ℕ) (fs gs : List Frame) → SameTexts fs gs → VariablesAre (IsFree p made) gs → AllServe p typed made ns fs → AllServe p typed made ns gs
-  serve_moved made [] _ _ NoFrames vars h = h
-  serve_moved made (n ∷ ns) _ _ NoFrames vars h = h
-  serve_moved made [] _ _ (OneMore f c fs gs same) vars h = h
-  serve_moved made (n ∷ ns) _ _ (OneMore f c fs gs same) vars h =
+  serve_moved : (made : ℕ → Option Made) (ns : List ℕ) (fs gs : List Frame) → SameTexts fs gs → FramesKeep fs gs → VariablesAre (IsFree p made) gs → AllServe p typed made ns fs → AllServe p typed made ns gs
+  serve_moved made [] _ _ NoFrames keep vars h = h
+  serve_moved made (n ∷ ns) _ _ NoFrames keep vars h = h
+  serve_moved made [] _ _ (OneMore f c fs gs same) keep vars h = h
+  serve_moved made (n ∷ ns) _ _ (OneMore f c fs gs same) keep vars h =
       let k = h.0 in (
         subst (FrameServes p typed made n (record f { variables = c })) (texts_length fs gs same)
-            (record { routine = k.routine; there = k.there; function = k.function; self = k.self; variables = vars.0; items = k.items; answers = k.answers }),
-        serve_moved made ns fs gs same vars.1 h.1,
+            (record {
+              routine = k.routine;
+              there = k.there;
+              function = k.function;
+              self = k.self;
+              variables = vars.0;
+              copies = copies_kept p k.routine.own f.variables c keep.0 k.copies;
+              items = k.items;
+              answers = k.answers;
+            }),
+        serve_moved made ns fs gs same keep.1 vars.1 h.1,
       )
 
   pub serve_variables : (made : ℕ → Option Made) (ns : List ℕ) (fs : List Frame) → AllServe p typed made ns fs → VariablesAre (IsFree p made) fs
@@ -50,34 +61,34 @@ module _ (p : Program) (typed : HasTypes p) (names : HasNames p) where
   serve_variables made (n ∷ ns) (f ∷ fs) h = (let k = h.0 in k.variables, serve_variables made ns fs h.1)
 
   -- what is written out is answered nothing
-  written_told : (made : ℕ → Option Made) (x : Rooted (Content Value)) (q : Question) (bytes : List ℕ) → written_by x q ≡ Some bytes → IsTold p made q done
-  written_told made x (PutsInt v n) bytes e = tt
-  written_told made x (PutsChar v) bytes e = tt
-  written_told made x (PutsString a n) bytes e = tt
-  written_told made x PutsNothing bytes e = tt
-  written_told made x PutsLn bytes e = tt
-  written_told made x (Reads t a) bytes e = absurd (cc e)
-  written_told made x (Stores a v) bytes e = absurd (cc e)
-  written_told made x (Copies t a b) bytes e = absurd (cc e)
-  written_told made x (PutsText strict a n b m) bytes e = absurd (cc e)
-  written_told made x (ComparesTexts r a n b m) bytes e = absurd (cc e)
-  written_told made x (Calls how q vs) bytes e = absurd (cc e)
-  written_told made x (Ends v) bytes e = absurd (cc e)
-  written_told made x (Makes t vs) bytes e = absurd (cc e)
-  written_told made x (Starts v) bytes e = absurd (cc e)
-  written_told made x Enters bytes e = absurd (cc e)
-  written_told made x Leaves bytes e = absurd (cc e)
-  written_told made x (Awaits c) bytes e = absurd (cc e)
-  written_told made x (Places a) bytes e = absurd (cc e)
-  written_told made x (Lengths a) bytes e = absurd (cc e)
-  written_told made x (Opens v) bytes e = absurd (cc e)
-  written_told made x (Sizes v d) bytes e = absurd (cc e)
-  written_told made x (Tests v t) bytes e = absurd (cc e)
+  written_told : (made : ℕ → Option Made) (own : Option Procedure) (x : Rooted (Content Value)) (q : Question) (bytes : List ℕ) → written_by x q ≡ Some bytes → IsTold p made own q done
+  written_told made own x (PutsInt v n) bytes e = tt
+  written_told made own x (PutsChar v) bytes e = tt
+  written_told made own x (PutsString a n) bytes e = tt
+  written_told made own x PutsNothing bytes e = tt
+  written_told made own x PutsLn bytes e = tt
+  written_told made own x (Reads t a) bytes e = absurd (cc e)
+  written_told made own x (Stores a v) bytes e = absurd (cc e)
+  written_told made own x (Copies t a b) bytes e = absurd (cc e)
+  written_told made own x (PutsText strict a n b m) bytes e = absurd (cc e)
+  written_told made own x (ComparesTexts r a n b m) bytes e = absurd (cc e)
+  written_told made own x (Calls how q vs) bytes e = absurd (cc e)
+  written_told made own x (Ends v) bytes e = absurd (cc e)
+  written_told made own x (Makes t vs) bytes e = absurd (cc e)
+  written_told made own x (Starts v) bytes e = absurd (cc e)
+  written_told made own x Enters bytes e = absurd (cc e)
+  written_told made own x Leaves bytes e = absurd (cc e)
+  written_told made own x (Awaits c) bytes e = absurd (cc e)
+  written_told made own x (Places a) bytes e = absurd (cc e)
+  written_told made own x (Lengths a) bytes e = absurd (cc e)
+  written_told made own x (Opens v) bytes e = absurd (cc e)
+  written_told made own x (Sizes v d) bytes e = absurd (cc e)
+  written_told made own x (Tests v t) bytes e = absurd (cc e)
 
-  stored_told : (made : ℕ → Option Made) (x : Rooted (Content Value)) (q : Question) (root : Root) (change : Content Value → Content Value) → IsStored p x q root change → IsTold p made q done
-  stored_told made x _ _ _ (OneScalar a v) = tt
-  stored_told made x _ _ _ (OneWhole t from to new old e e') = tt
-  stored_told made x _ _ _ (OneText strict from n to room cs old e) = tt
+  stored_told : (made : ℕ → Option Made) (own : Option Procedure) (x : Rooted (Content Value)) (q : Question) (root : Root) (change : Content Value → Content Value) → IsStored p x q root change → IsTold p made own q done
+  stored_told made own x _ _ _ (OneScalar a v) = tt
+  stored_told made own x _ _ _ (OneWhole t from to new old e e') = tt
+  stored_told made own x _ _ _ (OneText strict from n to room cs old e) = tt
 
   module _ (following : List ℕ) (s : Store) (f : Frame) (fs : List Frame) (t : Turned) (n : ℕ) (ns : List ℕ) (are : AreOf p (n ∷ ns) (f ∷ fs)) (serve : AllServe p typed (made_in s) (n ∷ ns) (f ∷ fs)) (store : StoreIs (IsFree p (made_in s)) s) where
     abbrev made : ℕ → Option Made
@@ -98,8 +109,14 @@ module _ (p : Program) (typed : HasTypes p) (names : HasNames p) where
     standing : (g : Frame) → Stands p s f fs g → AllServe p typed made (n ∷ ns) (g ∷ fs)
     standing g st = (stands_serves p typed s f fs n are.0 k g st, serve.1)
 
-    answering : (g : Frame) → Stands p s f fs g → (q : Question) → IsAsking p g fs q → (v : Value) → IsTold p made q v → AllServe p typed made (n ∷ ns) (answered v g ∷ fs)
-    answering g st q asks v is = (answered_serves p typed made n g fs q asks v is (stands_serves p typed s f fs n are.0 k g st), serve.1)
+    -- its routine is the one with the number
+    told_of : (q : Question) (v : Value) → IsTold p made k.routine.own q v → (r : Routine) → by_number n (routines p) ≡ Some r → IsTold p made r.own q v
+    told_of q v is r there =
+        let both : Some k.routine ≡ Some r = sym k.there ∙ there in
+        let same : k.routine ≡ r = cc both in subst (λ (z : Routine). IsTold p made z.own q v) same is
+
+    answering : (g : Frame) → Stands p s f fs g → (q : Question) → IsAsking p g fs q → (v : Value) → IsTold p made k.routine.own q v → AllServe p typed made (n ∷ ns) (answered v g ∷ fs)
+    answering g st q asks v is = (answered_serves p typed made n g fs q asks v (told_of q v is) (stands_serves p typed s f fs n are.0 k g st), serve.1)
 
     variables : (g : Frame) → Stands p s f fs g → VariablesAre C (g ∷ fs)
     variables g st = serve_variables made (n ∷ ns) (g ∷ fs) (standing g st)
@@ -109,7 +126,7 @@ module _ (p : Program) (typed : HasTypes p) (names : HasNames p) where
     below_serves v h (m ∷ ms) [] stands all = all
     below_serves v h [] (b ∷ bs) stands all = absurd all
     below_serves v h (m ∷ ms) (b ∷ bs) stands all =
-        (answered_serves p typed made m b bs (Calls stands.how n stands.arguments) stands.asks (answer_in v) (result_told p typed made n k.routine k.there stands.how stands.arguments v h) all.0, all.1)
+        (answered_serves p typed made m b bs (Calls stands.how n stands.arguments) stands.asks (answer_in v) (λ r there. result_told p typed made r.own n k.routine k.there stands.how stands.arguments v h) all.0, all.1)
 
     stored_free : (g : Frame) (st : Stands p s f fs g) (q : Question) (asks : IsAsking p g fs q) (root : Root) (change : Content Value → Content Value) → IsStored p (all_rooted (g ∷ fs) s) q root change → (d : Content Value) → ContentIs C d → ContentIs C (change d)
     stored_free g st _ asks _ _ (OneScalar a v) d c =
@@ -120,8 +137,9 @@ module _ (p : Program) (typed : HasTypes p) (names : HasNames p) where
     stored_free g st _ asks _ _ (OneText strict from i to room cs old e) d c =
         placed_is C to.path _ d (text_is p C (free_simply p made) cs old (found_same C _ old e (read_is C to.root to.path (g ∷ fs) s (variables g st) store))) c
 
-    module _ (valid : (x : Frame) → Stands p s f fs x → (q : Question) → IsVisible q → IsAsking p x fs q → Valid p (here_of f fs) now q) (typed_at : (ty : TType) (a : Spot) → HasScalar p now a (Plain (id_of ty)) → Is p now (Plain (id_of ty)) (value_at a (all_rooted (f ∷ fs) s))) where
-      told_true : (g : Frame) → Stands p s f fs g → (q : Question) → IsAsking p g fs q → MakesNone q → IsTold p made q (told_as (all_rooted (g ∷ fs) s) q)
+    module _ (valid : (x : Frame) → Stands p s f fs x → (q : Question) → IsVisible q → IsAsking p x fs q → Valid p (here_of f fs) now q) (typed_at : (ty : TType) (a : Spot) → HasScalar p now a (Plain (id_of ty)) → Is p now (Plain (id_of ty)) (value_at a (all_rooted (f ∷ fs) s)))
+        (plain_at : (r : Root) (path : List ℕ) (shape : Shape Sort) → shape_at now r path ≡ Some shape → EachSort IsPlain shape → (old : Content Value) × (read r path (all_rooted (f ∷ fs) s) ≡ Some old) × ContentIs IsNoPlace old) where
+      told_true : (g : Frame) → Stands p s f fs g → (q : Question) → IsAsking p g fs q → MakesNone q → IsTold p made k.routine.own q (told_as (all_rooted (g ∷ fs) s) q)
       told_true g st (Reads ty a) asks none =
           let seen = valid g st (Reads ty a) tt asks in
           let same = ap (λ (y : Frame). value_at a (all_rooted (y ∷ fs) s)) st.same.is in
@@ -163,9 +181,25 @@ module _ (p : Program) (typed : HasTypes p) (names : HasNames p) where
             function = refl;
             self = self_called p typed made y vs on;
             variables = called_free p typed s (g ∷ fs) now (variables g st) store following y vs (may y there) given;
+            copies = called_copies p typed s (g ∷ fs) now (variables g st) store following y vs;
             items = block_serves p typed made q y y.body.is_exclusive y.body.statements;
             answers = tt;
           }
+
+      -- where something is stored no places stood
+      stored_keeps : (g : Frame) (st : Stands p s f fs g) (q : Question) → IsVisible q → IsAsking p g fs q → (root : Root) (change : Content Value → Content Value) → IsStored p (all_rooted (g ∷ fs) s) q root change
+          → FramesKeep (answered done g ∷ fs) (frames_with root change (answered done g ∷ fs))
+      stored_keeps g st q seen asks root change stored =
+          let x = stored_put p now (here_of f fs) (all_rooted (g ∷ fs) s) q root change stored (valid g st q seen asks) in
+          let old = plain_at root x.path x.shape x.there x.plain in
+          let same = ap (λ (y : Frame). read root x.path (all_rooted (y ∷ fs) s)) st.same.is in
+          subst (λ z. FramesKeep (answered done g ∷ fs) (frames_with root z (answered done g ∷ fs))) (sym x.is)
+          (frames_kept x.path x.new old.0 old.2 root (answered done g ∷ fs) s (same ∙ old.1))
+
+      stored_visible : (x : Rooted (Content Value)) (q : Question) (root : Root) (change : Content Value → Content Value) → IsStored p x q root change → IsVisible q
+      stored_visible x _ _ _ (OneScalar a v) = tt
+      stored_visible x _ _ _ (OneWhole ty from to new old e e') = tt
+      stored_visible x _ _ _ (OneText strict from i to room cs old e) = tt
 
       pub step_serves : (kind : Kind p following s f fs t) → Is_it (numbers_after p names following s f fs t kind n ns) t.store t.frames.frames
       step_serves (Settled g st fresh x) = given p following s f fs (Is_it (n ∷ ns)) t s (g ∷ fs) _ _ x (standing g st, store)
@@ -176,13 +210,14 @@ module _ (p : Program) (typed : HasTypes p) (names : HasNames p) where
       step_serves (Told g q none st asks x) =
           given p following s f fs (Is_it (n ∷ ns)) t s (answered _ g ∷ fs) _ _ x (answering g st q asks _ (told_true g st q asks none), store)
       step_serves (Written g q bytes st asks w x) =
-          given p following s f fs (Is_it (n ∷ ns)) t s (answered done g ∷ fs) _ _ x (answering g st q asks done (written_told made _ q bytes w), store)
+          given p following s f fs (Is_it (n ∷ ns)) t s (answered done g ∷ fs) _ _ x (answering g st q asks done (written_told made k.routine.own _ q bytes w), store)
       step_serves (Stored g q root change st asks stored x) =
           let ok = stored_free g st q asks root change stored in
           let frames = answered done g ∷ fs in
-          let all = answering g st q asks done (stored_told made _ q root change stored) in
+          let all = answering g st q asks done (stored_told made k.routine.own _ q root change stored) in
+          let keep = stored_keeps g st q (stored_visible _ q root change stored) asks root change stored in
           given p following s f fs (Is_it (n ∷ ns)) t (store_with root change s) (frames_with root change frames) _ _ x (
-            serve_moved made (n ∷ ns) frames (frames_with root change frames) (texts_with root change frames) (vars_with C change ok root frames (serve_variables made (n ∷ ns) frames all)) all,
+            serve_moved made (n ∷ ns) frames (frames_with root change frames) (texts_with root change frames) keep (vars_with C change ok root frames (serve_variables made (n ∷ ns) frames all)) all,
             store_is C change ok root s store,
           )
       step_serves (Created g type vs ks st asks are' x) =

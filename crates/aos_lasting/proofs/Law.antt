@@ -1,7 +1,7 @@
 -- What an expression asks in a frame of a routine, with true answers: a place that it finds is of the variable that its designator names, a
 -- value is one of its type, and no VAR parameter is handed a guarded variable.
 use Rattle.std.proofs.Common.{◌≡◌, ◌⊎◌, inl, inr, ℕ, ℤ, zero, suc, ◌+◌, List, [], ◌∷◌, ◌++◌, length, map, drop, Bool, true, false, Option, Some, None, refl, sym, ap, ◌∙◌, subst, arith, length-append}
-use Rattle.std.specs.Prelude.{pos, slice_get, option_map, option_and_then, if◌then◌else◌, is_some, unsigned_abs}
+use Rattle.std.specs.Prelude.{not, pos, slice_get, option_map, option_and_then, if◌then◌else◌, is_some, unsigned_abs}
 use Rattle.std.specs.Option.{unwrap_or}
 use Rattle.std.proofs.lemmas.List.{length-map}
 use Rattle.std.proofs.lemmas.Option.{slice_get_within}
@@ -35,7 +35,7 @@ use Rattle.aos_typed.specs.Program.{Place, ModuleVar, Local, Passed, Field, Inde
 use Rattle.aos_typed.specs.Routines.{Routine, has_self, parameters_at, parameters_of, routine_of, routines, self_type}
 use Rattle.aos_typed.specs.Spot.{Spot, Declared}
 use Rattle.aos_typed.specs.Value.{number_of, Value, Int, Flag, Char, Set, Object, Callable, Place as PlaceValue, Sort, Integer, Boolean, Character, Elements, literal_value, value_as, given, is_true, unary_sort, binary_sort}
-use Rattle.aos_typed.specs.WellTyped.{Includes, IsArrayOf, IsCalled, IsConstantText, IsGiven, IsNamed, IsObjectAt, IsOf, IsPlaceOf, AreArguments, AreRows, is_basic, is_procedural, is_reference, procedure_in as procedure_of, taken, target}
+use Rattle.aos_typed.specs.WellTyped.{Includes, IsArrayOf, IsCalled, IsConstantText, IsGiven, IsNamed, IsObjectAt, IsOf, IsParameter, IsPlaceOf, AreArguments, AreRows, is_basic, is_procedural, is_reference, procedure_in as procedure_of, taken, target}
 use Rattle.aos_typed.specs.Meaning.{field_of as field_in, Here, Question, Doing, Found, found, place_in, object_in, instance_in, procedure_in, on_instance, element_of, row_at, dereferenced, sizes_from, lengths_from, is_instance, guarded, has_type, sent, dispatched, bound, bound_to, applied, calls, place_of, rows_of, arguments_of, receiver_of, value_of, called, by_number as by_object}
 use Rattle.aos_typed.specs.Source.{arguments_in}
 use Rattle.aos_sim.proofs.Does.{HasTypes, IsSelf}
@@ -49,13 +49,13 @@ use Rattle.aos_guard.specs.declared.uses.Use.{Use}
 use Rattle.aos_guard.specs.declared.uses.Use.TheVariants as used
 use Rattle.aos_guard.specs.declared.uses.Variable.{Variable}
 use Rattle.aos_guard.specs.declared.uses.Variable.TheVariants as variable
-use Rattle.aos_guard.specs.Guarded.{Each, IsGuarded, Spares}
+use Rattle.aos_guard.specs.Guarded.{Each, IsGuarded, Spares, is_by_value}
 use Rattle.aos_guard.specs.Uses.{is_self, is_own, place_uses, rows_uses, arguments_uses, receiver_uses, expr_uses, call_uses, called as called_uses, callee_number, follows, is_variable, rows_target, target as target_of, varies}
 use Rattle.aos_naming.specs.Naming.{AllAre}
 use Rattle.aos_naming.proofs.Items.{part}
 use Rattle.aos_naming.proofs.Telling.{self_or}
 use Rattle.aos_naming.proofs.Values.{all_more}
-use Rattle.aos_lasting.specs.Spots.{Begins, StartsWith, IsAt, IsFree, IsFreeAt, IsMadeFor, IsTold, AreFreeFor, Serves, StandsFor, field_of}
+use Rattle.aos_lasting.specs.Spots.{Begins, HasCopy, StartsWith, IsAt, IsFree, IsFreeAt, IsMadeFor, IsTold, AreFreeFor, Serves, StandsFor, field_of}
 use Rattle.aos_lasting.proofs.Fields.{declarer_on, object_extended, object_extends, whole_object}
 use Rattle.aos_lasting.proofs.Serving.{basic_serves, fits_serves, pattern_target, plain_serves, any_target}
 
@@ -73,29 +73,29 @@ drop_all [] ys n e = subst (λ m. drop m ys ≡ ys) e refl
 drop_all (x ∷ xs) ys zero e = absurd (cc e)
 drop_all (x ∷ xs) ys (suc n) e = let l : length xs ≡ n = cc e in drop_all xs ys n l
 
-module _ (p : Program) (made : ℕ → Option Made) (self : ℕ) where
+module _ (p : Program) (made : ℕ → Option Made) (own : Option Procedure) (self : ℕ) where
   free_part : (r : Root) (path : List ℕ) (i : ℕ) → IsFreeAt p made r path → IsFreeAt p made r (path ++ i ∷ [])
   free_part (root.Frame d) path i h = tt
   free_part (root.Module m) path i h = λ k b g. h k (begins_part k i path b) g
   free_part (root.Object o) path i h = (h.0, h.1, λ f k b g. h.2 f k (begins_part k i path b) g)
 
   -- a part of a place is of the same variable
-  pub part_at : (t : Target) (s : Spot) (i type : ℕ) (of : Declared) → IsAt p made self s t → IsAt p made self (record { root = s.root; path = s.path ++ i ∷ []; type = type; of = of }) t
+  pub part_at : (t : Target) (s : Spot) (i type : ℕ) (of : Declared) → IsAt p made own self s t → IsAt p made own self (record { root = s.root; path = s.path ++ i ∷ []; type = type; of = of }) t
   part_at t s i ty d h = by t.of h
     where
-      by : (v : Variable) → IsAt p made self s (record { of = v; through_self = t.through_self }) → IsAt p made self (record { root = s.root; path = s.path ++ i ∷ []; type = ty; of = d }) (record { of = v; through_self = t.through_self })
+      by : (v : Variable) → IsAt p made own self s (record { of = v; through_self = t.through_self }) → IsAt p made own self (record { root = s.root; path = s.path ++ i ∷ []; type = ty; of = d }) (record { of = v; through_self = t.through_self })
       by (variable.Module m k) h = (h.0, starts_part k i s.path h.1)
       by (variable.Field u k) h = (h.0, h.1, h.2, h.3, h.4, h.5, starts_part k i s.path h.6, h.7)
       by variable.Local h = h
       by variable.Passed h = free_part s.root s.path i h
-      by (variable.Opened k) h = free_part s.root s.path i h
+      by (variable.Opened k) h = (free_part s.root s.path i h.0, h.1)
       by variable.Heap h = free_part s.root s.path i h
 
   -- and so it is as a record of another type
-  at_typed : (t : Target) (s : Spot) (type : ℕ) → IsAt p made self s t → IsAt p made self (record s { type = type }) t
+  at_typed : (t : Target) (s : Spot) (type : ℕ) → IsAt p made own self s t → IsAt p made own self (record s { type = type }) t
   at_typed t s ty h = by t.of h
     where
-      by : (v : Variable) → IsAt p made self s (record { of = v; through_self = t.through_self }) → IsAt p made self (record s { type = ty }) (record { of = v; through_self = t.through_self })
+      by : (v : Variable) → IsAt p made own self s (record { of = v; through_self = t.through_self }) → IsAt p made own self (record s { type = ty }) (record { of = v; through_self = t.through_self })
       by (variable.Module m k) h = h
       by (variable.Field u k) h = h
       by variable.Local h = h
@@ -107,10 +107,10 @@ module _ (p : Program) (made : ℕ → Option Made) (self : ℕ) where
   begins_with k j path h b = subst (Begins j) h.1 b
 
   -- a place of a variable that isn't guarded is free
-  pub at_free : (t : Target) (s : Spot) → ((v : Variable) → IsGuarded p v → t.of ≡ v → ⊥) → IsAt p made self s t → IsFreeAt p made s.root s.path
+  pub at_free : (t : Target) (s : Spot) → ((v : Variable) → IsGuarded p v → t.of ≡ v → ⊥) → IsAt p made own self s t → IsFreeAt p made s.root s.path
   at_free t s never h = by t.of refl h
     where
-      by : (v : Variable) → t.of ≡ v → IsAt p made self s (record { of = v; through_self = t.through_self }) → IsFreeAt p made s.root s.path
+      by : (v : Variable) → t.of ≡ v → IsAt p made own self s (record { of = v; through_self = t.through_self }) → IsFreeAt p made s.root s.path
       by (variable.Module m k) e h =
           subst (λ r. IsFreeAt p made r s.path) (sym h.0)
           (λ j b g. let same = begins_with k j s.path h.1 b in never (variable.Module m j) g (e ∙ ap (λ i. variable.Module m i) same))
@@ -119,7 +119,7 @@ module _ (p : Program) (made : ℕ → Option Made) (self : ℕ) where
           (h.1, h.3, λ f j b g. let same = begins_with k j s.path h.6 b in never (field_of p h.1 j) g (e ∙ sym h.5 ∙ ap (λ i. field_of p h.1 i) same))
       by variable.Local e h = subst (λ r. IsFreeAt p made r s.path) (sym h.1) tt
       by variable.Passed e h = h
-      by (variable.Opened k) e h = h
+      by (variable.Opened k) e h = h.0
       by variable.Heap e h = h
 
   place_free : (v : Value) → IsFree p made v → IsFreeAt p made (place_in v).root (place_in v).path
@@ -147,6 +147,14 @@ module _ (p : Program) (made : ℕ → Option Made) (self : ℕ) where
       sizes (inl same) = ap (λ t. if is_open (row_of p.types (id_of t)) then suc (open_dimensions p.types (id_of t)) else 1) same
       sizes (inr x) = (λ i. if x.0 i then suc (open_dimensions p.types (id_of a.of)) else 1) ∙ ap suc x.2 ∙ sym (λ i. if x.1 i then suc (open_dimensions p.types (id_of b.of)) else 1)
 
+parameter_there : (own : Option Procedure) (k : ℕ) (a : Parameter) → option_and_then (λ q. slice_get q.parameters k) own ≡ Some a → slice_get (parameters_of own) k ≡ Some a
+parameter_there None k a e = absurd (cc e)
+parameter_there (Some q) k a e = e
+
+not_true : (b : Bool) → not b ≡ true → b ≡ false
+not_true true e = absurd (cc e)
+not_true false e = refl
+
 -- In a frame of the routine with this number: x says whether a region is open around the text, and Ok which uses it may make, which spare what
 -- is guarded.
 module _ (p : Program) (typed : HasTypes p) (made : ℕ → Option Made) (n : ℕ) (r : Routine) (here : Here) (is_self_of : IsSelf p made (self_type r.own) here.self) (x : Bool) (Ok : Use → Type 0) (spares : (u : Use) → Ok u → (v : Variable) → IsGuarded p v → Spares p v n r u) where
@@ -154,7 +162,7 @@ module _ (p : Program) (typed : HasTypes p) (made : ℕ → Option Made) (n : �
   own = r.own
 
   abbrev pub At : Spot → Target → Type 0
-  At s t = IsAt p made here.self s t
+  At s t = IsAt p made own here.self s t
 
   abbrev pub Are : TType → Value → Type 0
   Are t v = Serves p made t v
@@ -203,7 +211,7 @@ module _ (p : Program) (typed : HasTypes p) (made : ℕ → Option Made) (n : �
   abbrev pub Law : {T : Type 0} → (T → Type 0) → Doing T → Type 0
   Law R (Val a) = R a
   Law R (Traps k c) = Unit {0}
-  Law R (Asks q k) = MayAsk q × ((v : Value) → IsTold p made q v → Law R (k v))
+  Law R (Asks q k) = MayAsk q × ((v : Value) → IsTold p made own q v → Law R (k v))
 
   pub law_bind : {A B : Type 0} (R : A → Type 0) (S : B → Type 0) (d : Doing A) (k : A → Doing B) → Law R d → ((a : A) → R a → Law S (k a)) → Law S (bind d k)
   law_bind R S (Val a) k h f = f a h
@@ -278,7 +286,7 @@ module _ (p : Program) (typed : HasTypes p) (made : ℕ → Option Made) (n : �
       by (inl nil) = let no : 0 ≡ suc k = sym nil ∙ e in absurd (cc no)
       by (inr x) = x
 
-  opened_spot : (t : TType) (v : Value) (k : ℕ) (e : object_in v ≡ suc k) → IsMadeFor p made t (object_in v) → (y : Value) → IsTold p made (Opens v) y → (ty : ℕ) → IsOpened t v (record (place_in y) { type = ty })
+  opened_spot : (t : TType) (v : Value) (k : ℕ) (e : object_in v ≡ suc k) → IsMadeFor p made t (object_in v) → (y : Value) → IsTold p made own (Opens v) y → (ty : ℕ) → IsOpened t v (record (place_in y) { type = ty })
   opened_spot t v k e x y told ty =
       let place = ap place_in told.2 in
       record {
@@ -336,7 +344,7 @@ module _ (p : Program) (typed : HasTypes p) (made : ℕ → Option Made) (n : �
     where
       by : (o : Option ℕ) → natural k (number_of v) ≡ o → Law (λ y. At y t) (element_of k v s)
       by None e = rw e tt
-      by (Some i) e = rw e (part_at p made here.self t s i 0 s.of h)
+      by (Some i) e = rw e (part_at p made own here.self t s i 0 s.of h)
 
   -- an array at a place, with so many lengths, which are no places
   abbrev pub RowsAt : Target → ℕ → Found → Type 0
@@ -366,6 +374,13 @@ module _ (p : Program) (typed : HasTypes p) (made : ℕ → Option Made) (n : �
   lengths_law : (i d k : ℕ) → Law (SoMany k) (lengths_from p here i d k)
   lengths_law i d zero = (refl, tt)
   lengths_law i d (suc k) = (tt, λ y c. law_bind (SoMany k) (SoMany (suc k)) (lengths_from p here i (suc d) k) _ (lengths_law i (suc d) k) (λ ls h. (ap suc h.0, (c, h.1))))
+
+  -- an open array parameter by value has a copy
+  has_copy : (i : ℕ) (a : Parameter) → IsParameter p own i a → is_open (row_of p.types (id_of a.of)) ≡ true → is_by_value own i ≡ true → HasCopy p own i
+  has_copy i a there opens by_value =
+      let at : slice_get (parameters_of own) i ≡ Some a = parameter_there own i a there in
+      let known : not a.by_reference ≡ true = ap (λ o. unwrap_or (option_map (λ (z : Parameter). not z.by_reference) o) false) (sym at) ∙ by_value in
+      record { parameter = a; there = at; is_opened = opens; by_value = not_true a.by_reference known }
 
   record_no_object : (o : Option TypeRow) → is_record o ≡ true → is_object o ≡ false
   record_no_object None e = refl
@@ -401,13 +416,13 @@ module _ (p : Program) (typed : HasTypes p) (made : ℕ → Option Made) (n : �
       let both : Some (routine_of home q) ≡ Some y = sym there ∙ e in
       let same : routine_of home q ≡ y = cc both in
       subst (λ z. AreFreeFor p made (parameters_of z.own) (arguments_in (has_self z.own) vs)) same
-      (subst (AreFreeFor p made q.parameters) (sym args) (agree_free p made here.self q.parameters s.parameters us agree free))
+      (subst (AreFreeFor p made q.parameters) (sym args) (agree_free p made own here.self q.parameters s.parameters us agree free))
 
   -- its result is of the type
   abbrev pub Gives : Procedure → Value → Type 0
   Gives q v = (u : TType) → q.result ≡ Some u → Are u v
 
-  pub told_gives : (num home : ℕ) (q s : Procedure) (how : _) (vs : List Value) (v : Value) → by_number num (routines p) ≡ Some (routine_of home q) → q.result ≡ s.result → IsTold p made (Calls how num vs) v → Gives s v
+  pub told_gives : (num home : ℕ) (q s : Procedure) (how : _) (vs : List Value) (v : Value) → by_number num (routines p) ≡ Some (routine_of home q) → q.result ≡ s.result → IsTold p made own (Calls how num vs) v → Gives s v
   told_gives num home q s how vs v there same told u e = told (routine_of home q) u there (same ∙ e)
 
   pub agree_same : (as' : List Parameter) → Agree p.types as' as'
@@ -516,7 +531,7 @@ module _ (p : Program) (typed : HasTypes p) (made : ℕ → Option Made) (n : �
   -- what is handed over for a VAR parameter isn't guarded
   varied_free : (num i : ℕ) (a : Parameter) (t : Target) (s : Spot) → is_variable p num i ≡ a.by_reference → AreSpared (varies (is_variable p num i) t) → At s t → a.by_reference ≡ true → IsFreeAt p made s.root s.path
   varied_free num i a t s flag us at ref =
-      let spared = subst (λ b. AreSpared (varies b t)) (flag ∙ ref) us in at_free p made here.self t s (λ v g e. spares (used.Varies t) spared.0 v g e) at
+      let spared = subst (λ b. AreSpared (varies b t)) (flag ∙ ref) us in at_free p made own here.self t s (λ v g e. spares (used.Varies t) spared.0 v g e) at
 
   -- the result of a call that a value of a procedure type stands for
   procedure_serves : (t : TType) (m k : ℕ) (q : Procedure) → procedure_of p m k ≡ Some q → (c : Procedure) → pattern_of p t ≡ Some c → HasFormals p.types q c → Are t (Callable (procedure_number p m k) 0)
@@ -554,14 +569,14 @@ module _ (p : Program) (typed : HasTypes p) (made : ℕ → Option Made) (n : �
       }
 
   -- a test of an object's type
-  tests_law : (R : Value → Type 0) (t : TType) (v : Value) (k : ℕ) (a : Doing Value) (on : Value → Doing Value) → is_reference p.types t ≡ true → Are t v → Law R a → ((x : IsMadeFor p made t (object_in v)) (y : Value) → IsTold p made (Tests v (suc k)) y → Law R (on y)) → Law R (by_object (object_in v) a (bind (ask (Tests v (suc k))) on))
+  tests_law : (R : Value → Type 0) (t : TType) (v : Value) (k : ℕ) (a : Doing Value) (on : Value → Doing Value) → is_reference p.types t ≡ true → Are t v → Law R a → ((x : IsMadeFor p made t (object_in v)) (y : Value) → IsTold p made own (Tests v (suc k)) y → Law R (on y)) → Law R (by_object (object_in v) a (bind (ask (Tests v (suc k))) on))
   tests_law R t v k a on ref s none f = by (object_in v) refl
     where
       by : (o : ℕ) → object_in v ≡ o → Law R (by_object o a (bind (ask (Tests v (suc k))) on))
       by zero e = none
       by (suc i) e = let y = pointed t v ref s i e in ((y.0, y.1), λ z told. f y z told)
 
-  told_flag : (t : TType) (v : Value) (k : ℕ) (y : Value) → IsTold p made (Tests v (suc k)) y → Are t y
+  told_flag : (t : TType) (v : Value) (k : ℕ) (y : Value) → IsTold p made own (Tests v (suc k)) y → Are t y
   told_flag t v k y told = subst (Are t) (sym told.2) (flag_serves t _)
 
   is_law : (t : TType) (u : TType) (v : Value) (k : ℕ) → is_reference p.types u ≡ true → Are u v → Law (Are t) (is_instance v k)
@@ -670,7 +685,7 @@ module _ (p : Program) (typed : HasTypes p) (made : ℕ → Option Made) (n : �
   field_from q of k f (inl h) there us place object =
       law_bind (λ s. At s (target_of p q)) (λ s. At s (target_of p (Field q of k))) (place_of p here q) _ (record_place q of h.0 us (place h.0))
       (λ s a. field_target q of k (field_in p.types (id_of of) k s) false (record_no_object (row_of p.types (id_of of)) h.1)
-      (λ no. part_at p made here.self (target_of p q) s k 0 (declared_as p.types (id_of of) k s.of) a) (λ no. let clash : false ≡ true = no in absurd (cc clash)))
+      (λ no. part_at p made own here.self (target_of p q) s k 0 (declared_as p.types (id_of of) k s.of) a) (λ no. let clash : false ≡ true = no in absurd (cc clash)))
   field_from q of k f (inr h) there us place object = object h
 
   known_law : (q : Place) (ns : List ℕ) (t : TType) → ((u : TType) × IsPlaceOf p own q u × IsArrayOf p.types ns (id_of u) (id_of t)) ⊎ ((m : ℕ) × (ns ≡ m ∷ []) × IsConstantText p q m × (t ≡ type.Char)) → ((u : TType) → IsPlaceOf p own q u → Law (λ s. At s (target_of p q)) (place_of p here q)) → Law (λ s. At s (target_of p q)) (place_of p here q)
@@ -696,7 +711,7 @@ module _ (p : Program) (typed : HasTypes p) (made : ℕ → Option Made) (n : �
     pub place_law : (q : Place) (t : TType) → IsPlaceOf p own q t → AreSpared (place_uses p q) → Law (λ s. At s (target_of p q)) (place_of p here q)
     place_law (ModuleVar m k) t h us = (refl, ([], refl))
     place_law (Local k) t h us = (here.below, refl)
-    place_law (Passed k) t h us = (tt, λ v c. place_free p made here.self v c)
+    place_law (Passed k) t h us = (tt, λ v c. place_free p made own here.self v c.0)
     place_law (Field q of k) t h us = field_from q of k (id_of t) h.0 h.1 us (λ typed' us'. place_law q of typed' us') (λ o. object_law q of k (id_of t) o h.1 us)
     place_law (Index q i of e) t h us =
         let uses = part Ok (expr_uses p e) (place_uses p q) us in
@@ -704,7 +719,7 @@ module _ (p : Program) (typed : HasTypes p) (made : ℕ → Option Made) (n : �
         law_bind (Are (type.Integer W64)) (λ s. At s (target_of p q)) (value_of p here e) _ (value_law e (type.Integer W64) h.3 uses.0) (λ v c. element_law i v s (target_of p q) a))
     place_law (Of a) t h us = law_bind (RowsAt (rows_target p a) 0) (λ s. At s (rows_target p a)) (rows_of p here a) _ (rows_law a 0 t h us) (λ y f. f.0)
     place_law (Deref e u) t h us = deref_law e u t h (value_law e h.0 h.1 us.1)
-    place_law (Typed q k) t h us = law_bind (λ s. At s (target_of p q)) (λ s. At s (target_of p q)) (place_of p here q) _ (place_law q (type.Named k) h.0 us) (λ s a. at_typed p made here.self (target_of p q) s (suc k) a)
+    place_law (Typed q k) t h us = law_bind (λ s. At s (target_of p q)) (λ s. At s (target_of p q)) (place_of p here q) _ (place_law q (type.Named k) h.0 us) (λ s a. at_typed p made own here.self (target_of p q) s (suc k) a)
     place_law (Guarded q k) t h us =
         law_bind (λ s. At s (target_of p q)) (λ s. At s (target_of p q)) (place_of p here q) _ (place_law q h.0 h.1 us) (λ s a. by s a (has_type p.types s k))
       where
@@ -745,7 +760,7 @@ module _ (p : Program) (typed : HasTypes p) (made : ℕ → Option Made) (n : �
     rows_law (Known q ns) k t h us =
         law_bind (λ s. At s (target_of p q)) (RowsAt (target_of p q) k) (place_of p here q) _ (known_law q ns t h.1 (λ u typed'. place_law q u typed' us)) (λ s a. (a, length-map ns (λ j. Int (pos j)) ∙ sym h.0, numbers_free ns))
     rows_law (Opened i j) k t h us =
-        (tt, λ v c. law_bind (SoMany j) (RowsAt (rows_target p (Opened i j)) k) (lengths_from p here i 0 j) _ (lengths_law i 0 j) (λ ls f. (place_free p made here.self v c, f.0 ∙ sym h.0, f.1)))
+        (tt, λ v c. law_bind (SoMany j) (RowsAt (rows_target p (Opened i j)) k) (lengths_from p here i 0 j) _ (lengths_law i 0 j) (λ ls f. ((place_free p made own here.self v c.0, λ by_value. c.1 i (has_copy i h.1.0 h.1.1 h.1.2.0 by_value) refl), f.0 ∙ sym h.0, f.1)))
     rows_law (Row a of e) k t h us =
         let uses = part Ok (expr_uses p e) (rows_uses p a) us in
         law_bind (RowsAt (rows_target p a) (suc k)) (RowsAt (rows_target p a) k) (rows_of p here a) _ (rows_law a (suc k) t h.0 uses.1) (λ y f.

@@ -1,7 +1,12 @@
+pub mod GateTyped
+pub mod GateCode
+pub mod GateGuards
+pub mod GateRun
 pub mod Fields
 pub mod Serving
 pub mod Law
 pub mod Statements
+pub mod Copies
 pub mod Told
 pub mod Asked
 pub mod Serve
@@ -13,4 +18,3 @@ pub mod Looking
 pub mod Reading
 pub mod Transfer
 pub mod Handing
-pub mod Simulated

@@ -1,6 +1,6 @@
 -- A local condition comes out alike over stores that agree on what its lock guards.
 use Rattle.std.proofs.Common.{◌≡◌, ◌⊎◌, inl, inr, ℕ, suc, List, [], ◌∷◌, Bool, true, false, Option, Some, None, refl, sym, ap, ◌∙◌, subst}
-use Rattle.std.specs.Prelude.{option_and_then, not}
+use Rattle.std.specs.Prelude.{IsTrue, option_and_then, not}
 use Rattle.aos_base.specs.Question.{Val, Asks, Traps, Reads, Stores, Copies, PutsText, ComparesTexts, Calls, Ends, Makes, Starts, Enters, Leaves, Awaits, PutsInt, PutsChar, PutsString, PutsNothing, PutsLn, Places, Lengths, Opens, Sizes, Tests}
 use Rattle.aos_base.specs.Rooted.{Made, at_root}
 use Rattle.aos_base.specs.declared.kernel.LockName.{LockName}
@@ -31,7 +31,7 @@ use Rattle.aos_sim.proofs.Runs.{Run, tables_of}
 use Rattle.aos_sim.proofs.Runs as runs
 use Rattle.aos_sim.proofs.States.{shapes_of, top_shape, world_of}
 use Rattle.aos_places.specs.Shows.{Shown}
-use Rattle.aos_guard.specs.Guarded.{IsGuarded, MayRead, Spares, is_of_module}
+use Rattle.aos_guard.specs.Guarded.{IsGuarded, Lets, MayRead, Spares, is_by_value, is_of_module}
 use Rattle.aos_guard.specs.declared.uses.Target.{Target}
 use Rattle.aos_guard.specs.declared.uses.Use.{Use}
 use Rattle.aos_guard.specs.declared.uses.Use.TheVariants as used
@@ -39,8 +39,9 @@ use Rattle.aos_guard.specs.declared.uses.Variable.{Variable}
 use Rattle.aos_guard.specs.declared.uses.Variable.TheVariants as variable
 use Rattle.aos_naming.specs.Naming.{StoreIs, VariablesAre}
 use Rattle.aos_naming.proofs.Values.{known_is, length_is, value_is}
-use Rattle.aos_lasting.specs.Agree.{AgreeOn, AreSame, IsSame, Looks}
+use Rattle.aos_lasting.specs.Agree.{AgreeOn, AreSame, IsSame}
 use Rattle.aos_lasting.specs.Spots.{HasFields, IsAt, IsFree, field_of}
+use Rattle.aos_lasting.proofs.Copies.{HoldCopies, known_copied}
 use Rattle.aos_lasting.proofs.Law.{IsRead, Law}
 use Rattle.aos_lasting.proofs.Serving.{is_serves}
 use Rattle.aos_lasting.proofs.Told.{free_simply, opens_told, tests_told}
@@ -59,10 +60,10 @@ read_behind s t r k rest e =
     behind_part k rest (at_root r (all_rooted [] s)) ∙ ap (option_and_then (found rest)) e ∙ sym (behind_part k rest (at_root r (all_rooted [] t)))
 
 -- what a local condition may use spares all
-pub looks_spare : (p : Program) (d : Condition) (n : ℕ) (r : Routine) (u : Use) → Looks p d u → (v : Variable) → IsGuarded p v → Spares p v n r u
-looks_spare p d n r (used.Writes t x) h v g = absurd h.0
+pub looks_spare : (p : Program) (d : Condition) (n : ℕ) (r : Routine) (u : Use) → Lets p d.home d.own u → (v : Variable) → IsGuarded p v → Spares p v n r u
+looks_spare p d n r (used.Writes t x) h v g = absurd h
 looks_spare p d n r (used.Reads t) h v g = tt
-looks_spare p d n r (used.Varies t) h v g = absurd h.0
+looks_spare p d n r (used.Varies t) h v g = absurd h
 looks_spare p d n r used.Follows h v g = tt
 looks_spare p d n r used.SelfValue h v g = tt
 looks_spare p d n r used.Calls h v g = tt
@@ -97,12 +98,12 @@ module _ (p : Program) (typed : HasTypes p) (image : Image) (shaped : HasShapes 
   quiet : (q : Question) → Valid p here now q → Calmly p here (Answered q) image.types.items cells now (runs.calm image.types.items made cells (Asks (placed p now q) (λ x. Traps 0 0))) (calm p.types made c (Asks q (λ v. Val v)))
   quiet q valid = calm_does p here now f.shape c cells (top_shape p s.made f fs) shown whole (tables_of image) shaped (Answered q) (Asks (placed p now q) (λ x. Traps 0 0)) (Asks q (λ v. Val v)) (alone_does q valid)
 
-  module _ (l : LockName) (agree : AgreeOn p l s t) (d : Condition) (n : ℕ) (r : Routine) (own : r.own ≡ d.own) (is_self_of : IsSelf p made (self_type r.own) here.self) (x : Bool) (lock_is : l ≡ lock_of f) (home : d.home ≡ f.home) (alone : has_self d.own ≡ false → f.object ≡ 0) where
+  module _ (l : LockName) (agree : AgreeOn p l s t) (d : Condition) (n : ℕ) (r : Routine) (own : r.own ≡ d.own) (is_self_of : IsSelf p made (self_type r.own) here.self) (copies : HoldCopies p r.own f.variables) (x : Bool) (lock_is : l ≡ lock_of f) (home : d.home ≡ f.home) (alone : has_self d.own ≡ false → f.object ≡ 0) where
     abbrev LawAt : {A : Type 0} → (A → Type 0) → Doing A → Type 0
-    LawAt R e = Law p typed made n r here is_self_of x (Looks p d) (looks_spare p d n r) R e
+    LawAt R e = Law p typed made n r here is_self_of x (Lets p d.home d.own) (looks_spare p d n r) R e
 
     abbrev IsSeen : Spot → Type 0
-    IsSeen a = IsRead p typed made n r here is_self_of x (Looks p d) (looks_spare p d n r) a
+    IsSeen a = IsRead p typed made n r here is_self_of x (Lets p d.home d.own) (looks_spare p d n r) a
 
     same_module : (m k : ℕ) → MayRead p d.home d.own false (variable.Module m k) → IsSame s t (root.Module m) k
     same_module m k may = by (is_of_module p m k) refl may.0
@@ -126,21 +127,22 @@ module _ (p : Program) (typed : HasTypes p) (image : Image) (shaped : HasShapes 
         tg : Target
         tg = seen.0
 
-        by : (v : Variable) → tg.of ≡ v → IsAt p made here.self a tg → Looks p d (used.Reads tg) → read a.root a.path (all_rooted (f ∷ fs) s) ≡ read a.root a.path (all_rooted (f ∷ fs) t)
-        by v e at looks = of v e (subst (λ z. IsAt p made here.self a (record { of = z; through_self = tg.through_self })) e at) (subst (λ z. MayRead p d.home d.own tg.through_self z) e looks.0) looks.1
+        by : (v : Variable) → tg.of ≡ v → IsAt p made r.own here.self a tg → Lets p d.home d.own (used.Reads tg) → read a.root a.path (all_rooted (f ∷ fs) s) ≡ read a.root a.path (all_rooted (f ∷ fs) t)
+        by v e at looks = of v (subst (λ z. IsAt p made r.own here.self a (record { of = z; through_self = tg.through_self })) e at) (subst (λ z. MayRead p d.home d.own tg.through_self z) e looks)
           where
-            of : (v : Variable) → tg.of ≡ v → IsAt p made here.self a (record { of = v; through_self = tg.through_self }) → MayRead p d.home d.own tg.through_self v → ((k : ℕ) → tg.of ≡ variable.Opened k → ⊥) → read a.root a.path (all_rooted (f ∷ fs) s) ≡ read a.root a.path (all_rooted (f ∷ fs) t)
-            of (variable.Module m k) e at may closed =
+            of : (v : Variable) → IsAt p made r.own here.self a (record { of = v; through_self = tg.through_self }) → MayRead p d.home d.own tg.through_self v → read a.root a.path (all_rooted (f ∷ fs) s) ≡ read a.root a.path (all_rooted (f ∷ fs) t)
+            of (variable.Module m k) at may =
                 subst (λ z. read z a.path (all_rooted (f ∷ fs) s) ≡ read z a.path (all_rooted (f ∷ fs) t)) (sym at.0)
                 (subst (λ z. read (root.Module m) z (all_rooted (f ∷ fs) s) ≡ read (root.Module m) z (all_rooted (f ∷ fs) t)) (sym at.1.1) (read_behind s t (root.Module m) k at.1.0 (same_module m k may)))
-            of (variable.Field u k) e at may closed =
+            of (variable.Field u k) at may =
                 subst (λ z. read z a.path (all_rooted (f ∷ fs) s) ≡ read z a.path (all_rooted (f ∷ fs) t)) (sym at.2)
                 (subst (λ z. read (root.Object (suc at.0)) z (all_rooted (f ∷ fs) s) ≡ read (root.Object (suc at.0)) z (all_rooted (f ∷ fs) t)) (sym at.6.1)
                 (read_behind s t (root.Object (suc at.0)) k at.6.0 (same_field at.0 k u at.1 at.3 at.4 (subst (IsGuarded p) (sym at.5) may.1) (at.7 may.0))))
-            of variable.Local e at may closed = subst (λ z. read z a.path (all_rooted (f ∷ fs) s) ≡ read z a.path (all_rooted (f ∷ fs) t)) (sym at.1) refl
-            of variable.Passed e at may closed = absurd may
-            of (variable.Opened k) e at may closed = absurd (closed k e)
-            of variable.Heap e at may closed = absurd may
+            of variable.Local at may = subst (λ z. read z a.path (all_rooted (f ∷ fs) s) ≡ read z a.path (all_rooted (f ∷ fs) t)) (sym at.1) refl
+            of variable.Passed at may = absurd may
+            of (variable.Opened k) at may =
+                let frame = at.1 (subst (λ o. IsTrue (is_by_value o k)) (sym own) may) in subst (λ z. read z a.path (all_rooted (f ∷ fs) s) ≡ read z a.path (all_rooted (f ∷ fs) t)) (sym frame.1) refl
+            of variable.Heap at may = absurd may
 
     abbrev JudgedAt : Store → Doing Value → Verdict
     JudgedAt z e = judged p.types (made_in z) c (all_rooted (f ∷ fs) z) e
@@ -165,13 +167,13 @@ module _ (p : Program) (typed : HasTypes p) (image : Image) (shaped : HasShapes 
         ∙ (λ q. JudgedAt t (k (compared o (same_read a law.0.0 q) (same_read b law.0.1 q))))
     judged_same R Q m (Asks (Places a) k) does law =
         let v = known c a in
-        judged_same R Q (does.0 (cell_of now v)) (k v) (does.3 now (grows_same now) v (quiet (Places a) does.2).2) (law.1 v (known_is p (IsFree p made) (free_simply p made) made c variables.0 a))
+        judged_same R Q (does.0 (cell_of now v)) (k v) (does.3 now (grows_same now) v (quiet (Places a) does.2).2) (law.1 v (known_is p (IsFree p made) (free_simply p made) made c variables.0 a, known_copied p r.own c copies a))
     judged_same R Q m (Asks (Lengths a) k) does law =
         let v = known c a in
         judged_same R Q (does.0 (cell_of now v)) (k v) (does.3 now (grows_same now) v (quiet (Lengths a) does.2).2) (law.1 v (known_is p (IsFree p made) (free_simply p made) made c variables.0 a))
     judged_same R Q m (Asks (Opens u) k) does law =
         let v = object_place (object_in u) (made (object_in u)) in
-        judged_same R Q (does.0 (cell_of now v)) (k v) (does.3 now (grows_same now) v (quiet (Opens u) does.2).2) (law.1 v (opens_told p made u law.0.0 law.0.1))
+        judged_same R Q (does.0 (cell_of now v)) (k v) (does.3 now (grows_same now) v (quiet (Opens u) does.2).2) (law.1 v (opens_told p made r.own u law.0.0 law.0.1))
         ∙ ap (λ z. JudgedAt t (k (object_place (object_in u) z))) (same_made (object_in u) law.0.0 law.0.1)
     judged_same R Q m (Asks (Sizes u i) k) does law =
         let v = length_in i (made (object_in u)) in
@@ -179,7 +181,7 @@ module _ (p : Program) (typed : HasTypes p) (image : Image) (shaped : HasShapes 
         ∙ ap (λ z. JudgedAt t (k (length_in i z))) (same_made (object_in u) law.0.0 law.0.1)
     judged_same R Q m (Asks (Tests u ty) k) does law =
         let v = has_type_in p.types made c ty (made (object_in u)) in
-        judged_same R Q (does.0 (cell_of now v)) (k v) (does.3 now (grows_same now) v (quiet (Tests u ty) does.2).2) (law.1 v (tests_told p made c u ty law.0.0 law.0.1))
+        judged_same R Q (does.0 (cell_of now v)) (k v) (does.3 now (grows_same now) v (quiet (Tests u ty) does.2).2) (law.1 v (tests_told p made r.own c u ty law.0.0 law.0.1))
         ∙ ap (λ z. JudgedAt t (k (has_type_in p.types made c ty z))) (same_made (object_in u) law.0.0 law.0.1)
     judged_same R Q m (Asks (Stores a v) k) does law = refl
     judged_same R Q m (Asks (Copies ty a b) k) does law = refl

@@ -83,7 +83,7 @@ regions_texts _ _ NoFrames = refl
 regions_texts _ _ (OneMore f c fs gs same) = ap (λ ls. locks_in (lock_of f) f.items ++ ls) (regions_texts fs gs same)
 
 -- A place that a text of the routine with this number may write, in a frame of it: x says whether a region is open.
-module _ (p : Program) (before : Store) (n : ℕ) (r : Routine) (f : Frame) (home : f.home ≡ r.home) (alone : has_self r.own ≡ false → f.object ≡ 0) (x : Bool) (t : Target) (s : Spot) (at : IsAt p (made_in before) f.object s t) (spared : (v : Variable) → IsGuarded p v → Spares p v n r (used.Writes t x)) where
+module _ (p : Program) (before : Store) (n : ℕ) (r : Routine) (f : Frame) (home : f.home ≡ r.home) (alone : has_self r.own ≡ false → f.object ≡ 0) (x : Bool) (t : Target) (s : Spot) (at : IsAt p (made_in before) r.own f.object s t) (spared : (v : Variable) → IsGuarded p v → Spares p v n r (used.Writes t x)) where
   abbrev made : ℕ → Option Made
   made = made_in before
 
@@ -113,7 +113,7 @@ module _ (p : Program) (before : Store) (n : ℕ) (r : Routine) (f : Frame) (hom
   module_kept : (m k : ℕ) → IsGuarded p (variable.Module m k) → (MayWrite p n r t.through_self x (variable.Module m k) → ⊥) → IsKept (root.Module m) k
   module_kept m k g never = by t.of refl at
     where
-      by : (v : Variable) → t.of ≡ v → IsAt p made f.object s (record { of = v; through_self = t.through_self }) → IsKept (root.Module m) k
+      by : (v : Variable) → t.of ≡ v → IsAt p made r.own f.object s (record { of = v; through_self = t.through_self }) → IsKept (root.Module m) k
       by (variable.Module i j) e h new c is =
           let same_root : root.Module m ≡ root.Module i = is ∙ h.0 in
           let m_is : m ≡ i = cc same_root in
@@ -124,14 +124,14 @@ module _ (p : Program) (before : Store) (n : ℕ) (r : Routine) (f : Frame) (hom
       by (variable.Field u j) e h new c is = absurd (let no : root.Module m ≡ root.Object (suc h.0) = is ∙ h.2 in cc no)
       by variable.Local e h new c is = absurd (let no : root.Module m ≡ root.Frame h.0 = is ∙ h.1 in cc no)
       by variable.Passed e h new c is = free_module m k g h new c is
-      by (variable.Opened j) e h new c is = free_module m k g h new c is
+      by (variable.Opened j) e h new c is = free_module m k g h.0 new c is
       by variable.Heap e h new c is = free_module m k g h new c is
 
   -- a field of an object
   object_kept : (o k : ℕ) (m : Made) → made o ≡ Some m → HasFields p m → IsGuarded p (field_of p m k) → ((t.through_self ≡ true → o ≡ f.object) → MayWrite p n r t.through_self x (field_of p m k) → ⊥) → IsKept (root.Object o) k
   object_kept o k m there fields g never = by t.of refl at
     where
-      by : (v : Variable) → t.of ≡ v → IsAt p made f.object s (record { of = v; through_self = t.through_self }) → IsKept (root.Object o) k
+      by : (v : Variable) → t.of ≡ v → IsAt p made r.own f.object s (record { of = v; through_self = t.through_self }) → IsKept (root.Object o) k
       by (variable.Field u j) e h new c is =
           let same_root : root.Object o ≡ root.Object (suc h.0) = is ∙ h.2 in
           let o_is : o ≡ suc h.0 = cc same_root in
@@ -144,7 +144,7 @@ module _ (p : Program) (before : Store) (n : ℕ) (r : Routine) (f : Frame) (hom
       by (variable.Module i j) e h new c is = absurd (let no : root.Object o ≡ root.Module i = is ∙ h.0 in cc no)
       by variable.Local e h new c is = absurd (let no : root.Object o ≡ root.Frame h.0 = is ∙ h.1 in cc no)
       by variable.Passed e h new c is = free_object o k m there fields g h new c is
-      by (variable.Opened j) e h new c is = free_object o k m there fields g h new c is
+      by (variable.Opened j) e h new c is = free_object o k m there fields g h.0 new c is
       by variable.Heap e h new c is = free_object o k m there fields g h new c is
 
   -- So a store that is written there has the same of what a lock guards, where the frame has no region of it open, and is that of no quiet

@@ -34,8 +34,10 @@ use Rattle.aos_sim.proofs.Turns.{IsAwaited, Together}
 use Rattle.aos_handover.specs.Kinds.{IsAsking}
 use Rattle.aos_naming.specs.Naming.{AreOf, StoreIs}
 use Rattle.aos_naming.proofs.Traced.{AsksFor, Traces}
-use Rattle.aos_lasting.specs.Agree.{AgreeOn, IsLocalAt, Looks}
+use Rattle.aos_guard.specs.Guarded.{Lets}
+use Rattle.aos_lasting.specs.Agree.{AgreeOn, IsLocalAt}
 use Rattle.aos_lasting.specs.Spots.{IsFree, Serves}
+use Rattle.aos_lasting.proofs.Copies.{HoldCopies}
 use Rattle.aos_lasting.proofs.Fitting.{Fits, names, read_typed, shaped, typed}
 use Rattle.aos_lasting.proofs.Keeps.{serve_variables}
 use Rattle.aos_lasting.proofs.Law.{value_law}
@@ -75,8 +77,8 @@ module _ (p : Program) (image : Image) (well : IsWellTyped p) (ok : IsCodeOf p i
   frames_read l c s t (f ∷ fs) (n ∷ ns) (g ∷ gs) are serve free memory stores same shown agree local starting =
       subst (λ o. S.verdict_over p o (f ∷ fs) s ≡ S.verdict_over p o (f ∷ fs) t) (sym valid.1)
       (judged_same p types image (shaped p image well ok simulates) s t f fs g.cells shown.0 whole (read_typed p image well ok simulates s memory (f ∷ fs) (g ∷ gs) stores shown) (serve_variables p types (names p image well ok simulates) (made_in s) (n ∷ ns) (f ∷ fs) serve) free
-      l agree d n r refl self false lock_is home alone (λ w v m. Unit {0}) (Serves p (made_in s) Boolean) (run (tables_of image) 0 here code 0 (λ x. Num (pos 0)) []) (value_of p here d.expression) ends
-      (value_law p types (made_in s) n r here self false (Looks p d) (looks_spare p d n r) d.expression Boolean valid.2 (local d valid.1)))
+      l agree d n r refl self copies false lock_is home alone (λ w v m. Unit {0}) (Serves p (made_in s) Boolean) (run (tables_of image) 0 here code 0 (λ x. Num (pos 0)) []) (value_of p here d.expression) ends
+      (value_law p types (made_in s) n r here self false (Lets p d.home d.own) (looks_spare p d n r) d.expression Boolean valid.2 (local d valid.1)))
     where
       valid : Valid p (here_of f fs) (world_of p s.made (shapes_of (f ∷ fs))) (Awaits c)
       valid = starting.2
@@ -111,6 +113,9 @@ module _ (p : Program) (image : Image) (well : IsWellTyped p) (ok : IsCodeOf p i
           let own = are.0 in
           let k = serve.0 in
           let both : Some own.routine ≡ Some k.routine = sym own.there ∙ k.there in cc both
+
+      copies : HoldCopies p d.own f.variables
+      copies = let k = serve.0 in subst (λ o. HoldCopies p o f.variables) (sym linked.3 ∙ ap (λ (e : Condition). e.own) same_condition) k.copies
 
       home : d.home ≡ f.home
       home = let own = are.0 in ap (λ (e : Condition). e.home) (sym same_condition) ∙ linked.2 ∙ sym (own.home ∙ ap (λ (y : Routine). y.home) same_routine)

@@ -12,7 +12,7 @@ use Rattle.aos_typed.specs.declared.tree.TType.TheVariants.{Boolean}
 use Rattle.aos_typed.specs.Handed.{content_at, copied, hand, handed, head, open_part, own_part, scalar, whole}
 use Rattle.aos_typed.specs.Numbers.{id_of}
 use Rattle.aos_typed.specs.Open.{open_dimensions, open_element}
-use Rattle.aos_typed.specs.Program.{Parameter, Program, Repeat}
+use Rattle.aos_typed.specs.Program.{Parameter, Procedure, Program, Repeat}
 use Rattle.aos_typed.specs.Routines.{Routine, gives, has_self, locals_of, parameters_of, result_of, routines, self_type}
 use Rattle.aos_typed.specs.Sort.{Sort, Plain, Variable, Alias, variable_shape}
 use Rattle.aos_typed.specs.Store.{Store, made_in}
@@ -30,16 +30,17 @@ use Rattle.aos_naming.specs.Naming.{AllAre, ContentIs, IsOf, StoreIs, VariablesA
 use Rattle.aos_naming.proofs.Items.{had_fine, next_fine, part}
 use Rattle.aos_naming.proofs.Values.{HandedIs, Simply, content_is, cut_is, hand_is, lengths_row, locals_are, parts_more, parts_row}
 use Rattle.aos_lasting.specs.Spots.{AreFreeFor, AreTold, IsFree, IsTold, Serves}
+use Rattle.aos_lasting.proofs.Copies.{HoldCopies, handed_copies}
 use Rattle.aos_lasting.proofs.Law.{Law, value_law}
 use Rattle.aos_lasting.proofs.Statements.{AfterServes, ItemsServe, ResultServes, item_law, spared}
 use Rattle.aos_lasting.proofs.Told.{all_told_grow, content_more, free_grows, free_simply, items_grow, law_fed, noted_alone, noted_told, plain_free, told_more}
 
 module _ (p : Program) (typed : HasTypes p) where
   -- the answers so far are true
-  abbrev pub AreAnswers : (ℕ → Option Made) → Here → Option (List Value) → List Item → Type 0
-  AreAnswers made here None is = Unit {0}
-  AreAnswers made here (Some vs) [] = ⊥
-  AreAnswers made here (Some vs) (i ∷ is) = AreTold p made vs (item_of p here i)
+  abbrev pub AreAnswers : (ℕ → Option Made) → Option Procedure → Here → Option (List Value) → List Item → Type 0
+  AreAnswers made own here None is = Unit {0}
+  AreAnswers made own here (Some vs) [] = ⊥
+  AreAnswers made own here (Some vs) (i ∷ is) = AreTold p made own vs (item_of p here i)
 
   -- a frame of the routine with this number, above so many others
   pub record FrameServes (made : ℕ → Option Made) (n : ℕ) (f : Frame) (below : ℕ) : Type 0 where
@@ -48,8 +49,9 @@ module _ (p : Program) (typed : HasTypes p) where
     pub function : f.gives ≡ gives routine.own
     pub self : IsSelf p made (self_type routine.own) f.object
     pub variables : ContentIs (IsFree p made) f.variables
+    pub copies : HoldCopies p routine.own f.variables
     pub items : ItemsServe p typed made n routine f.items
-    pub answers : AreAnswers made (record { below = below; self = f.object }) f.answers f.items
+    pub answers : AreAnswers made routine.own (record { below = below; self = f.object }) f.answers f.items
 
   abbrev pub AllServe : (ℕ → Option Made) → List ℕ → List Frame → Type 0
   AllServe made [] [] = Unit {0}
@@ -64,10 +66,10 @@ module _ (p : Program) (typed : HasTypes p) where
 
   -- As objects are made.
   module _ (made made' : ℕ → Option Made) (up : (o : ℕ) (m : Made) → made o ≡ Some m → made' o ≡ Some m) where
-    answers_grow : (here : Here) (a : Option (List Value)) (is : List Item) → AreAnswers made here a is → AreAnswers made' here a is
-    answers_grow here None is h = tt
-    answers_grow here (Some vs) [] h = h
-    answers_grow here (Some vs) (i ∷ is) h = all_told_grow p made made' up vs (item_of p here i) h
+    answers_grow : (own : Option Procedure) (here : Here) (a : Option (List Value)) (is : List Item) → AreAnswers made own here a is → AreAnswers made' own here a is
+    answers_grow own here None is h = tt
+    answers_grow own here (Some vs) [] h = h
+    answers_grow own here (Some vs) (i ∷ is) h = all_told_grow p made made' up own vs (item_of p here i) h
 
     frame_grows : (n : ℕ) (f : Frame) (below : ℕ) → FrameServes made n f below → FrameServes made' n f below
     frame_grows n f below h =
@@ -77,8 +79,9 @@ module _ (p : Program) (typed : HasTypes p) where
           function = h.function;
           self = self_grows p made made' up (self_type h.routine.own) f.object h.self;
           variables = content_more (IsFree p made) (IsFree p made') (free_grows p made made' up) f.variables h.variables;
+          copies = h.copies;
           items = items_grow p made made' up typed n h.routine f.items h.items;
-          answers = answers_grow (record { below = below; self = f.object }) f.answers f.items h.answers;
+          answers = answers_grow h.routine.own (record { below = below; self = f.object }) f.answers f.items h.answers;
         }
 
     pub all_grow : (ns : List ℕ) (fs : List Frame) → AllServe made ns fs → AllServe made' ns fs
@@ -137,15 +140,15 @@ module _ (p : Program) (typed : HasTypes p) where
     first_serves (Gives v) is h = (h.0, tt)
 
   -- one more answer
-  pub answer_told : (made : ℕ → Option Made) (g : Frame) (gs : List Frame) (q : Question) (asks : IsAsking p g gs q) (v : Value) → IsTold p made q v → AreAnswers made (here_of g gs) g.answers g.items → AreAnswers made (here_of g gs) (told v g.answers) g.items
-  answer_told made g gs q asks v is h =
+  pub answer_told : (made : ℕ → Option Made) (own : Option Procedure) (g : Frame) (gs : List Frame) (q : Question) (asks : IsAsking p g gs q) (v : Value) → IsTold p made own q v → AreAnswers made own (here_of g gs) g.answers g.items → AreAnswers made own (here_of g gs) (told v g.answers) g.items
+  answer_told made own g gs q asks v is h =
       let come = asks.1 in
       let here = here_of g gs in
-      let before : AreTold p made come.answers (item_of p here come.item) = subst (λ a. AreAnswers made here a (come.item ∷ come.rest)) come.begun (subst (λ js. AreAnswers made here g.answers js) come.items h) in
-      let after : AreTold p made (come.answers ++ v ∷ []) (item_of p here come.item) = told_more p made come.answers (v ∷ []) (item_of p here come.item) before (subst (AreTold p made (v ∷ [])) (sym come.is) (is, tt)) in
-      subst (λ a. AreAnswers made here (told v a) g.items) (sym come.begun) (subst (λ js. AreAnswers made here (Some (come.answers ++ v ∷ [])) js) (sym come.items) after)
+      let before : AreTold p made own come.answers (item_of p here come.item) = subst (λ a. AreAnswers made own here a (come.item ∷ come.rest)) come.begun (subst (λ js. AreAnswers made own here g.answers js) come.items h) in
+      let after : AreTold p made own (come.answers ++ v ∷ []) (item_of p here come.item) = told_more p made own come.answers (v ∷ []) (item_of p here come.item) before (subst (AreTold p made own (v ∷ [])) (sym come.is) (is, tt)) in
+      subst (λ a. AreAnswers made own here (told v a) g.items) (sym come.begun) (subst (λ js. AreAnswers made own here (Some (come.answers ++ v ∷ [])) js) (sym come.items) after)
 
-  pub answered_serves : (made : ℕ → Option Made) (n : ℕ) (g : Frame) (gs : List Frame) (q : Question) (asks : IsAsking p g gs q) (v : Value) → IsTold p made q v → FrameServes made n g (length gs) → FrameServes made n (answered v g) (length gs)
+  pub answered_serves : (made : ℕ → Option Made) (n : ℕ) (g : Frame) (gs : List Frame) (q : Question) (asks : IsAsking p g gs q) (v : Value) → ((r : Routine) → by_number n (routines p) ≡ Some r → IsTold p made r.own q v) → FrameServes made n g (length gs) → FrameServes made n (answered v g) (length gs)
   answered_serves made n g gs q asks v is h =
       record {
         routine = h.routine;
@@ -153,17 +156,18 @@ module _ (p : Program) (typed : HasTypes p) where
         function = h.function;
         self = h.self;
         variables = h.variables;
+        copies = h.copies;
         items = h.items;
-        answers = answer_told made g gs q asks v is h.answers;
+        answers = answer_told made h.routine.own g gs q asks v (is h.routine h.there) h.answers;
       }
 
   -- a result is the answer for the frame below
-  pub result_told : (made : ℕ → Option Made) (n : ℕ) (r : Routine) → by_number n (routines p) ≡ Some r → (how : Manner) (vs : List Value) (v : Option Value) → ResultServes p typed made n r v → IsTold p made (Calls how n vs) (answer_in v)
-  result_told made n r there how vs None h = λ y t at e. absurd (h t (same_result y t at e))
+  pub result_told : (made : ℕ → Option Made) (own : Option Procedure) (n : ℕ) (r : Routine) → by_number n (routines p) ≡ Some r → (how : Manner) (vs : List Value) (v : Option Value) → ResultServes p typed made n r v → IsTold p made own (Calls how n vs) (answer_in v)
+  result_told made own n r there how vs None h = λ y t at e. absurd (h t (same_result y t at e))
     where
       same_result : (y : Routine) (t : TType) → by_number n (routines p) ≡ Some y → result_of y.own ≡ Some t → result_of r.own ≡ Some t
       same_result y t at e = let both : Some y ≡ Some r = sym at ∙ there in let same : y ≡ r = cc both in subst (λ (z : Routine). result_of z.own ≡ Some t) same e
-  result_told made n r there how vs (Some v) h = λ y t at e. h t (same_result y t at e)
+  result_told made own n r there how vs (Some v) h = λ y t at e. h t (same_result y t at e)
     where
       same_result : (y : Routine) (t : TType) → by_number n (routines p) ≡ Some y → result_of y.own ≡ Some t → result_of r.own ≡ Some t
       same_result y t at e = let both : Some y ≡ Some r = sym at ∙ there in let same : y ≡ r = cc both in subst (λ (z : Routine). result_of z.own ≡ Some t) same e
@@ -196,19 +200,19 @@ module _ (p : Program) (typed : HasTypes p) where
     pub rest_law : (q : Question) (asks : IsAsking p f fs q) → (x : Bool) × LawAt x (AfterServes p typed made n r) (Asks q asks.0)
     rest_law q asks =
         let come = asks.1 in
-        let answers : AreTold p made come.answers (item_of p here come.item) = subst (λ a. AreAnswers made here a (come.item ∷ come.rest)) come.begun (subst (λ js. AreAnswers made here f.answers js) come.items k.answers) in
+        let answers : AreTold p made r.own come.answers (item_of p here come.item) = subst (λ a. AreAnswers made r.own here a (come.item ∷ come.rest)) come.begun (subst (λ js. AreAnswers made r.own here f.answers js) come.items k.answers) in
         let law = item_may come.item come.rest (subst (ItemsFine p n r) come.items fine) (subst (ItemsServe p typed made n r) come.items k.items) in
         let left = law_fed p typed made n r here k.self (has_mark come.rest) S (λ u h. h) (AfterServes p typed made n r) come.answers (item_of p here come.item) law answers in
         (has_mark come.rest, subst (LawAt (has_mark come.rest) (AfterServes p typed made n r)) come.is left)
 
     -- with the answers of questions that are answered at once
-    told_so_far : (i : Item) (is : List Item) (vs : List Value) → f.items ≡ i ∷ is → f.answers ≡ Some vs → AreTold p made (so_far p s f fs i vs) (item_of p here i)
+    told_so_far : (i : Item) (is : List Item) (vs : List Value) → f.items ≡ i ∷ is → f.answers ≡ Some vs → AreTold p made r.own (so_far p s f fs i vs) (item_of p here i)
     told_so_far i is vs e had =
-        let before : AreTold p made vs (item_of p here i) = subst (λ a. AreAnswers made here a (i ∷ is)) had (subst (λ js. AreAnswers made here f.answers js) e k.answers) in
+        let before : AreTold p made r.own vs (item_of p here i) = subst (λ a. AreAnswers made r.own here a (i ∷ is)) had (subst (λ js. AreAnswers made r.own here f.answers js) e k.answers) in
         let law = item_may i is (subst (ItemsFine p n r) e fine) (subst (ItemsServe p typed made n r) e k.items) in
         let left = feed vs (item_of p here i) in
-        told_more p made vs (noted p.types made f.variables left) (item_of p here i) before
-        (noted_alone p typed made n r here k.self (has_mark is) S (λ u h. h) f.variables k.variables (AfterServes p typed made n r) left
+        told_more p made r.own vs (noted p.types made f.variables left) (item_of p here i) before
+        (noted_alone p typed made n r here k.self (has_mark is) S (λ u h. h) f.variables k.variables k.copies (AfterServes p typed made n r) left
         (law_fed p typed made n r here k.self (has_mark is) S (λ u h. h) (AfterServes p typed made n r) vs (item_of p here i) law before))
 
     pub next_serves : (is : List Item) → IsNext p s f fs is → ItemsServe p typed made n r is
@@ -231,7 +235,7 @@ module _ (p : Program) (typed : HasTypes p) where
     next_serves _ (Repeated at b e is v next come t) = next_serves (Until at b e ∷ is) next
     next_serves _ (Behind at b e is v next come t) = next_serves (Until at b e ∷ is) next
 
-    had_serves : (is : List Item) (a : Option (List Value)) → HasHad p s f fs is a → ItemsServe p typed made n r is × AreAnswers made here a is
+    had_serves : (is : List Item) (a : Option (List Value)) → HasHad p s f fs is a → ItemsServe p typed made n r is × AreAnswers made r.own here a is
     had_serves _ _ (Rests is next) = (next_serves is next, tt)
     had_serves _ _ (Begins i is next) = (next_serves (i ∷ is) next, tt)
     had_serves _ _ (GoesOn i is vs e had) = (subst (ItemsServe p typed made n r) e k.items, told_so_far i is vs e had)
@@ -240,7 +244,7 @@ module _ (p : Program) (typed : HasTypes p) where
         let uses = part S (expr_uses p e) (stats_uses p (has_mark is) b) (spared p typed made n r (item_uses p (has_mark is) (Until at b e)) ready.0.0) in
         let on : Value → Doing After = λ v. Val (Into (if is_true v then [] else Do (Repeat at b e) ∷ [])) in (
           next_serves (Until at b e ∷ is) next,
-          noted_told p typed made n r here k.self (has_mark is) S (λ u h. h) f.variables k.variables (Serves p made Boolean) (value_of p here e) on (value_law p typed made n r here k.self (has_mark is) S (λ u h. h) e Boolean ready.0.1.0.1 uses.0),
+          noted_told p typed made n r here k.self (has_mark is) S (λ u h. h) f.variables k.variables k.copies (Serves p made Boolean) (value_of p here e) on (value_law p typed made n r here k.self (has_mark is) S (λ u h. h) e Boolean ready.0.1.0.1 uses.0),
         )
 
     pub stands_serves : (g : Frame) → Stands p s f fs g → FrameServes made n g (length fs)
@@ -253,8 +257,9 @@ module _ (p : Program) (typed : HasTypes p) where
           function = ap (λ (y : Frame). y.gives) st.same.is ∙ k.function;
           self = subst (IsSelf p made (self_type r.own)) (sym object) k.self;
           variables = subst (ContentIs (IsFree p made)) (sym (ap (λ (y : Frame). y.variables) st.same.is)) k.variables;
+          copies = subst (HoldCopies p r.own) (sym (ap (λ (y : Frame). y.variables) st.same.is)) k.copies;
           items = x.0;
-          answers = subst (λ o. AreAnswers made (record { below = length fs; self = o }) g.answers g.items) (sym object) x.1;
+          answers = subst (λ o. AreAnswers made r.own (record { below = length fs; self = o }) g.answers g.items) (sym object) x.1;
         }
 
     -- a region around what is behind an item that asks is one around the item
@@ -274,7 +279,7 @@ module _ (p : Program) (typed : HasTypes p) where
         let come = asks.1 in
         let same_here : here_of g fs ≡ here = ap (λ (y : Frame). here_of y fs) st.same.is in
         let x = had_serves g.items g.answers st.had in
-        let answers : AreTold p made come.answers (item_of p here come.item) = subst (λ a. AreAnswers made here a (come.item ∷ come.rest)) come.begun (subst (λ js. AreAnswers made here g.answers js) come.items x.1) in
+        let answers : AreTold p made r.own come.answers (item_of p here come.item) = subst (λ a. AreAnswers made r.own here a (come.item ∷ come.rest)) come.begun (subst (λ js. AreAnswers made r.own here g.answers js) come.items x.1) in
         let items = subst (ItemsServe p typed made n r) come.items x.0 in
         let ready = subst (ItemsFine p n r) come.items (had_fine p n r s f fs g.items g.answers st.had fine) in
         let law = item_may come.item come.rest ready items in
@@ -284,7 +289,7 @@ module _ (p : Program) (typed : HasTypes p) where
     pub left_serves : (v : Option Value) → IsLeft p s f fs v → ResultServes p typed made n r v
     left_serves _ (AtEnd next e) = λ t is. absurd (let no : true ≡ false = sym (ap is_some is) ∙ sym k.function ∙ e in cc no)
     left_serves _ (AtResult v is next) = (next_serves (Gives v ∷ is) next).0
-    left_serves _ (Nowhere vs e none) = absurd (subst (λ a. AreAnswers made here a []) e (subst (λ js. AreAnswers made here f.answers js) none k.answers))
+    left_serves _ (Nowhere vs e none) = absurd (subst (λ a. AreAnswers made r.own here a []) e (subst (λ js. AreAnswers made r.own here f.answers js) none k.answers))
 
   -- The frame of a call.
 
@@ -371,6 +376,13 @@ module _ (p : Program) (typed : HasTypes p) where
         by false false false (v ∷ us) h rest more ref free =
             let l = one v us (Place h.0) rest h.1 in
             hand_is p C simple (whole p.types (length fs) x t v) [] (handed p.types (length fs) x ps (us ++ rest) copy) (cut_is C (variable_shape p.types t) (content_at p.types (length fs) x v) (content_is p C simple (length fs) fs s vars store v)) tt (subst (λ z. HandedFree ps z copy) (sym l) (more l copy free))
+
+    pub called_copies : (following : List ℕ) (y : Routine) (vs : List Value) → HoldCopies p y.own (called_frame p following y vs fs s).variables
+    called_copies following y vs =
+        let locals = map (local_part p following) (locals_of y.own) in
+        let copy = length (parameters_of y.own) + length locals in
+        let us = arguments_in (has_self y.own) vs in
+        handed_copies p (length fs) x y.own us copy (locals ++ (let h = handed p.types (length fs) x (parameters_of y.own) us copy in h.copies))
 
     pub called_free : (following : List ℕ) (y : Routine) (vs : List Value) → AreFreeFor p (made_in s) (parameters_of y.own) (arguments_in (has_self y.own) vs) → Given p w (parameters_of y.own) (arguments_in (has_self y.own) vs) → ContentIs C (called_frame p following y vs fs s).variables
     called_free following y vs free given =

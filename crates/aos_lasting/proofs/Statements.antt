@@ -91,10 +91,10 @@ module _ (p : Program) (typed : HasTypes p) (made : ℕ → Option Made) (n : �
     value_then : (e : Expr) (t : TType) (k : Value → Doing After) → IsOf p own e t → Uses (expr_uses p e) → ((v : Value) → Serves p made t v → Ok (k v)) → Ok (bind (value_of p here e) k)
     value_then e t k h us f = law_bind p typed made n r here is_self_of x S (λ u h. h) (Serves p made t) AfterServes (value_of p here e) k (value_law p typed made n r here is_self_of x S (λ u h. h) e t h us) f
 
-    place_then : (q : Place) (t : TType) (k : Spot → Doing After) → IsPlaceOf p own q t → Uses (place_uses p q) → ((s : Spot) → IsAt p made here.self s (target p q) → Ok (k s)) → Ok (bind (place_of p here q) k)
-    place_then q t k h us f = law_bind p typed made n r here is_self_of x S (λ u h. h) (λ s. IsAt p made here.self s (target p q)) AfterServes (place_of p here q) k (place_law p typed made n r here is_self_of x S (λ u h. h) q t h us) f
+    place_then : (q : Place) (t : TType) (k : Spot → Doing After) → IsPlaceOf p own q t → Uses (place_uses p q) → ((s : Spot) → IsAt p made own here.self s (target p q) → Ok (k s)) → Ok (bind (place_of p here q) k)
+    place_then q t k h us f = law_bind p typed made n r here is_self_of x S (λ u h. h) (λ s. IsAt p made own here.self s (target p q)) AfterServes (place_of p here q) k (place_law p typed made n r here is_self_of x S (λ u h. h) q t h us) f
 
-    rows_then : (a : Rows) (k : Found → Doing After) → AreRows p own a 1 Char → Uses (rows_uses p a) → ((y : Found) → IsAt p made here.self y.place (rows_target p a) → Ok (k y)) → Ok (bind (rows_of p here a) k)
+    rows_then : (a : Rows) (k : Found → Doing After) → AreRows p own a 1 Char → Uses (rows_uses p a) → ((y : Found) → IsAt p made own here.self y.place (rows_target p a) → Ok (k y)) → Ok (bind (rows_of p here a) k)
     rows_then a k h us f =
         law_bind p typed made n r here is_self_of x S (λ u h. h) (RowsAt p typed made n r here is_self_of x S (λ u h. h) (rows_target p a) 1) AfterServes (rows_of p here a) k (rows_law p typed made n r here is_self_of x S (λ u h. h) a 1 Char h us) (λ y at. f y at.0)
 

@@ -13,10 +13,8 @@ use Rattle.aos_typed.specs.Store.{Store, made_in}
 use Rattle.aos_typed.specs.Value.{Value}
 use Rattle.aos_typed.specs.Source.{all_rooted}
 use Rattle.aos_guard.specs.declared.uses.Variable.TheVariants as variable
-use Rattle.aos_guard.specs.Guarded.{Each, IsGuarded, Lets, is_of_module}
-use Rattle.aos_guard.specs.Uses.{expr_uses}
-use Rattle.aos_guard.specs.declared.uses.Use.{Use}
-use Rattle.aos_guard.specs.declared.uses.Use.TheVariants.{Reads}
+use Rattle.aos_guard.specs.Awaits.{IsLocal}
+use Rattle.aos_guard.specs.Guarded.{IsGuarded, is_of_module}
 use Rattle.aos_lasting.specs.Spots.{HasFields, field_of}
 
 -- part k of what stands below a root
@@ -39,15 +37,6 @@ module _ (p : Program) where
     pub constants : (m k : ℕ) → is_of_module p m k ≡ false → IsGuarded p (variable.Module m k) → IsSame s t (root.Module m) k
     pub guarded : AreSame l s t
 
--- it reads no open array that is passed by value, of which no use tells that it is copied
-abbrev pub IsClosed : Use → Type 0
-IsClosed (Reads t) = (k : ℕ) → t.of ≡ variable.Opened k → ⊥
-IsClosed u = Unit {0}
-
-module _ (p : Program) where
-  -- a condition is local, and reads no such array
-  abbrev pub Looks : Condition → Use → Type 0
-  Looks d u = Lets p d.home d.own u × IsClosed u
-
+  -- a condition is local, as is told of it by its number
   abbrev pub IsLocalAt : LockName → ℕ → Type 0
-  IsLocalAt l c = (d : Condition) → slice_get (conditions p) c ≡ Some d → Each (Looks d) (expr_uses p d.expression)
+  IsLocalAt l c = (d : Condition) → slice_get (conditions p) c ≡ Some d → IsLocal p d

@@ -1,5 +1,5 @@
 -- Which variables the places of a running program are parts of, by what objects are made as.
-use Rattle.std.specs.Prelude.{◌≡◌, ◌⊎◌, ℕ, suc, List, [], ◌∷◌, drop, Bool, true, IsTrue, Option, Some, if◌then◌else◌}
+use Rattle.std.specs.Prelude.{◌≡◌, ◌⊎◌, ℕ, suc, List, [], ◌∷◌, drop, Bool, true, false, IsTrue, Option, Some, if◌then◌else◌, slice_get}
 use Rattle.aos_base.specs.declared.place.Root.{Root}
 use Rattle.aos_base.specs.declared.place.Root.TheVariants as root
 use Rattle.aos_base.specs.Question.{Reads, Calls, Makes, ComparesTexts, Lengths, Sizes, Places, Opens, Tests, Asks, Val, Traps}
@@ -14,16 +14,19 @@ use Rattle.aos_typed.specs.Handed.{head}
 use Rattle.aos_typed.specs.Numbers.{id_of, id_of_made}
 use Rattle.aos_typed.specs.Open.{open_dimensions}
 use Rattle.aos_typed.specs.Program.{Parameter, Procedure, Program}
-use Rattle.aos_typed.specs.Routines.{Routine, has_self, result_of, routine_of, routines}
+use Rattle.aos_typed.specs.Routines.{Routine, has_self, parameters_of, result_of, routine_of, routines}
 use Rattle.aos_typed.specs.Spot.{Spot}
 use Rattle.aos_typed.specs.Value.{Value, Int, Flag, Char, Set, Object, Callable, Place}
-use Rattle.aos_typed.specs.Meaning.{Question, Doing, instance_in, object_in, on_instance, procedure_in}
+use Rattle.aos_typed.specs.Meaning.{Question, Doing, instance_in, object_in, on_instance, place_in, procedure_in}
 use Rattle.aos_typed.specs.Source.{arguments_in, object_place}
 use Rattle.aos_typed.specs.WellTyped.{is_reference, target}
 use Rattle.aos_guard.specs.declared.uses.Target.{Target}
 use Rattle.aos_guard.specs.declared.uses.Variable.{Variable}
 use Rattle.aos_guard.specs.declared.uses.Variable.TheVariants as variable
-use Rattle.aos_guard.specs.Guarded.{IsGuarded}
+use Rattle.aos_guard.specs.Guarded.{IsGuarded, is_by_value}
+
+abbrev pub InFrame : Root → Type 0
+InFrame r = (d : ℕ) × (r ≡ root.Frame d)
 
 -- a way begins with this part, or leads to the whole
 abbrev pub Begins : ℕ → List ℕ → Type 0
@@ -43,6 +46,17 @@ module _ (p : Program) where
   abbrev pub HasFields : Made → Type 0
   HasFields m = is_object (row_of p.types (id_of_made m.type)) ≡ true
 
+  -- a procedure's open array parameter by value, of which each call makes a copy
+  pub record HasCopy (own : Option Procedure) (k : ℕ) : Type 0 where
+    pub parameter : Parameter
+    pub there : slice_get (parameters_of own) k ≡ Some parameter
+    pub is_opened : is_open (row_of p.types (id_of parameter.of)) ≡ true
+    pub by_value : parameter.by_reference ≡ false
+
+  -- what the cell of such a parameter holds is a place in a frame: that of the copy
+  abbrev pub IsCopied : Option Procedure → (path : List ℕ) → Value → Type 0
+  IsCopied own path v = (k : ℕ) → HasCopy own k → path ≡ k ∷ 0 ∷ [] → InFrame (place_in v).root
+
   module _ (made : ℕ → Option Made) where
     -- what stands there is of no guarded variable, in whole or in part
     abbrev pub IsFreeAt : Root → List ℕ → Type 0
@@ -59,20 +73,6 @@ module _ (p : Program) where
     IsFree (Set x) = Unit {0}
     IsFree (Object o) = Unit {0}
     IsFree (Callable q o) = Unit {0}
-
-    -- a place is the variable that a designator names, or a part of it; of a parameter or of what a pointer leads to it is no guarded one
-    abbrev pub IsOf : (self : ℕ) → Spot → (through_self : Bool) → Variable → Type 0
-    IsOf self s own (variable.Module m k) = (s.root ≡ root.Module m) × StartsWith k s.path
-    IsOf self s own (variable.Field u k) =
-        (o : ℕ) × (m : Made) × (s.root ≡ root.Object (suc o)) × (made (suc o) ≡ Some m) × HasFields m × (field_of m k ≡ variable.Field u k)
-        × StartsWith k s.path × (IsTrue own → suc o ≡ self)
-    IsOf self s own variable.Local = (d : ℕ) × (s.root ≡ root.Frame d)
-    IsOf self s own variable.Passed = IsFreeAt s.root s.path
-    IsOf self s own (variable.Opened k) = IsFreeAt s.root s.path
-    IsOf self s own variable.Heap = IsFreeAt s.root s.path
-
-    abbrev pub IsAt : (self : ℕ) → Spot → Target → Type 0
-    IsAt self s t = IsOf self s t.through_self t.of
 
     -- Values of a type: an object whose type extends the one to which it leads, or NIL; a procedure with the formals of the type, or none; and
     -- no place of a guarded variable.
@@ -91,26 +91,6 @@ module _ (p : Program) where
       pub calls : (q : Procedure) → pattern_of p t ≡ Some q → (procedure_in v ≡ 0) ⊎ StandsFor q v
       pub free : IsFree v
 
-    -- an answer is true; a length is no place
-    abbrev pub IsTold : Question → Value → Type 0
-    IsTold (Reads t s) v = Serves t v
-    IsTold (Calls how n vs) v = (r : Routine) (t : TType) → by_number n (routines p) ≡ Some r → result_of r.own ≡ Some t → Serves t v
-    IsTold (Opens u) v = (m : Made) × (made (object_in u) ≡ Some m) × (v ≡ object_place (object_in u) (Some m))
-    IsTold (Tests u t) v = (m : Made) × (made (object_in u) ≡ Some m) × (v ≡ Flag (comes_to p.types (id_of_made m.type) (id_of_made t)))
-    IsTold (Places s) v = IsFree v
-    IsTold (Lengths s) v = IsFree v
-    IsTold (Sizes u d) v = IsFree v
-    IsTold (ComparesTexts c a i b j) v = (x : Bool) × (v ≡ Flag x)
-    IsTold (Makes t vs) v = IsFree v
-    IsTold q v = Unit {0}
-
-    -- these answers are
-    abbrev pub AreTold : {A : Type 0} → List Value → Doing A → Type 0
-    AreTold [] d = Unit {0}
-    AreTold (v ∷ vs) (Val a) = Unit {0}
-    AreTold (v ∷ vs) (Traps n c) = Unit {0}
-    AreTold (v ∷ vs) (Asks q k) = IsTold q v × AreTold vs (k v)
-
     -- no VAR parameter of these is handed a place of a guarded variable
     abbrev pub AreFreeFor : List Parameter → List Value → Type 0
     AreFreeFor [] vs = Unit {0}
@@ -118,3 +98,40 @@ module _ (p : Program) where
         let t = id_of a.of in
         (a.by_reference ≡ true → IsFree (head vs))
         × AreFreeFor as' (drop (if is_open (row_of p.types t) then suc (open_dimensions p.types t) else 1) vs)
+
+    -- In a frame of this procedure, or of none.
+    module _ (own : Option Procedure) where
+      -- a place is the variable that a designator names, or a part of it; of a parameter or of what a pointer leads to it is no guarded one,
+      -- and of an open array that is passed by value it is one in a frame
+      abbrev pub IsOf : (self : ℕ) → Spot → (through_self : Bool) → Variable → Type 0
+      IsOf self s through (variable.Module m k) = (s.root ≡ root.Module m) × StartsWith k s.path
+      IsOf self s through (variable.Field u k) =
+          (o : ℕ) × (m : Made) × (s.root ≡ root.Object (suc o)) × (made (suc o) ≡ Some m) × HasFields m × (field_of m k ≡ variable.Field u k)
+          × StartsWith k s.path × (IsTrue through → suc o ≡ self)
+      IsOf self s through variable.Local = InFrame s.root
+      IsOf self s through variable.Passed = IsFreeAt s.root s.path
+      IsOf self s through (variable.Opened k) = IsFreeAt s.root s.path × (IsTrue (is_by_value own k) → InFrame s.root)
+      IsOf self s through variable.Heap = IsFreeAt s.root s.path
+
+      abbrev pub IsAt : (self : ℕ) → Spot → Target → Type 0
+      IsAt self s t = IsOf self s t.through_self t.of
+
+      -- an answer is true; a length is no place
+      abbrev pub IsTold : Question → Value → Type 0
+      IsTold (Reads t s) v = Serves t v
+      IsTold (Calls how n vs) v = (r : Routine) (t : TType) → by_number n (routines p) ≡ Some r → result_of r.own ≡ Some t → Serves t v
+      IsTold (Opens u) v = (m : Made) × (made (object_in u) ≡ Some m) × (v ≡ object_place (object_in u) (Some m))
+      IsTold (Tests u t) v = (m : Made) × (made (object_in u) ≡ Some m) × (v ≡ Flag (comes_to p.types (id_of_made m.type) (id_of_made t)))
+      IsTold (Places s) v = IsFree v × IsCopied own s.path v
+      IsTold (Lengths s) v = IsFree v
+      IsTold (Sizes u d) v = IsFree v
+      IsTold (ComparesTexts c a i b j) v = (x : Bool) × (v ≡ Flag x)
+      IsTold (Makes t vs) v = IsFree v
+      IsTold q v = Unit {0}
+
+      -- these answers are
+      abbrev pub AreTold : {A : Type 0} → List Value → Doing A → Type 0
+      AreTold [] d = Unit {0}
+      AreTold (v ∷ vs) (Val a) = Unit {0}
+      AreTold (v ∷ vs) (Traps n c) = Unit {0}
+      AreTold (v ∷ vs) (Asks q k) = IsTold q v × AreTold vs (k v)

@@ -1,6 +1,8 @@
 //! Laws alone: what a condition that held still says when its waiter goes on. Its functions do no work; their contracts are the laws.
 #![tactic(auto)]
 
+pub mod example;
+
 ghost use Rattle.aos_typed.specs.Program.{Program};
 ghost use Rattle.aos_typed.specs.WellTyped.{IsWellTyped};
 ghost use Rattle.aos_code.specs.declared.image.Image.{Image};

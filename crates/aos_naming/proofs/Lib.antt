@@ -9,3 +9,6 @@ pub mod Keeping
 pub mod Traced
 pub mod Tidying
 pub mod Named
+pub mod Alike
+pub mod Beginning
+pub mod Hiding

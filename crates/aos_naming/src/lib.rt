@@ -1,17 +1,14 @@
 //! Laws alone: who names an object while its quiet initializer runs. Its functions do no work; their contracts are the laws.
 #![tactic(auto)]
 
-ghost use Rattle.std.specs.Prelude.{ℕ, List};
 ghost use Rattle.aos_typed.specs.Program.{Program};
-ghost use Rattle.aos_typed.specs.Routines.{Routine};
-ghost use Rattle.aos_typed.specs.Store.{Store};
-ghost use Rattle.aos_typed.specs.Meaning.{Item};
-ghost use Rattle.aos_typed.specs.Source.{Frame};
-ghost use Rattle.aos_handover.specs.Kinds.{IsNext};
-ghost use Rattle.aos_naming.specs.Items.{ItemsFine};
+ghost use Rattle.aos_typed.specs.WellTyped.{IsWellTyped};
+ghost use Rattle.aos_code.specs.declared.image.Image.{Image};
+ghost use Rattle.aos_sim.specs.Shows.{IsCodeOf};
+ghost use Rattle.aos_naming.specs.Hidden.{NewAreHidden};
 
-/// The items that are next in a frame's turn are such as remained before: well typed, with uses that each text may make.
-pub fn items_stay_fine()
-    ensures { (p : Program) (n : ℕ) (r : Routine) (s : Store) (f : Frame) (fs : List Frame) (is : List Item) →
-        IsNext p s f fs is → ItemsFine p n r f.items → ItemsFine p n r is }
+/// In every state of every execution of a well-typed program of which an image has the code: while an initializer is about to be called on a
+/// new object, or a quiet one runs on it, neither the store nor any other activity names the object.
+pub fn new_objects_are_hidden()
+    ensures { (p : Program) (image : Image) → IsWellTyped p → IsCodeOf p image → NewAreHidden p }
 {}
