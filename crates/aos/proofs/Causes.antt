@@ -15,6 +15,7 @@ use Rattle.aos_script.specs.Listing.{IsScript, choices_of}
 use Rattle.aos_script.specs.Refusals.{IsRefused as IsRefusedScript}
 use Rattle.aos_symbols.specs.Outcome.{went, refused as refused_by}
 use Rattle.aos_compile.specs.Elaborates.{ComesTo, names_of}
+use Rattle.aos_lasting.specs.Lasts.{Lasts}
 use Rattle.aos.specs.declared.answer.Answer.{Answer}
 use Rattle.aos.specs.Call.{ShelfUse}
 use Rattle.aos.specs.Words.{name_of}
@@ -32,9 +33,9 @@ module _ (words : List (List ℕ)) (shelf : ShelfUse) where
       (subst (λ x. Cause words shelf status out x) (sym is.err_is) h))
 
   -- the run of an image that shows the texts' program
-  pub ran_causes : (files texts : List (List ℕ)) (p : Program) (image : Image) (a : Answer) → ComesTo texts (went p) → Shows p image → names_in image ≡ names_of p → ShowsRun image a → Runs words shelf files texts → Causes words shelf a
+  pub ran_causes : (files texts : List (List ℕ)) (p : Program) (image : Image) (a : Answer) → ComesTo texts (went p) → Shows p image → Lasts p → names_in image ≡ names_of p → ShowsRun image a → Runs words shelf files texts → Causes words shelf a
   unfolding seen_of image_seen_of
-  ran_causes files texts p image a comes shows names run runs =
+  ran_causes files texts p image a comes shows lasts names run runs =
       let o = run.observation in
       let seen : Seen p o = record {
         schedule = run.seen.schedule;
@@ -42,12 +43,12 @@ module _ (words : List (List ℕ)) (shelf : ShelfUse) where
         over = run.seen.over;
         seen = run.seen.seen ∙ shows.observation default_budget run.seen.schedule;
       } in
-      causes_along a o.status o.output (report (names_of p) default_budget o) (record { status_is = run.status; out_is = run.out; err_is = run.err ∙ ap (λ ns. report ns default_budget o) names }) (ran p o runs comes seen)
+      causes_along a o.status o.output (report (names_of p) default_budget o) (record { status_is = run.status; out_is = run.out; err_is = run.err ∙ ap (λ ns. report ns default_budget o) names }) (ran p o runs comes seen lasts)
 
   -- and its run by a script
-  pub replay_causes : (listing : List ℕ) (files texts : List (List ℕ)) (s : Script) (p : Program) (image : Image) (a : Answer) → IsScript listing s → ComesTo texts (went p) → Shows p image → names_in image ≡ names_of p → ShowsReplayOf image s a → RunsBy words shelf listing files texts → Causes words shelf a
+  pub replay_causes : (listing : List ℕ) (files texts : List (List ℕ)) (s : Script) (p : Program) (image : Image) (a : Answer) → IsScript listing s → ComesTo texts (went p) → Shows p image → Lasts p → names_in image ≡ names_of p → ShowsReplayOf image s a → RunsBy words shelf listing files texts → Causes words shelf a
   unfolding seen_of image_seen_of
-  replay_causes listing files texts s p image a read comes shows names run runs =
+  replay_causes listing files texts s p image a read comes shows lasts names run runs =
       let same : image_replay_of image s ≡ replay_of p s = shows.observation s.budget (choices_of s) in
       causes_along a (replay_of p s).status (replay_of p s).output (replay_report (names_of p) s (replay_of p s))
       (record {
@@ -55,7 +56,7 @@ module _ (words : List (List ℕ)) (shelf : ShelfUse) where
         out_is = run.out ∙ ap (λ (o : Observation). o.output) same;
         err_is = run.err ∙ (λ i. replay_report (names i) s (same i));
       })
-      (ran_by s p runs read comes)
+      (ran_by s p runs read comes lasts)
 
   -- the refusal of the texts
   pub refused_causes : (files texts : List (List ℕ)) (r : Refusal) (a : Answer) → ComesTo texts (refused_by r) → Takes words shelf files texts → IsAnswer a 1 [] (refusal_text (name_of files r.file) r.rule r.pos) → Causes words shelf a

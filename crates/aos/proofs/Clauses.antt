@@ -24,13 +24,14 @@ use Rattle.aos_symbols.specs.Outcome.{Outcome as Coming, went, refused as refuse
 use Rattle.aos_compile.specs.Elaborates.{ComesTo, IsAccepted, names_of}
 use Rattle.aos_compile.proofs.OneReading.{one_outcome}
 use Rattle.aos.specs.declared.answer.Answer.{Answer}
+use Rattle.aos_lasting.specs.Lasts.{Lasts}
 use Rattle.aos.specs.Call.{ShelfUse, Call, Tells, ShelfFailed, GotWhole, GotNothing, SinksWorked, IsUndisturbed}
 use Rattle.aos.specs.Words.{Command, Run, Replay, command_of, Asks, wanted_files, name_of}
 use Rattle.aos.specs.Fetched.{Fetched, Texts, NoFile, LongFile, Fetches}
 use Rattle.aos.specs.Report.{report, replay_report}
 use Rattle.aos.specs.Seen.{Seen, default_budget, seen_of, replay_of}
 use Rattle.aos.specs.Cause.{Runs, RunsBy, Takes, alone, by_script, Cause, wrong_words, unread, absent, too_long, bad_script, refused, ran, ran_by, Answered, PutInPart, out_failed, err_failed, AnsweredInPart}
-use Rattle.aos.specs.Promises.{IsRunStatus, IsReplayStatus, IsAbsentOrRefused, is_absent, is_refused, IsRunnable, IsReplayable, IsRefusable, ShowsTexts, ShowsReplay, ShowsRefusal, IsTooLong, IsNoScript, HasEnded, HasDied, in_run, in_replay, Promises}
+use Rattle.aos.specs.Promises.{IsRunStatus, IsReplayStatus, IsAbsentOrRefused, is_absent, is_refused, IsRunnable, IsReplayable, IsRefusable, ShowsTexts, ShowsReplay, ShowsRefusal, IsTooLong, IsNoScript, HasEnded, HasDied, in_run, in_replay, IsToRun, to_run, to_replay, Promises}
 use Rattle.aos.specs.Shown.{Causes, IsWhole, IsStopped}
 
 -- Numbers that differ
@@ -194,8 +195,8 @@ module _ (words : List (List ℕ)) (shelf : ShelfUse) where
   cause_status (too_long h w n) = (differ 6 7 refl, differ 6 8 refl)
   cause_status (bad_script e k n) = (differ 10 7 refl, differ 10 8 refl)
   cause_status (refused r k n) = (differ 1 7 refl, differ 1 8 refl)
-  cause_status (ran p o k e s) = (no_run o.status 7 (run_status p o s) refl refl refl refl, no_run o.status 8 (run_status p o s) refl refl refl refl)
-  cause_status (ran_by s p k r e) = (no_replay p s 7 refl refl refl refl refl, no_replay p s 8 refl refl refl refl refl)
+  cause_status (ran p o k e s lasts) = (no_run o.status 7 (run_status p o s) refl refl refl refl, no_run o.status 8 (run_status p o s) refl refl refl refl)
+  cause_status (ran_by s p k r e lasts) = (no_replay p s 7 refl refl refl refl refl, no_replay p s 8 refl refl refl refl refl)
 
   two_only : {status : ℕ} {out err : List ℕ} → Cause words shelf status out err → status ≡ 2 → command_of words ≡ None
   two_only (wrong_words h) e = h
@@ -204,8 +205,8 @@ module _ (words : List (List ℕ)) (shelf : ShelfUse) where
   two_only (too_long h w n) e = differ 6 2 refl e
   two_only (bad_script x k n) e = differ 10 2 refl e
   two_only (refused r k n) e = differ 1 2 refl e
-  two_only (ran p o k el s) e = no_run o.status 2 (run_status p o s) refl refl refl refl e
-  two_only (ran_by s p k r el) e = no_replay p s 2 refl refl refl refl refl e
+  two_only (ran p o k el s lasts) e = no_run o.status 2 (run_status p o s) refl refl refl refl e
+  two_only (ran_by s p k r el lasts) e = no_replay p s 2 refl refl refl refl refl e
 
   two_if : {status : ℕ} {out err : List ℕ} → Cause words shelf status out err → command_of words ≡ None → status ≡ 2
   two_if (wrong_words h) n = refl
@@ -214,8 +215,8 @@ module _ (words : List (List ℕ)) (shelf : ShelfUse) where
   two_if (too_long {c} h w k) n = no_command words c n h
   two_if (bad_script {listing} {files} x k r) n = no_command words (Replay k.script files) n k.asks
   two_if (refused r k x) n = let t = of_takes k in no_command words t.1.command n t.1.asks
-  two_if (ran {files} p o k el s) n = no_command words (Run files) n k.asks
-  two_if (ran_by {listing} {files} s p k r el) n = no_command words (Replay k.script files) n k.asks
+  two_if (ran {files} p o k el s lasts) n = no_command words (Run files) n k.asks
+  two_if (ran_by {listing} {files} s p k r el lasts) n = no_command words (Replay k.script files) n k.asks
 
 module _ (call : Call) where
   abbrev Of : ℕ → List ℕ → List ℕ → Type 0
@@ -229,8 +230,8 @@ module _ (call : Call) where
   one_only (too_long h w n) e = differ 6 1 refl e
   one_only (bad_script x k n) e = differ 10 1 refl e
   one_only (refused {files} {texts} r k n) e = is_refused k (never_accepted texts r n)
-  one_only (ran p o k el s) e = no_run o.status 1 (run_status p o s) refl refl refl refl e
-  one_only (ran_by s p k r el) e = no_replay p s 1 refl refl refl refl refl e
+  one_only (ran p o k el s lasts) e = no_run o.status 1 (run_status p o s) refl refl refl refl e
+  one_only (ran_by s p k r el lasts) e = no_replay p s 1 refl refl refl refl refl e
 
   -- 4
   four_only : {status : ℕ} {out err : List ℕ} → Of status out err → call.status ≡ status → GotWhole call.out out → GotWhole call.err err → status ≡ 4 → HasDied call
@@ -240,9 +241,9 @@ module _ (call : Call) where
   four_only (too_long h w n) same on_out on_err e = differ 6 4 refl e
   four_only (bad_script x k n) same on_out on_err e = differ 10 4 refl e
   four_only (refused r k n) same on_out on_err e = differ 1 4 refl e
-  four_only (ran p o k comes s) same on_out on_err e =
+  four_only (ran p o k comes s lasts) same on_out on_err e =
       in_run k (record { program = p; comes = comes; observation = o; seen = s; status = same; on_out = on_out; on_err = on_err }) (dead_of p o s e)
-  four_only (ran_by s p k r comes) same on_out on_err e = in_replay s p k r comes (status_is_dead p s.budget (choices_of s) e)
+  four_only (ran_by s p k r comes lasts) same on_out on_err e = in_replay s p k r comes (status_is_dead p s.budget (choices_of s) e)
 
   -- 6
   six_only : {status : ℕ} {out err : List ℕ} → Of status out err → status ≡ 6 → ShelfFailed call.shelf ⊎ IsTooLong call
@@ -252,8 +253,8 @@ module _ (call : Call) where
   six_only (too_long {c} {w} h v n) e = inr (record { command = c; file = w.file; most = w.most; asks = h; long = n })
   six_only (bad_script x k n) e = differ 10 6 refl e
   six_only (refused r k n) e = differ 1 6 refl e
-  six_only (ran p o k el s) e = no_run o.status 6 (run_status p o s) refl refl refl refl e
-  six_only (ran_by s p k r el) e = no_replay p s 6 refl refl refl refl refl e
+  six_only (ran p o k el s lasts) e = no_run o.status 6 (run_status p o s) refl refl refl refl e
+  six_only (ran_by s p k r el lasts) e = no_replay p s 6 refl refl refl refl refl e
 
   -- 9
   nine_only : {status : ℕ} {out err : List ℕ} → Of status out err → status ≡ 9 → HasEnded call
@@ -263,8 +264,8 @@ module _ (call : Call) where
   nine_only (too_long h w n) e = differ 6 9 refl e
   nine_only (bad_script x k n) e = differ 10 9 refl e
   nine_only (refused r k n) e = differ 1 9 refl e
-  nine_only (ran p o k el s) e = no_run o.status 9 (run_status p o s) refl refl refl refl e
-  nine_only (ran_by {listing} {files} {texts} s p k r comes) e =
+  nine_only (ran p o k el s lasts) e = no_run o.status 9 (run_status p o s) refl refl refl refl e
+  nine_only (ran_by {listing} {files} {texts} s p k r comes lasts) e =
       elim (replay_status p s) [
         | inl x ↦ no_run (replay_of p s).status 9 x refl refl refl refl e
         | inr x ↦ record { listing = listing; files = files; texts = texts; script = s; program = p; runs = k; read = r; comes = comes; going = x.1 }
@@ -278,8 +279,8 @@ module _ (call : Call) where
   ten_only (too_long h w n) e = differ 6 10 refl e
   ten_only (bad_script {listing} {files} {texts} x k n) e = record { listing = listing; files = files; texts = texts; error = x; runs = k; refused = n }
   ten_only (refused r k n) e = differ 1 10 refl e
-  ten_only (ran p o k el s) e = no_run o.status 10 (run_status p o s) refl refl refl refl e
-  ten_only (ran_by s p k r el) e = no_replay p s 10 refl refl refl refl refl e
+  ten_only (ran p o k el s lasts) e = no_run o.status 10 (run_status p o s) refl refl refl refl e
+  ten_only (ran_by s p k r el lasts) e = no_replay p s 10 refl refl refl refl refl e
 
 -- Where the shelf tells its texts and didn't fail
 
@@ -337,8 +338,8 @@ module _ (words : List (List ℕ)) (shelf : ShelfUse) (tells : Tells shelf) wher
     if_absent (too_long {c} {w} h v n) k = not_both_lacks (record { command = c; asks = h; comes = n }) k
     if_absent (bad_script x h r) k = not_absent k (of_replay words shelf h)
     if_absent (refused r h n) k = not_absent k (of_takes words shelf h).1
-    if_absent (ran p o h el s) k = not_absent k (of_run words shelf h)
-    if_absent (ran_by s p h r el) k = not_absent k (of_replay words shelf h)
+    if_absent (ran p o h el s lasts) k = not_absent k (of_run words shelf h)
+    if_absent (ran_by s p h r el lasts) k = not_absent k (of_replay words shelf h)
 
     if_long : {status : ℕ} {out err file : List ℕ} {most : ℕ} → Cause words shelf status out err → Comes words shelf (LongFile file most) → status ≡ 6
     if_long (wrong_words n) k = no_command words k.command n k.asks
@@ -347,14 +348,14 @@ module _ (words : List (List ℕ)) (shelf : ShelfUse) (tells : Tells shelf) wher
     if_long (too_long h w n) k = refl
     if_long (bad_script x h r) k = not_long k (of_replay words shelf h)
     if_long (refused r h n) k = not_long k (of_takes words shelf h).1
-    if_long (ran p o h el s) k = not_long k (of_run words shelf h)
-    if_long (ran_by s p h r el) k = not_long k (of_replay words shelf h)
+    if_long (ran p o h el s lasts) k = not_long k (of_run words shelf h)
+    if_long (ran_by s p h r el lasts) k = not_long k (of_replay words shelf h)
 
     -- of the causes only these are left where all files are had, and a listing is a script
     if_takes : {status : ℕ} {out err : List ℕ} {files texts : List (List ℕ)} (P : ℕ → List ℕ → List ℕ → Type 0) → Cause words shelf status out err → Takes words shelf files texts →
         ((r : Refusal) → ComesTo texts (refused_by r) → P 1 [] (refusal_text (name_of files r.file) r.rule r.pos))
-        → ((files' texts' : List (List ℕ)) (p : Program) (o : Observation) → Runs words shelf files' texts' → ComesTo texts (went p) → Seen p o → P o.status o.output (report (names_of p) default_budget o))
-        → ((listing : List ℕ) (files' texts' : List (List ℕ)) (s : Script) (p : Program) → RunsBy words shelf listing files' texts' → IsScript listing s → ComesTo texts (went p) → P (replay_of p s).status (replay_of p s).output (replay_report (names_of p) s (replay_of p s)))
+        → ((files' texts' : List (List ℕ)) (p : Program) (o : Observation) → Runs words shelf files' texts' → ComesTo texts (went p) → Seen p o → Lasts p → P o.status o.output (report (names_of p) default_budget o))
+        → ((listing : List ℕ) (files' texts' : List (List ℕ)) (s : Script) (p : Program) → RunsBy words shelf listing files' texts' → IsScript listing s → ComesTo texts (went p) → Lasts p → P (replay_of p s).status (replay_of p s).output (replay_report (names_of p) s (replay_of p s)))
         → P status out err
     if_takes P (wrong_words n) k not_one run by = let t = of_takes words shelf k in no_command words t.1.command n t.1.asks
     if_takes P (unread h w b f) k not_one run by = absurd (calm f)
@@ -364,8 +365,8 @@ module _ (words : List (List ℕ)) (shelf : ShelfUse) (tells : Tells shelf) wher
     if_takes P (refused r h comes) k not_one run by =
         let e = same_takes h k in
         subst (λ fs. P 1 [] (refusal_text (name_of fs r.file) r.rule r.pos)) (sym e.0) (not_one r (subst (λ ts. ComesTo ts (refused_by r)) e.1 comes))
-    if_takes P (ran {files} {texts} p o h comes s) k not_one run by = run files texts p o h (subst (λ ts. ComesTo ts (went p)) (same_takes (alone h) k).1 comes) s
-    if_takes P (ran_by {listing} {files} {texts} s p h read comes) k not_one run by = by listing files texts s p h read (subst (λ ts. ComesTo ts (went p)) (same_takes (by_script s h read) k).1 comes)
+    if_takes P (ran {files} {texts} p o h comes s lasts) k not_one run by = run files texts p o h (subst (λ ts. ComesTo ts (went p)) (same_takes (alone h) k).1 comes) s lasts
+    if_takes P (ran_by {listing} {files} {texts} s p h read comes lasts) k not_one run by = by listing files texts s p h read (subst (λ ts. ComesTo ts (went p)) (same_takes (by_script s h read) k).1 comes) lasts
 
     -- accepted texts are run
     record IsRunOf (texts : List (List ℕ)) (status : ℕ) (out err : List ℕ) : Type 0 where
@@ -376,13 +377,14 @@ module _ (words : List (List ℕ)) (shelf : ShelfUse) (tells : Tells shelf) wher
       pub status_is : status ≡ observation.status
       pub out_is : out ≡ observation.output
       pub err_is : err ≡ report (names_of program) default_budget observation
+      pub lasts : Lasts program
 
     runs_it : {status : ℕ} {out err : List ℕ} {files texts : List (List ℕ)} → Cause words shelf status out err → Runs words shelf files texts → IsAccepted texts → IsRunOf texts status out err
     runs_it {status} {out} {err} {files} {texts} c k ok =
         if_takes (IsRunOf texts) c (alone k)
         (λ r comes. absurd (never_accepted texts r comes ok))
-        (λ files' texts' p o l comes seen. record { program = p; comes = comes; observation = o; seen = seen; status_is = refl; out_is = refl; err_is = refl })
-        (λ listing' files' texts' s p l read comes. run_or_replay words shelf k l)
+        (λ files' texts' p o l comes seen lasts. record { program = p; comes = comes; observation = o; seen = seen; status_is = refl; out_is = refl; err_is = refl; lasts = lasts })
+        (λ listing' files' texts' s p l read comes lasts. run_or_replay words shelf k l)
 
     record IsReplayOf (s : Script) (texts : List (List ℕ)) (status : ℕ) (out err : List ℕ) : Type 0 where
       pub program : Program
@@ -390,13 +392,14 @@ module _ (words : List (List ℕ)) (shelf : ShelfUse) (tells : Tells shelf) wher
       pub status_is : status ≡ (replay_of program s).status
       pub out_is : out ≡ (replay_of program s).output
       pub err_is : err ≡ replay_report (names_of program) s (replay_of program s)
+      pub lasts : Lasts program
 
     replays_it : {status : ℕ} {out err listing : List ℕ} {files texts : List (List ℕ)} (s : Script) → Cause words shelf status out err → RunsBy words shelf listing files texts → IsScript listing s → IsAccepted texts → IsReplayOf s texts status out err
     replays_it {status} {out} {err} {listing} {files} {texts} s c k read ok =
         if_takes (IsReplayOf s texts) c (by_script s k read)
         (λ r comes. absurd (never_accepted texts r comes ok))
-        (λ files' texts' p o l comes seen. run_or_replay words shelf l k)
-        (λ listing' files' texts' s' p l read' comes.
+        (λ files' texts' p o l comes seen lasts. run_or_replay words shelf l k)
+        (λ listing' files' texts' s' p l read' comes lasts.
         let same = same_script s s' k read l read' in
         record {
           program = p;
@@ -404,6 +407,7 @@ module _ (words : List (List ℕ)) (shelf : ShelfUse) (tells : Tells shelf) wher
           status_is = ap (λ z. (replay_of p z).status) same;
           out_is = ap (λ z. (replay_of p z).output) same;
           err_is = ap (λ z. replay_report (names_of p) z (replay_of p z)) same;
+          lasts = lasts;
         })
 
     -- refused texts are told of
@@ -416,8 +420,8 @@ module _ (words : List (List ℕ)) (shelf : ShelfUse) (tells : Tells shelf) wher
     refuses_it {status} {out} {err} {files} {texts} r c k comes =
         if_takes (IsRefusalOf files r) c k
         (λ r' comes'. record { status_is = refl; out_is = refl; err_is = ap (λ (x : Refusal). refusal_text (name_of files x.file) x.rule x.pos) (one_refusal texts r' r comes' comes) })
-        (λ files' texts' p o l comes' seen. absurd (never_accepted texts r comes (record { program = p; comes = comes' })))
-        (λ listing' files' texts' s p l read comes'. absurd (never_accepted texts r comes (record { program = p; comes = comes' })))
+        (λ files' texts' p o l comes' seen lasts. absurd (never_accepted texts r comes (record { program = p; comes = comes' })))
+        (λ listing' files' texts' s p l read comes' lasts. absurd (never_accepted texts r comes (record { program = p; comes = comes' })))
 
 module _ (call : Call) (tells : Tells call.shelf) (calm : ¬ ShelfFailed call.shelf) where
   one_if : {status : ℕ} {out err : List ℕ} → Of call status out err → IsAbsentOrRefused call → status ≡ 1
@@ -425,16 +429,16 @@ module _ (call : Call) (tells : Tells call.shelf) (calm : ¬ ShelfFailed call.sh
   one_if c (is_refused k never) =
       if_takes call.words call.shelf tells calm (λ n out err. n ≡ 1) c k
       (λ r comes. refl)
-      (λ files' texts' p o l comes seen. absurd (never (record { program = p; comes = comes })))
-      (λ listing' files' texts' s p l read comes. absurd (never (record { program = p; comes = comes })))
+      (λ files' texts' p o l comes seen lasts. absurd (never (record { program = p; comes = comes })))
+      (λ listing' files' texts' s p l read comes lasts. absurd (never (record { program = p; comes = comes })))
 
   four_if : {status : ℕ} {out err : List ℕ} → Of call status out err → call.status ≡ status → HasDied call → status ≡ 4
   four_if c same (in_run k shown dead) = sym same ∙ shown.status ∙ four_of shown.program shown.observation shown.seen dead
   four_if c same (in_replay {listing} {files} {texts} s p k read comes dead) =
       if_takes call.words call.shelf tells calm (λ n out err. n ≡ 4) c (by_script s k read)
       (λ r refused'. absurd (never_accepted texts r refused' (record { program = p; comes = comes })))
-      (λ files' texts' q o l comes' seen. run_or_replay call.words call.shelf l k)
-      (λ listing' files' texts' z q l read' comes'.
+      (λ files' texts' q o l comes' seen lasts. run_or_replay call.words call.shelf l k)
+      (λ listing' files' texts' z q l read' comes' lasts.
       subst (λ (x : Program). (replay_of x z).status ≡ 4) (sym (one_program texts q p comes' comes))
       (subst (λ (x : Script). (replay_of p x).status ≡ 4) (sym (same_script call.words call.shelf tells s z k read l read'))
       (dead_status p s.budget (choices_of s) dead)))
@@ -447,8 +451,8 @@ module _ (call : Call) (tells : Tells call.shelf) (calm : ¬ ShelfFailed call.sh
   nine_if c k =
       if_takes call.words call.shelf tells calm (λ n out err. n ≡ 9) c (by_script k.script k.runs k.read)
       (λ r comes. absurd (never_accepted k.texts r comes (record { program = k.program; comes = k.comes })))
-      (λ files' texts' p o l comes seen. run_or_replay call.words call.shelf l k.runs)
-      (λ listing' files' texts' s p l read comes.
+      (λ files' texts' p o l comes seen lasts. run_or_replay call.words call.shelf l k.runs)
+      (λ listing' files' texts' s p l read comes lasts.
       subst (λ (q : Program). (replay_of q s).status ≡ 9) (sym (one_program k.texts p k.program comes k.comes))
       (subst (λ (z : Script). (replay_of k.program z).status ≡ 9) (sym (same_script call.words call.shelf tells k.script s k.runs k.read l read))
       (going_status k.program k.script.budget (choices_of k.script) k.going)))
@@ -460,8 +464,8 @@ module _ (call : Call) (tells : Tells call.shelf) (calm : ¬ ShelfFailed call.sh
   ten_if (too_long {c} {w} h v n) k = not_long call.words call.shelf tells (record { command = c; asks = h; comes = n }) (of_replay call.words call.shelf k.runs)
   ten_if (bad_script x h r) k = refl
   ten_if (refused r t comes) k = no_bad call.words call.shelf tells k.error t k.runs k.refused
-  ten_if (ran p o h comes seen) k = run_or_replay call.words call.shelf h k.runs
-  ten_if (ran_by s p h read comes) k = no_bad call.words call.shelf tells k.error (by_script s h read) k.runs k.refused
+  ten_if (ran p o h comes seen lasts) k = run_or_replay call.words call.shelf h k.runs
+  ten_if (ran_by s p h read comes lasts) k = no_bad call.words call.shelf tells k.error (by_script s h read) k.runs k.refused
 
 -- The promises
 
@@ -491,6 +495,14 @@ module _ (call : Call) (answered : IsUndisturbed call → Answered call) (in_par
         on_out = subst (GotWhole call.out) r.out_is a.on_out;
         on_err = subst (GotWhole call.err) r.err_is a.on_err;
       }
+
+  lasts : (p : Program) → IsToRun call p → IsUndisturbed call → Lasts p
+  lasts p (to_run {texts} k comes) u =
+      let r = runs_it call.words call.shelf k.tells k.worked (answered u).cause k.runs k.accepted in
+      subst Lasts (one_program texts r.program p r.comes comes) r.lasts
+  lasts p (to_replay {texts} s k comes) u =
+      let r = replays_it call.words call.shelf k.tells k.worked s (answered u).cause k.runs k.script k.accepted in
+      subst Lasts (one_program texts r.program p r.comes comes) r.lasts
 
   shows_refusal : (files : List (List ℕ)) (r : Refusal) → IsRefusable call files r → IsUndisturbed call → ShowsRefusal call files r
   shows_refusal files r k u =
@@ -544,6 +556,7 @@ module _ (call : Call) (answered : IsUndisturbed call → Answered call) (in_par
     sink_failed = in_part;
     no_memory = nothing;
     monitors = λ texts p comes. monitors p;
+    conditions = lasts;
   }
 
 -- an answer with its cause keeps them

@@ -11,6 +11,7 @@ use Rattle.aos_script.specs.Listing.{IsScript}
 use Rattle.aos_script.specs.Refusals.{IsRefused as IsRefusedScript}
 use Rattle.aos_symbols.specs.Outcome.{went, refused as refused_by}
 use Rattle.aos_compile.specs.Elaborates.{ComesTo, names_of}
+use Rattle.aos_lasting.specs.Lasts.{Lasts}
 use Rattle.aos.specs.Call.{ShelfUse, SinkUse, Call, ShelfFailed, SinkFailed}
 use Rattle.aos.specs.Call.{GotWhole, GotPart, GotNothing}
 use Rattle.aos.specs.Words.{Words, Command, Run, Replay, command_of, Asks}
@@ -67,13 +68,13 @@ pub data Cause (words : Words) (shelf : ShelfUse) : (status : ℕ) → (out err 
   refused : {files texts : List (List ℕ)} (r : Refusal) → Takes words shelf files texts
       → ComesTo texts (refused_by r)
       → Cause words shelf 1 [] (refusal_text (name_of files r.file) r.rule r.pos)
-  -- the texts have a program, which is run, or run by the script
+  -- the texts have a program, whose local conditions last, and which is run, or run by the script
   ran : {files texts : List (List ℕ)} (p : Program) (o : Observation)
-      → Runs words shelf files texts → ComesTo texts (went p) → Seen p o
+      → Runs words shelf files texts → ComesTo texts (went p) → Seen p o → Lasts p
       → Cause words shelf o.status o.output (report (names_of p) default_budget o)
   ran_by : {listing : List ℕ} {files texts : List (List ℕ)} (s : Script) (p : Program)
       → RunsBy words shelf listing files texts → IsScript listing s → ComesTo texts (went p)
-      → Cause words shelf (replay_of p s).status (replay_of p s).output
+      → Lasts p → Cause words shelf (replay_of p s).status (replay_of p s).output
       (replay_report (names_of p) s (replay_of p s))
 
 -- the status and the texts have a cause, and the sinks got these texts whole

@@ -12,6 +12,7 @@ use Rattle.aos_report.specs.Texts.{refusal_text}
 use Rattle.aos_symbols.specs.Outcome.{went, refused}
 use Rattle.aos_compile.specs.Elaborates.{ComesTo, IsAccepted, names_of}
 use Rattle.aos_sim.specs.Monitors.{HasMonitors}
+use Rattle.aos_lasting.specs.Lasts.{Lasts}
 use Rattle.aos.specs.Call.{Call, Tells, ShelfFailed, GotWhole, GotNothing, SinksWorked}
 use Rattle.aos.specs.Call.{IsUndisturbed}
 use Rattle.aos.specs.Words.{Words, Command, command_of, Asks, wanted_files, name_of}
@@ -106,6 +107,12 @@ module _ (call : Call) where
     pub runs : RunsBy call.words call.shelf listing files texts
     pub refused : IsRefusedScript listing error
 
+  -- this is the program of texts that are to be run, or to be run by a script
+  pub data IsToRun (p : Program) : Type 0 where
+    to_run : {texts : List (List ℕ)} → IsRunnable texts → ComesTo texts (went p) → IsToRun p
+    to_replay : {texts : List (List ℕ)} (s : Script) → IsReplayable s texts → ComesTo texts (went p)
+        → IsToRun p
+
   -- the script leaves the execution of the texts' program going on
   pub record HasEnded : Type 0 where
     pub listing : List ℕ
@@ -164,6 +171,9 @@ module _ (call : Call) where
   KeepsMonitors =
       (texts : List (List ℕ)) (p : Program) → ComesTo texts (went p) → HasMonitors p
 
+  abbrev pub KeepsConditions : Type 0
+  KeepsConditions = (p : Program) → IsToRun p → IsUndisturbed call → Lasts p
+
   -- what `aos` promises
   pub record Promises : Type 0 where
     -- where neither a sink nor memory failed, the answer has a cause, and both sinks got its whole
@@ -199,3 +209,6 @@ module _ (call : Call) where
     -- whatever the schedule and the budget are, the program of texts keeps the laws of its locks in
     -- every state of its execution and at every entry of the schedule
     pub monitors : KeepsMonitors
+    -- from the entry that passes a lock to a waiter whose condition holds, up to the waiter's next
+    -- turn, it owns the lock; and its condition, if it is local, still holds
+    pub conditions : KeepsConditions

@@ -16,6 +16,7 @@ use aos_base::{NoMemory, Refusal};
 use aos_code::Image;
 use aos_compile::{CompileErr, compile};
 use aos_dev::Shelf;
+use aos_lasting::conditions_last;
 use aos_report::{no_worker, script_refused, usage};
 use aos_script::{Script, ScriptErr, read_script};
 use aos_typed::Program;
@@ -67,6 +68,8 @@ fn run_texts<R: Wait>(
     requires limits { All (λ t. length t.items ≤ text_limit) texts.now }
     ensures { IfOk result (ServesTexts (Run (words_of files.now)) (texts_of texts.now)) }
 {
+    // Called for the proof's sake: its clause is the law on conditions that held.
+    conditions_last();
     match compile(alloc, texts) {
         Ok((program, image)) => run_image(rt, alloc, image),
         Err(CompileErr::Refused(r)) => refuse_texts(alloc, files, &r),
@@ -109,6 +112,8 @@ fn replay_texts(
     ensures { IfOk result (ServesTexts
         (Replay name.now (words_of files.now)) (listing.now ∷ texts_of texts.now)) }
 {
+    // Called for the proof's sake: its clause is the law on conditions that held.
+    conditions_last();
     match compile(alloc, texts) {
         Ok((program, image)) => replay_image(alloc, image, script),
         Err(CompileErr::Refused(r)) => refuse_texts(alloc, files, &r),

@@ -20,7 +20,7 @@ returns-in-Ok c =
     let files = words_of c.args.files.now in
     let texts = texts_of c.args.texts.now in
     on_answer (ShowsReplayOf c.in-Ok.image c.args.script.now) (ServesTexts (Replay name files) (listing ∷ texts)) c.replay_image.result
-    (λ a run. λ shelf had words asks. replay_causes words shelf listing files texts c.args.script.now (seen_program c.in-Ok.program) c.in-Ok.image a c.requires.read c.in-Ok.ensures.went c.in-Ok.ensures.shows c.in-Ok.ensures.names run (record { script = name; asks = asks; had = had }))
+    (λ a run. λ shelf had words asks. replay_causes words shelf listing files texts c.args.script.now (seen_program c.in-Ok.program) c.in-Ok.image a c.requires.read c.in-Ok.ensures.went c.in-Ok.ensures.shows (c.conditions_last.ensures (seen_program c.in-Ok.program) c.in-Ok.image c.in-Ok.ensures.typed c.in-Ok.ensures.code) c.in-Ok.ensures.names run (record { script = name; asks = asks; had = had }))
     c.replay_image.ensures
 
 pub returns-in-Err-Refused : goal.returns-in-Err-Refused

@@ -15,7 +15,7 @@ returns-in-Ok g c =
     let files = words_of c.args.files.now in
     let texts = texts_of c.args.texts.now in
     on_answer (ShowsRun c.in-Ok.image) (ServesTexts (Run files) texts) c.run_image.result
-    (λ a run. λ shelf had words asks. ran_causes words shelf files texts (seen_program c.in-Ok.program) c.in-Ok.image a c.in-Ok.ensures.went c.in-Ok.ensures.shows c.in-Ok.ensures.names run (record { asks = asks; had = had }))
+    (λ a run. λ shelf had words asks. ran_causes words shelf files texts (seen_program c.in-Ok.program) c.in-Ok.image a c.in-Ok.ensures.went c.in-Ok.ensures.shows (c.conditions_last.ensures (seen_program c.in-Ok.program) c.in-Ok.image c.in-Ok.ensures.typed c.in-Ok.ensures.code) c.in-Ok.ensures.names run (record { asks = asks; had = had }))
     c.run_image.ensures
 
 pub returns-in-Err-Refused : goal.returns-in-Err-Refused
