@@ -1,14 +1,14 @@
 // The plain data of the kernel that its definitions speak of.
 
 /// A lock: that of a module, by its number in load order from 0, or that of an object, by its number from 1.
-#[derive(Clone, Copy, PartialEq, Eq, Debug)]
+#[derive(Clone, Copy, PartialEq, Eq)]
 pub enum LockName {
     Module(u32),
     Object(u32),
 }
 
 /// What the condition of one who waits comes to.
-#[derive(Clone, Copy, PartialEq, Eq, Debug)]
+#[derive(Clone, Copy, PartialEq, Eq)]
 pub enum Verdict {
     Holds,
     Fails,
@@ -30,7 +30,7 @@ pub enum Outcome {
 }
 
 /// The work that a turn leaves to the kernel.
-#[derive(Clone, Copy, PartialEq, Eq, Debug)]
+#[derive(Clone, Copy)]
 pub enum Did {
     /// None.
     Went,
@@ -49,7 +49,7 @@ pub enum Did {
 }
 
 /// What can be seen of a step, in the order in which it happens.
-#[derive(Clone, Copy, PartialEq, Eq, Debug)]
+#[derive(Clone, Copy)]
 pub enum Event {
     /// An activity was started.
     Start {

@@ -1,12 +1,12 @@
 // Integers of a width, and arithmetic that tells where its result is outside.
 
-ghost use Rattle.std.specs.Prelude.{◌↔◌, ◌≡◌, ◌^◌, ◌≤◌, ◌<ℤ◌, ◌+ℤ◌, ◌-ℤ◌, ◌*ℤ◌, neg_ℤ, unsigned_abs, IsTrue, FitsSigned, ℤ, pos};
+ghost use Rattle.std.specs.Prelude.{◌↔◌, ◌≡◌, ◌^◌, ◌≤◌, ◌<ℤ◌, ◌+ℤ◌, ◌-ℤ◌, ◌*ℤ◌, neg_ℤ, unsigned_abs, IsTrue, FitsSigned, ℤ, pos, negsuc};
 ghost use Rattle.std.specs.Option.{SomeIff};
 ghost use Rattle.std.specs.Int.{w64, int_div_euclid, int_rem_euclid};
 ghost use Rattle.aos_base.specs.Number.{greatest as greatest_of, IsWithin, is_within, holds, shifted};
 
 /// The width of an integer type in bits.
-#[derive(Clone, Copy, PartialEq, Eq, Debug)]
+#[derive(Clone, Copy)]
 pub enum Width {
     W8,
     W16,
@@ -15,7 +15,7 @@ pub enum Width {
 }
 
 /// The six relations of two values that have an order.
-#[derive(Clone, Copy, PartialEq, Eq, Debug)]
+#[derive(Clone, Copy)]
 pub enum Relation {
     Equal,
     NotEqual,
@@ -51,13 +51,24 @@ fn greatest(w: Width) -> i64
     }
 }
 
+/// The least integer of a width.
+fn least(w: Width) -> i64
+    ensures { result ≡ negsuc (greatest_of w) }
+{
+    match w {
+        Width::W8 => -0x80,
+        Width::W16 => -0x8000,
+        Width::W32 => -0x8000_0000,
+        Width::W64 => -0x8000_0000_0000_0000,
+    }
+}
+
 /// Whether an integer is one of this width.
 pub fn fits(w: Width, a: i64) -> bool
     ensures test { result ≡ is_within w a }
     ensures range { IsTrue result ↔ IsWithin w a }
 {
-    let most = greatest(w);
-    -most - 1 <= a && a <= most
+    least(w) <= a && a <= greatest(w)
 }
 
 /// The number that 64 bits may have, where it is one of this width.

@@ -8,7 +8,7 @@ use crate::number::{Relation, Width, abs, add, ash, div, fits, modulo, mul, neg,
 use crate::set::{set_has, set_span};
 
 /// An operator on one number.
-#[derive(Clone, Copy, PartialEq, Eq, Debug)]
+#[derive(Clone, Copy)]
 pub enum Unary {
     /// The number with the other sign; trap 5 outside the width.
     Neg(Width),
@@ -27,7 +27,7 @@ pub enum Unary {
 }
 
 /// An operator on two numbers. A set is a number from 0 to 2^32 - 1, whose bits are its elements.
-#[derive(Clone, Copy, PartialEq, Eq, Debug)]
+#[derive(Clone, Copy)]
 pub enum Binary {
     /// The sum; trap 5 outside the width.
     Add(Width),
@@ -59,7 +59,7 @@ pub enum Binary {
 
 /// What an operator gives: a number, or a trap by its number, or nothing where it isn't defined for its operands, as
 /// negation isn't for 2.
-#[derive(Clone, Copy, PartialEq, Eq, Debug)]
+#[derive(Clone, Copy)]
 pub enum Given {
     Number(i64),
     Trap(u8),
@@ -175,22 +175,85 @@ fn both_fit(w: Width, a: i64, b: i64) -> bool
     fits(w, a) && fits(w, b)
 }
 
+/// What the sum of two numbers gives.
+fn sum(w: Width, a: i64, b: i64) -> Given
+    ensures { result ≡ binary_of (Binary.Add w) a b }
+{
+    if_fit(both_fit(w, a, b), or_trap(5, add(w, a, b)))
+}
+
+/// What the difference of two numbers gives.
+fn difference(w: Width, a: i64, b: i64) -> Given
+    ensures { result ≡ binary_of (Binary.Sub w) a b }
+{
+    if_fit(both_fit(w, a, b), or_trap(5, sub(w, a, b)))
+}
+
+/// What the product of two numbers gives.
+fn product(w: Width, a: i64, b: i64) -> Given
+    ensures { result ≡ binary_of (Binary.Mul w) a b }
+{
+    if_fit(both_fit(w, a, b), or_trap(5, mul(w, a, b)))
+}
+
+/// What the quotient of two numbers gives.
+fn quotient(w: Width, a: i64, b: i64) -> Given
+    ensures { result ≡ binary_of (Binary.Div w) a b }
+{
+    if_fit(both_fit(w, a, b), or_divisor(b, div(w, a, b)))
+}
+
+/// What the remainder of two numbers gives.
+fn remainder(w: Width, a: i64, b: i64) -> Given
+    ensures { result ≡ binary_of (Binary.Mod w) a b }
+{
+    if_fit(both_fit(w, a, b), or_divisor(b, modulo(w, a, b)))
+}
+
+/// What the union of two sets gives.
+fn union(a: i64, b: i64) -> Given
+    ensures { result ≡ binary_of Binary.Union a b }
+{
+    or_none(set(a).zip(set(b)).map(|(x, y)| x | y))
+}
+
+/// What the difference of two sets gives.
+fn set_difference(a: i64, b: i64) -> Given
+    ensures { result ≡ binary_of Binary.Minus a b }
+{
+    or_none(set(a).zip(set(b)).map(|(x, y)| x & !y))
+}
+
+/// What the intersection of two sets gives.
+fn intersection(a: i64, b: i64) -> Given
+    ensures { result ≡ binary_of Binary.Meet a b }
+{
+    or_none(set(a).zip(set(b)).map(|(x, y)| x & y))
+}
+
+/// What the symmetric difference of two sets gives.
+fn symmetric_difference(a: i64, b: i64) -> Given
+    ensures { result ≡ binary_of Binary.Xor a b }
+{
+    or_none(set(a).zip(set(b)).map(|(x, y)| x ^ y))
+}
+
 /// What an operator gives of two numbers.
 pub fn apply_binary(operator: Binary, a: i64, b: i64) -> Given
     ensures { result ≡ binary_of operator a b }
 {
     match operator {
-        Binary::Add(w) => if_fit(both_fit(w, a, b), or_trap(5, add(w, a, b))),
-        Binary::Sub(w) => if_fit(both_fit(w, a, b), or_trap(5, sub(w, a, b))),
-        Binary::Mul(w) => if_fit(both_fit(w, a, b), or_trap(5, mul(w, a, b))),
-        Binary::Div(w) => if_fit(both_fit(w, a, b), or_divisor(b, div(w, a, b))),
-        Binary::Mod(w) => if_fit(both_fit(w, a, b), or_divisor(b, modulo(w, a, b))),
+        Binary::Add(w) => sum(w, a, b),
+        Binary::Sub(w) => difference(w, a, b),
+        Binary::Mul(w) => product(w, a, b),
+        Binary::Div(w) => quotient(w, a, b),
+        Binary::Mod(w) => remainder(w, a, b),
         Binary::Ash(w) => if_fit(fits(w, a), or_trap(5, ash(w, a, b))),
         Binary::Cmp(relation) => Given::Number(truth(related(relation, a, b))),
-        Binary::Union => or_none(set(a).zip(set(b)).map(|(x, y)| x | y)),
-        Binary::Minus => or_none(set(a).zip(set(b)).map(|(x, y)| x & !y)),
-        Binary::Meet => or_none(set(a).zip(set(b)).map(|(x, y)| x & y)),
-        Binary::Xor => or_none(set(a).zip(set(b)).map(|(x, y)| x ^ y)),
+        Binary::Union => union(a, b),
+        Binary::Minus => set_difference(a, b),
+        Binary::Meet => intersection(a, b),
+        Binary::Xor => symmetric_difference(a, b),
         Binary::SetSpan => or_trap(14, set_span(a, b).map(i64::from)),
         Binary::In => within(a, b),
     }

@@ -2,7 +2,7 @@
 
 /// What a place is in: the frame above so many frames of the same activity; a module, by its number in load order from 0; an
 /// object, by its number from 1 in the order of making.
-#[derive(Clone, Copy, PartialEq, Eq, Debug)]
+#[derive(Clone, Copy, PartialEq, Eq)]
 pub enum Root {
     Frame(u32),
     Module(u32),

@@ -10,7 +10,7 @@ pub struct Pos {
 }
 
 /// The broken rule by its number, the file by its number in the order of the command from 0, and the place in it.
-#[derive(Clone, Copy, PartialEq, Eq, Debug)]
+#[derive(Clone, Copy)]
 pub struct Refusal {
     pub rule: u16,
     pub file: u32,
@@ -18,7 +18,7 @@ pub struct Refusal {
 }
 
 /// Memory was wanted and not had.
-#[derive(Clone, Copy, PartialEq, Eq, Debug)]
+#[derive(Clone, Copy, Debug)]
 pub struct NoMemory;
 
 impl From<AllocError> for NoMemory {

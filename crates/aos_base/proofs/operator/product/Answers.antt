@@ -1,0 +1,12 @@
+use Rattle.std.proofs.Common.{ap, ◌∙◌, w64, to_z, of_z}
+use Rattle.std.proofs.lemmas.Int.{to_z-of_z}
+use Rattle.aos_base.specs.declared.operator.Binary.TheVariants.{Mul}
+use Rattle.aos_base.specs.Operators.{binary, or_trap}
+use Rattle.aos_base.proofs.Within.{if_both, if_some}
+use Rattle.aos_base.proofs.operator.product.Goals as goal
+
+pub returns : goal.returns
+returns c =
+    let a = to_z-of_z w64 c.args.a c.ranges.a in
+    let b = to_z-of_z w64 c.args.b c.ranges.b in
+    if_both c.args.w (to_z w64 (of_z w64 c.args.a)) (to_z w64 (of_z w64 c.args.b)) _ _ _ _ c.if_fit.ensures c.both_fit.ensures (c.or_trap.ensures ∙ ap (or_trap 5) (if_some _ _ _ c.mul.ensures)) ∙ (λ i. binary (Mul c.args.w) (a i) (b i))
