@@ -1,3 +1,4 @@
+pub mod Sight
 pub mod Steps
 pub mod Words
 pub mod Walk

@@ -3,6 +3,7 @@ use denote.Enum.Bare.{same_true, same_false}
 use Rattle.aos_scan.specs.contracts.token.TokenKind.{the_type}
 use Rattle.aos_tree.specs.Nesting.{shallow}
 use Rattle.aos_parse_expr.specs.Symbols as m
+use Rattle.aos_parse_expr.proofs.Sight as sight
 use Rattle.aos_parse_expr.proofs.Steps as by
 use Rattle.aos_parse_expr.proofs.Words.{tok_is, tok_not}
 use Rattle.aos_parse_expr.proofs.token.expect.Goals as goal
@@ -23,3 +24,7 @@ returns-else-eq-clause-moves c = record {
 
 pub returns-then-eq-clause-whole : goal.returns-then-eq-clause-whole
 returns-then-eq-clause-whole c = (c.split.ensures.whole, same_true the_type (search rules) _ _ (sym c.eq.ensures ∙ c.if-eq.true))
+
+pub returns-then-eq-clause-rest : goal.returns-then-eq-clause-rest
+returns-then-eq-clause-rest c =
+    sight.behind_of c.args.kind c.split.ensures.whole (same_true the_type (search rules) _ _ (sym c.eq.ensures ∙ c.if-eq.true)) c.requires.inner c.split.ensures.ended

@@ -7,6 +7,8 @@ use Rattle.aos_parse_expr.proofs.Steps as by
 use Rattle.aos_parse_mod.specs.Symbols as m
 use Rattle.aos_parse_mod.proofs.ModSteps as q
 use Rattle.aos_parse_mod.proofs.Trees as tree
+use Rattle.aos_scan.specs.declared.token.TokenKind.TheVariants as kind
+use Rattle.aos_parse_expr.proofs.Sight as sight
 use Rattle.aos_parse_mod.proofs.below.exprs.Goals as goal
 
 pub returns-in_err-first-clause-moves : goal.returns-in_err-first-clause-moves
@@ -42,3 +44,11 @@ returns-in_default c =
       rest = (c.loop-found.invariant.ended, c.loop-found.invariant.shorter);
       moves = λ k. c.loop-found.invariant.moves k ∙ by.skips m.table shallow c.split.ensures.whole (m.of_expr (e.more_exprs c.args.depth)) (q.no_more_exprs c.args.depth _ c.in_default.not-Comma) refl k;
     }
+
+pub expression-requires-in-Comma-clause-ended : goal.expression-requires-in-Comma-clause-ended
+expression-requires-in-Comma-clause-ended c =
+    sight.behind kind.Comma c.split.ensures.whole c.in-Comma.is refl c.split.ensures.ended
+
+pub loop-found-smaller : goal.loop-found-smaller
+loop-found-smaller c =
+    sight.less _ c.split.ensures.whole c.in_ok-one-in-Comma.ensures.rest.1

@@ -10,6 +10,8 @@ use Rattle.aos_parse_stat.proofs.Above as blocks
 use Rattle.aos_parse_mod.specs.Symbols as m
 use Rattle.aos_parse_mod.proofs.Embedding.{with_stats}
 use Rattle.aos_parse_mod.proofs.ModSteps as q
+use Rattle.aos_tree.specs.StatGrammar.{IsBlock}
+use Rattle.aos_parse_expr.proofs.Sight as sight
 use Rattle.aos_parse_mod.proofs.below.statements.Goals as goal
 
 pub returns-in_err-tree-clause-moves : goal.returns-in_err-tree-clause-moves
@@ -27,3 +29,27 @@ returns-clause-moves c =
     λ k.
     subst (λ z. run m.table shallow c.args.tokens.now (m.of_stat (s.block c.args.depth) ∷ k) ≡ run m.table shallow z k) (sym (take_rest c.args.tokens.now c.in_ok-tree.next))
     (blocks.block_reads m.table m.of_stat with_stats c.args.depth _ c.args.tokens.now _ c.in_ok-tree.ensures.tree c.in_ok-tree.ensures.longest k)
+
+pub block-requires-clause-inside : goal.block-requires-clause-inside
+block-requires-clause-inside c =
+    q.some_token c.args.tokens.now c.requires.ended
+
+pub returns-in_err-tree-clause-tree : goal.returns-in_err-tree-clause-tree
+returns-in_err-tree-clause-tree c =
+    by.exit_ok _ c.from_residual.result _ c.from_residual.ensures.1
+
+pub returns-in_err-tree-clause-rest : goal.returns-in_err-tree-clause-rest
+returns-in_err-tree-clause-rest c =
+    by.exit_ok _ c.from_residual.result _ c.from_residual.ensures.1
+
+pub slice_bounds-result-count : goal.slice_bounds-result-count
+slice_bounds-result-count c =
+    sight.before _ _ c.in_ok-tree.ensures.place.1
+
+pub slice_bounds-result-start : goal.slice_bounds-result-start
+slice_bounds-result-start c =
+    sight.before _ _ c.in_ok-tree.ensures.place.1
+
+pub returns-clause-tree : goal.returns-clause-tree
+returns-clause-tree c =
+    subst (λ q. IsBlock shallow c.args.depth c.in_ok-tree.tree c.args.tokens.now q) (sym (take_rest c.args.tokens.now c.in_ok-tree.next)) c.in_ok-tree.ensures.tree

@@ -7,6 +7,7 @@ use Rattle.aos_parse_expr.specs.Symbols as e
 use Rattle.aos_parse_expr.proofs.Steps as by
 use Rattle.aos_parse_mod.specs.Symbols as m
 use Rattle.aos_parse_mod.proofs.Joins.{word_is, word_not}
+use Rattle.aos_parse_expr.proofs.Sight as sight
 use Rattle.aos_parse_mod.proofs.below.then_expr.Goals as goal
 
 pub returns-in_err-value-clause-moves : goal.returns-in_err-value-clause-moves
@@ -24,3 +25,11 @@ returns-in_ok-value-clause-tree c =
 pub returns-else-eq-clause-moves : goal.returns-else-eq-clause-moves
 returns-else-eq-clause-moves c =
     record { refused = (_, by.refuses m.table shallow c.split.ensures.whole (m.then_expr c.args.depth c.args.kind) c.args.depth (word_not c.args.depth c.args.kind _ (m.of_expr (e.expr c.args.depth) ∷ []) (same_false the_type _ _ (sym c.eq.ensures ∙ c.if-eq.false))) refl (by.fits_shallow _ c.requires.nested)) }
+
+pub expression-requires-clause-ended : goal.expression-requires-clause-ended
+expression-requires-clause-ended c =
+    sight.behind_of c.args.kind c.split.ensures.whole (same_true the_type (search rules) _ _ (sym c.eq.ensures ∙ c.if-eq.true)) c.requires.inner c.split.ensures.ended
+
+pub returns-in_ok-value-clause-rest : goal.returns-in_ok-value-clause-rest
+returns-in_ok-value-clause-rest c =
+    sight.past _ c.split.ensures.whole c.in_ok-value.ensures.rest

@@ -6,6 +6,7 @@ use Rattle.aos_tree.specs.DeclGrammar as declared
 use Rattle.aos_parse_expr.proofs.Steps as by
 use Rattle.aos_parse_mod.specs.Symbols as m
 use Rattle.aos_parse_mod.proofs.Joins.{word_not}
+use Rattle.aos_parse_expr.proofs.Sight as sight
 use Rattle.aos_parse_mod.proofs.heading.arrays.Goals as goal
 
 pub returns-in_err-next-in-KwArray-clause-moves : goal.returns-in_err-next-in-KwArray-clause-moves
@@ -28,3 +29,11 @@ returns-in_default c =
       rest = (c.loop-found.invariant.ended, c.loop-found.invariant.shorter);
       moves = λ k. c.loop-found.invariant.moves k ∙ by.skips m.table shallow c.split.ensures.whole (m.arrays c.args.depth) (word_not c.args.depth kind.KwArray _ (m.tok c.args.depth kind.KwOf ∷ m.arrays c.args.depth ∷ []) c.in_default.not-KwArray) refl k;
     }
+
+pub word-requires-clause-ended : goal.word-requires-clause-ended
+word-requires-clause-ended c =
+    sight.behind kind.KwArray c.split.ensures.whole c.in-KwArray.is refl c.split.ensures.ended
+
+pub loop-found-smaller : goal.loop-found-smaller
+loop-found-smaller c =
+    sight.less _ c.split.ensures.whole c.in_ok-next-in-KwArray.ensures.rest.1

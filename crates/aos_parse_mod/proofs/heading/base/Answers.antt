@@ -6,6 +6,7 @@ use Rattle.aos_tree.specs.DeclGrammar as declared
 use Rattle.aos_parse_expr.proofs.Steps as by
 use Rattle.aos_parse_mod.specs.Symbols as m
 use Rattle.aos_parse_mod.proofs.Joins.{word_not}
+use Rattle.aos_parse_expr.proofs.Sight as sight
 use Rattle.aos_parse_mod.proofs.heading.base.Goals as goal
 
 pub returns-in_err-of-in-OpenParen-clause-moves : goal.returns-in_err-of-in-OpenParen-clause-moves
@@ -31,3 +32,11 @@ returns-in_default c =
       rest = (c.requires.ended, omega arith);
       moves = λ k. by.skips m.table shallow c.split.ensures.whole (m.base c.args.depth) (word_not c.args.depth kind.OpenParen _ (m.tok c.args.depth kind.Ident ∷ m.then_name c.args.depth kind.Period ∷ m.tok c.args.depth kind.CloseParen ∷ []) c.in_default.not-OpenParen) refl k;
     }
+
+pub qualident-requires-clause-ended : goal.qualident-requires-clause-ended
+qualident-requires-clause-ended c =
+    sight.behind kind.OpenParen c.split.ensures.whole c.in-OpenParen.is refl c.split.ensures.ended
+
+pub returns-in_ok-rest-in-OpenParen-clause-rest : goal.returns-in_ok-rest-in-OpenParen-clause-rest
+returns-in_ok-rest-in-OpenParen-clause-rest c =
+    sight.at_most _ _ (sight.past _ c.split.ensures.whole (sight.further _ _ _ c.in_ok-of-in-OpenParen.ensures.rest c.in_ok-rest-in-OpenParen.ensures.rest))

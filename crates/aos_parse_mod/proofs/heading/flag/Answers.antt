@@ -6,6 +6,7 @@ use Rattle.aos_tree.specs.DeclGrammar as declared
 use Rattle.aos_parse_expr.proofs.Steps as by
 use Rattle.aos_parse_mod.specs.Symbols as m
 use Rattle.aos_parse_mod.proofs.Joins.{word_not}
+use Rattle.aos_parse_expr.proofs.Sight as sight
 use Rattle.aos_parse_mod.proofs.heading.flag.Goals as goal
 
 pub returns-in_err-name-in-OpenBrace-clause-moves : goal.returns-in_err-name-in-OpenBrace-clause-moves
@@ -31,3 +32,11 @@ returns-in_default c =
       rest = (c.requires.ended, omega arith);
       moves = λ k. by.skips m.table shallow c.split.ensures.whole (m.flag c.args.depth) (word_not c.args.depth kind.OpenBrace _ (m.tok c.args.depth kind.Ident ∷ m.tok c.args.depth kind.CloseBrace ∷ []) c.in_default.not-OpenBrace) refl k;
     }
+
+pub ident-requires-clause-ended : goal.ident-requires-clause-ended
+ident-requires-clause-ended c =
+    sight.behind kind.OpenBrace c.split.ensures.whole c.in-OpenBrace.is refl c.split.ensures.ended
+
+pub returns-in_ok-rest-in-OpenBrace-clause-rest : goal.returns-in_ok-rest-in-OpenBrace-clause-rest
+returns-in_ok-rest-in-OpenBrace-clause-rest c =
+    sight.at_most _ _ (sight.past _ c.split.ensures.whole (sight.further _ _ _ c.in_ok-name-in-OpenBrace.ensures.rest c.in_ok-rest-in-OpenBrace.ensures.rest))

@@ -7,6 +7,7 @@ use Rattle.aos_parse_expr.proofs.Steps as by
 use Rattle.aos_parse_mod.specs.Symbols as m
 use Rattle.aos_parse_mod.proofs.Joins.{word_not}
 use Rattle.aos_parse_mod.proofs.Trees as tree
+use Rattle.aos_parse_expr.proofs.Sight as sight
 use Rattle.aos_parse_mod.proofs.heading.formals.Goals as goal
 
 pub returns-in_err-sections-in-OpenParen-clause-moves : goal.returns-in_err-sections-in-OpenParen-clause-moves
@@ -32,3 +33,11 @@ returns-in_default c =
       rest = (c.requires.ended, omega arith);
       moves = λ k. by.skips m.table shallow c.split.ensures.whole (m.formals c.args.depth) (word_not c.args.depth kind.OpenParen _ (m.sections c.args.depth ∷ m.result c.args.depth ∷ []) c.in_default.not-OpenParen) refl k;
     }
+
+pub sections-requires-clause-ended : goal.sections-requires-clause-ended
+sections-requires-clause-ended c =
+    sight.behind kind.OpenParen c.split.ensures.whole c.in-OpenParen.is refl c.split.ensures.ended
+
+pub returns-in_ok-of-in-OpenParen-clause-rest : goal.returns-in_ok-of-in-OpenParen-clause-rest
+returns-in_ok-of-in-OpenParen-clause-rest c =
+    sight.at_most _ _ (sight.past _ c.split.ensures.whole (sight.further_all _ _ _ c.in_ok-sections-in-OpenParen.ensures.rest c.in_ok-of-in-OpenParen.ensures.rest))

@@ -6,6 +6,7 @@ use Rattle.aos_parse_expr.proofs.Steps as by
 use Rattle.aos_parse_mod.specs.Parts as part
 use Rattle.aos_parse_mod.specs.Symbols as m
 use Rattle.aos_parse_mod.proofs.Joins.{word_not}
+use Rattle.aos_parse_expr.proofs.Sight as sight
 use Rattle.aos_parse_mod.proofs.heading.result_type.Goals as goal
 
 pub returns-in_err-of-in-Colon-clause-moves : goal.returns-in_err-of-in-Colon-clause-moves
@@ -27,3 +28,11 @@ returns-in_default c =
       rest = (c.requires.ended, omega arith);
       moves = λ k. by.skips m.table shallow c.split.ensures.whole (m.result c.args.depth) (word_not c.args.depth kind.Colon _ (m.tok c.args.depth kind.Ident ∷ m.then_name c.args.depth kind.Period ∷ []) c.in_default.not-Colon) refl k;
     }
+
+pub qualident-requires-clause-ended : goal.qualident-requires-clause-ended
+qualident-requires-clause-ended c =
+    sight.behind kind.Colon c.split.ensures.whole c.in-Colon.is refl c.split.ensures.ended
+
+pub returns-in_ok-of-in-Colon-clause-rest : goal.returns-in_ok-of-in-Colon-clause-rest
+returns-in_ok-of-in-Colon-clause-rest c =
+    sight.at_most _ _ (sight.past _ c.split.ensures.whole c.in_ok-of-in-Colon.ensures.rest)

@@ -1,4 +1,4 @@
-use Rattle.std.proofs.Common.{◌≡◌, ◌∷◌, [], rules, sym, ◌∙◌, ap, arith, append_assoc, append-nil, length}
+use Rattle.std.proofs.Common.{◌≡◌, ◌∷◌, [], rules, sym, ◌∙◌, ap, arith, append_assoc, append-nil, length, refl}
 use denote.Enum.Bare.{same_true, same_false}
 use Rattle.aos_scan.specs.contracts.token.TokenKind.{the_type}
 use Rattle.aos_scan.specs.declared.token.TokenKind.TheVariants as kind
@@ -8,6 +8,7 @@ use Rattle.aos_tree.specs.DeclGrammar as declared
 use Rattle.aos_parse_expr.proofs.Steps as by
 use Rattle.aos_parse_mod.specs.Symbols as m
 use Rattle.aos_parse_mod.proofs.ModSteps as q
+use Rattle.aos_parse_expr.proofs.Sight as sight
 use Rattle.aos_parse_mod.proofs.heading.sections.Goals as goal
 
 pub returns-then-eq-clause-moves : goal.returns-then-eq-clause-moves
@@ -55,3 +56,11 @@ returns-in_default c =
       rest = (c.in_ok-end-in_default.ensures.rest.0, omega (arith, c.in_ok-end-in_default.ensures.rest.1, c.loop-found.invariant.shorter));
       moves = λ k. c.loop-found.invariant.moves k ∙ by.becomes m.table shallow c.split-in-loop-found.ensures.whole (m.more_sections c.args.depth) (m.tok c.args.depth kind.CloseParen) ([]) (λ j. q.sections_end c.args.depth _ c.in_default.not-Semicolon j) k ∙ c.in_ok-end-in_default.ensures.moves (k);
     }
+
+pub section-requires-in-Semicolon-clause-ended : goal.section-requires-in-Semicolon-clause-ended
+section-requires-in-Semicolon-clause-ended c =
+    sight.behind kind.Semicolon c.split-in-loop-found.ensures.whole c.in-Semicolon.is refl c.split-in-loop-found.ensures.ended
+
+pub loop-found-smaller : goal.loop-found-smaller
+loop-found-smaller c =
+    sight.less _ c.split-in-loop-found.ensures.whole c.in_ok-one-in-Semicolon.ensures.rest.1

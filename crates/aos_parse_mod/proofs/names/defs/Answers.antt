@@ -6,6 +6,7 @@ use Rattle.aos_tree.specs.DeclGrammar as declared
 use Rattle.aos_parse_expr.proofs.Steps as by
 use Rattle.aos_parse_mod.specs.Symbols as m
 use Rattle.aos_parse_mod.proofs.Joins.{word_not}
+use Rattle.aos_parse_expr.proofs.Sight as sight
 use Rattle.aos_parse_mod.proofs.names.defs.Goals as goal
 
 pub returns-in_err-first-clause-moves : goal.returns-in_err-first-clause-moves
@@ -41,3 +42,11 @@ returns-in_default c =
       rest = (c.loop-found.invariant.ended, c.loop-found.invariant.shorter);
       moves = λ k. c.loop-found.invariant.moves k ∙ by.skips m.table shallow c.split.ensures.whole (m.more_defs c.args.depth) (word_not c.args.depth kind.Comma _ (m.tok c.args.depth kind.Ident ∷ m.mark c.args.depth ∷ m.more_defs c.args.depth ∷ []) c.in_default.not-Comma) refl k;
     }
+
+pub def-requires-in-Comma-clause-ended : goal.def-requires-in-Comma-clause-ended
+def-requires-in-Comma-clause-ended c =
+    sight.behind kind.Comma c.split.ensures.whole c.in-Comma.is refl c.split.ensures.ended
+
+pub loop-found-smaller : goal.loop-found-smaller
+loop-found-smaller c =
+    sight.less _ c.split.ensures.whole c.in_ok-one-in-Comma.ensures.rest.1

@@ -6,6 +6,7 @@ use Rattle.aos_tree.specs.ModuleGrammar as imported
 use Rattle.aos_parse_expr.proofs.Steps as by
 use Rattle.aos_parse_mod.specs.Symbols as m
 use Rattle.aos_parse_mod.proofs.ModSteps as q
+use Rattle.aos_parse_expr.proofs.Sight as sight
 use Rattle.aos_parse_mod.proofs.text.imports.Goals as goal
 
 pub returns-in_err-first-clause-moves : goal.returns-in_err-first-clause-moves
@@ -45,3 +46,11 @@ returns-in_default c =
       rest = (c.in_ok-end-in_default.ensures.rest.0, omega (arith, c.in_ok-end-in_default.ensures.rest.1, c.loop-found.invariant.shorter));
       moves = λ k. c.loop-found.invariant.moves k ∙ by.becomes m.table shallow c.split.ensures.whole (m.more_imports c.args.depth) (m.tok c.args.depth kind.Semicolon) ([]) (λ j. q.imports_end c.args.depth _ c.in_default.not-Comma j) k ∙ c.in_ok-end-in_default.ensures.moves (k);
     }
+
+pub import-requires-in-Comma-clause-ended : goal.import-requires-in-Comma-clause-ended
+import-requires-in-Comma-clause-ended c =
+    sight.behind kind.Comma c.split.ensures.whole c.in-Comma.is refl c.split.ensures.ended
+
+pub loop-found-smaller : goal.loop-found-smaller
+loop-found-smaller c =
+    sight.less _ c.split.ensures.whole c.in_ok-one-in-Comma.ensures.rest.1

@@ -3,6 +3,7 @@ use denote.Enum.Bare.{same_true, same_false}
 use Rattle.aos_scan.specs.contracts.token.TokenKind.{the_type}
 use Rattle.aos_tree.specs.Nesting.{shallow}
 use Rattle.aos_tree.specs.Words as g
+use Rattle.aos_parse_expr.proofs.Sight as sight
 use Rattle.aos_parse_expr.proofs.Steps as by
 use Rattle.aos_parse_mod.specs.Parts as part
 use Rattle.aos_parse_mod.specs.Symbols as m
@@ -24,3 +25,11 @@ returns-else-eq-clause-moves c =
 pub returns-else-eq-clause-tree : goal.returns-else-eq-clause-tree
 returns-else-eq-clause-tree c =
     part.left_out
+
+pub returns-then-eq-clause-rest : goal.returns-then-eq-clause-rest
+returns-then-eq-clause-rest c =
+    sight.at_most _ _ (sight.taken_of c.args.kind c.split.ensures.whole (same_true the_type (search rules) _ _ (sym c.eq.ensures ∙ c.if-eq.true)) c.requires.inner c.split.ensures.ended)
+
+pub returns-else-eq-clause-rest : goal.returns-else-eq-clause-rest
+returns-else-eq-clause-rest c =
+    sight.all_left _ c.requires.ended

@@ -4,6 +4,7 @@ use Rattle.aos_scan.specs.contracts.token.TokenKind.{the_type}
 use Rattle.aos_scan.specs.declared.token.TokenKind.TheVariants as kind
 use Rattle.aos_tree.specs.Nesting.{shallow}
 use Rattle.aos_tree.specs.Words as g
+use Rattle.aos_parse_expr.proofs.Sight as sight
 use Rattle.aos_parse_expr.proofs.Steps as by
 use Rattle.aos_parse_mod.specs.Parts as part
 use Rattle.aos_parse_mod.specs.Symbols as m
@@ -29,3 +30,23 @@ returns-else-eq-clause-moves c =
 pub returns-else-eq-clause-tree : goal.returns-else-eq-clause-tree
 returns-else-eq-clause-tree c =
     part.no_name
+
+pub ident-requires-clause-ended : goal.ident-requires-clause-ended
+ident-requires-clause-ended c =
+    sight.behind_of c.args.kind c.split.ensures.whole (same_true the_type (search rules) _ _ (sym c.eq.ensures ∙ c.if-eq.true)) c.requires.inner c.split.ensures.ended
+
+pub returns-in_err-name-clause-tree : goal.returns-in_err-name-clause-tree
+returns-in_err-name-clause-tree c =
+    by.exit_ok _ c.from_residual.result _ c.from_residual.ensures.1
+
+pub returns-in_err-name-clause-rest : goal.returns-in_err-name-clause-rest
+returns-in_err-name-clause-rest c =
+    by.exit_ok _ c.from_residual.result _ c.from_residual.ensures.1
+
+pub returns-in_ok-name-clause-rest : goal.returns-in_ok-name-clause-rest
+returns-in_ok-name-clause-rest c =
+    sight.at_most _ _ (sight.past _ c.split.ensures.whole c.in_ok-name.ensures.rest)
+
+pub returns-else-eq-clause-rest : goal.returns-else-eq-clause-rest
+returns-else-eq-clause-rest c =
+    sight.all_left _ c.requires.ended

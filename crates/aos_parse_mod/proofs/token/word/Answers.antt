@@ -3,6 +3,7 @@ use denote.Enum.Bare.{same_true, same_false}
 use Rattle.aos_scan.specs.contracts.token.TokenKind.{the_type}
 use Rattle.aos_tree.specs.Nesting.{shallow}
 use Rattle.aos_tree.specs.Words as g
+use Rattle.aos_parse_expr.proofs.Sight as sight
 use Rattle.aos_parse_expr.proofs.Steps as by
 use Rattle.aos_parse_mod.specs.Symbols as m
 use Rattle.aos_parse_mod.proofs.Joins.{word_is, word_not}
@@ -19,3 +20,7 @@ returns-then-eq-clause-tree c =
 pub returns-else-eq-clause-moves : goal.returns-else-eq-clause-moves
 returns-else-eq-clause-moves c =
     record { refused = (_, by.refuses m.table shallow c.split.ensures.whole (m.tok c.args.depth c.args.kind) c.args.depth (word_not c.args.depth c.args.kind _ [] (same_false the_type _ _ (sym c.eq.ensures ∙ c.if-eq.false))) refl (by.fits_shallow _ c.requires.nested)) }
+
+pub returns-then-eq-clause-rest : goal.returns-then-eq-clause-rest
+returns-then-eq-clause-rest c =
+    sight.taken_of c.args.kind c.split.ensures.whole (same_true the_type (search rules) _ _ (sym c.eq.ensures ∙ c.if-eq.true)) c.requires.inner c.split.ensures.ended

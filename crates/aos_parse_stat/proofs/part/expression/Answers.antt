@@ -9,6 +9,8 @@ use Rattle.aos_parse_expr.proofs.Steps as by
 use Rattle.aos_parse_stat.specs.Symbols as m
 use Rattle.aos_parse_stat.proofs.Lower as lower
 use Rattle.aos_parse_stat.proofs.StatProductions.{exprs_in}
+use Rattle.aos_tree.specs.ExprGrammar.{IsExpr}
+use Rattle.aos_parse_expr.proofs.Sight as sight
 use Rattle.aos_parse_stat.proofs.part.expression.Goals as goal
 
 pub returns-in_err-tree-clause-moves : goal.returns-in_err-tree-clause-moves
@@ -25,3 +27,27 @@ pub returns-clause-moves : goal.returns-clause-moves
 returns-clause-moves c = λ k.
     subst (λ q. run m.table shallow c.args.tokens.now (m.expr c.args.depth ∷ k) ≡ run m.table shallow q k) (sym (take_rest c.args.tokens.now c.in_ok-tree.next))
     (above.expr_reads m.table m.part exprs_in c.args.depth _ c.args.tokens.now _ c.in_ok-tree.ensures.tree c.in_ok-tree.ensures.longest k)
+
+pub expr-requires-clause-inside : goal.expr-requires-clause-inside
+expr-requires-clause-inside c =
+    lower.some_token c.args.tokens.now c.requires.ended
+
+pub returns-in_err-tree-clause-tree : goal.returns-in_err-tree-clause-tree
+returns-in_err-tree-clause-tree c =
+    by.exit_ok _ c.from_residual.result _ c.from_residual.ensures.1
+
+pub returns-in_err-tree-clause-rest : goal.returns-in_err-tree-clause-rest
+returns-in_err-tree-clause-rest c =
+    by.exit_ok _ c.from_residual.result _ c.from_residual.ensures.1
+
+pub slice_bounds-result-count : goal.slice_bounds-result-count
+slice_bounds-result-count c =
+    sight.before _ _ c.in_ok-tree.ensures.place.1
+
+pub slice_bounds-result-start : goal.slice_bounds-result-start
+slice_bounds-result-start c =
+    sight.before _ _ c.in_ok-tree.ensures.place.1
+
+pub returns-clause-tree : goal.returns-clause-tree
+returns-clause-tree c =
+    subst (λ q. IsExpr shallow c.args.depth c.in_ok-tree.tree c.args.tokens.now q) (sym (take_rest c.args.tokens.now c.in_ok-tree.next)) c.in_ok-tree.ensures.tree

@@ -5,6 +5,8 @@ use Rattle.aos_parse_expr.proofs.Steps as by
 use Rattle.aos_parse_stat.specs.Symbols as m
 use Rattle.aos_parse_stat.proofs.StatProductions as q
 use Rattle.aos_parse_stat.proofs.Trees as trees
+use Rattle.aos_scan.specs.declared.token.TokenKind.TheVariants as kind
+use Rattle.aos_parse_expr.proofs.Sight as sight
 use Rattle.aos_parse_stat.proofs.part.labels.Goals as goal
 
 pub loop-found-init : goal.loop-found-init
@@ -40,3 +42,11 @@ returns-in_default c =
       rest = (c.loop-found.invariant.ended, c.loop-found.invariant.shorter);
       moves = λ k. c.loop-found.invariant.moves k ∙ by.skips m.table shallow c.split.ensures.whole (m.more_labels c.args.depth) (q.no_more_labels _ _ c.in_default.not-Comma) refl k;
     }
+
+pub label-requires-in-Comma-clause-ended : goal.label-requires-in-Comma-clause-ended
+label-requires-in-Comma-clause-ended c =
+    sight.behind kind.Comma c.split.ensures.whole c.in-Comma.is refl c.split.ensures.ended
+
+pub loop-found-smaller : goal.loop-found-smaller
+loop-found-smaller c =
+    sight.less _ c.split.ensures.whole c.in_ok-one-in-Comma.ensures.rest.1

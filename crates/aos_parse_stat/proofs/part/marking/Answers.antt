@@ -6,6 +6,8 @@ use Rattle.aos_parse_stat.specs.Symbols as m
 use Rattle.aos_parse_stat.proofs.Moving as moving
 use Rattle.aos_parse_stat.proofs.StatProductions as q
 use Rattle.aos_parse_stat.proofs.Trees as trees
+use Rattle.aos_scan.specs.declared.token.TokenKind.TheVariants as kind
+use Rattle.aos_parse_expr.proofs.Sight as sight
 use Rattle.aos_parse_stat.proofs.part.marking.Goals as goal
 
 pub returns-in-OpenBrace-clause-tree : goal.returns-in-OpenBrace-clause-tree
@@ -23,3 +25,11 @@ returns-in_default-clause-tree c =
 pub returns-in_default-clause-moves : goal.returns-in_default-clause-moves
 returns-in_default-clause-moves c =
     λ k. by.skips m.table shallow c.split.ensures.whole (m.marking c.args.depth) (q.no_marking _ _ c.in_default.not-OpenBrace) refl k
+
+pub modifiers-requires-clause-ended : goal.modifiers-requires-clause-ended
+modifiers-requires-clause-ended c =
+    sight.behind kind.OpenBrace c.split.ensures.whole c.in-OpenBrace.is refl c.split.ensures.ended
+
+pub returns-in-OpenBrace-clause-rest : goal.returns-in-OpenBrace-clause-rest
+returns-in-OpenBrace-clause-rest c =
+    sight.then_at_most (λ r. r.1.now) c.modifiers.result c.split.ensures.whole c.modifiers.ensures.rest

@@ -6,6 +6,7 @@ use Rattle.aos_parse_expr.proofs.Steps as by
 use Rattle.aos_parse_stat.specs.Symbols as m
 use Rattle.aos_parse_stat.proofs.StatProductions as q
 use Rattle.aos_parse_stat.proofs.Trees as trees
+use Rattle.aos_parse_expr.proofs.Sight as sight
 use Rattle.aos_parse_stat.proofs.part.modifier.Goals as goal
 
 pub returns-in_err-value-in-OpenParen-clause-moves : goal.returns-in_err-value-in-OpenParen-clause-moves
@@ -27,3 +28,11 @@ returns-in_ok-rest-in-OpenParen-clause-tree c =
 pub returns-in_default : goal.returns-in_default
 returns-in_default c =
     record { tree = g.flag c.in_ok-name.ensures.tree; rest = c.in_ok-name.ensures.rest; moves = λ k. c.in_ok-name.ensures.moves (m.argument c.args.depth ∷ k) ∙ by.skips m.table shallow c.split.ensures.whole (m.argument c.args.depth) (q.no_argument _ _ c.in_default.not-OpenParen) refl k }
+
+pub expression-requires-clause-ended : goal.expression-requires-clause-ended
+expression-requires-clause-ended c =
+    sight.behind kind.OpenParen c.split.ensures.whole c.in-OpenParen.is refl c.split.ensures.ended
+
+pub returns-in_ok-rest-in-OpenParen-clause-rest : goal.returns-in_ok-rest-in-OpenParen-clause-rest
+returns-in_ok-rest-in-OpenParen-clause-rest c =
+    sight.further _ _ _ c.in_ok-name.ensures.rest (sight.past _ c.split.ensures.whole (sight.further _ _ _ c.in_ok-value-in-OpenParen.ensures.rest c.in_ok-rest-in-OpenParen.ensures.rest))

@@ -5,6 +5,8 @@ use Rattle.aos_parse_expr.proofs.Steps as by
 use Rattle.aos_parse_stat.specs.Symbols as m
 use Rattle.aos_parse_stat.proofs.StatProductions as q
 use Rattle.aos_parse_stat.proofs.Trees as trees
+use Rattle.aos_scan.specs.declared.token.TokenKind.TheVariants as kind
+use Rattle.aos_parse_expr.proofs.Sight as sight
 use Rattle.aos_parse_stat.proofs.part.modifiers.Goals as goal
 
 pub loop-found-init : goal.loop-found-init
@@ -44,3 +46,15 @@ returns-in-CloseBrace-clause-moves c =
 pub returns-in_default : goal.returns-in_default
 returns-in_default c =
     record { tree = tt; rest = tt; moves = record { refused = (_, λ k. c.loop-found.invariant.moves k ∙ by.refuses m.table shallow c.split.ensures.whole (m.more_modifiers c.args.depth) c.args.depth (q.no_more_modifiers _ _ c.in_default.not-Comma c.in_default.not-CloseBrace) refl (by.fits_shallow _ c.requires.nested) k) } }
+
+pub modifier-requires-in-Comma-clause-ended : goal.modifier-requires-in-Comma-clause-ended
+modifier-requires-in-Comma-clause-ended c =
+    sight.behind kind.Comma c.split.ensures.whole c.in-Comma.is refl c.split.ensures.ended
+
+pub loop-found-smaller : goal.loop-found-smaller
+loop-found-smaller c =
+    sight.less _ c.split.ensures.whole c.in_ok-one-in-Comma.ensures.rest.1
+
+pub returns-in-CloseBrace-clause-rest : goal.returns-in-CloseBrace-clause-rest
+returns-in-CloseBrace-clause-rest c =
+    sight.further _ _ _ (c.loop-found.invariant.ended, c.loop-found.invariant.shorter) (sight.taken kind.CloseBrace c.split.ensures.whole c.in-CloseBrace.is refl c.split.ensures.ended)

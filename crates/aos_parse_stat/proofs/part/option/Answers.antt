@@ -7,6 +7,7 @@ use Rattle.aos_parse_expr.proofs.Steps as by
 use Rattle.aos_parse_stat.specs.Symbols as m
 use Rattle.aos_parse_stat.proofs.StatProductions as q
 use Rattle.aos_parse_stat.proofs.Trees as trees
+use Rattle.aos_parse_expr.proofs.Sight as sight
 use Rattle.aos_parse_stat.proofs.part.option.Goals as goal
 
 pub returns-in_err-value-clause-moves : goal.returns-in_err-value-clause-moves
@@ -28,3 +29,27 @@ returns-else-eq-clause-moves c =
 pub returns-else-eq-clause-tree : goal.returns-else-eq-clause-tree
 returns-else-eq-clause-tree c =
     g.no_option
+
+pub expression-requires-clause-ended : goal.expression-requires-clause-ended
+expression-requires-clause-ended c =
+    sight.behind_of c.args.kind c.split.ensures.whole (same_true the_type (search rules) _ _ (sym c.eq.ensures ∙ c.if-eq.true)) c.requires.inner c.split.ensures.ended
+
+pub expression-requires-clause-nested : goal.expression-requires-clause-nested
+expression-requires-clause-nested c =
+    c.requires.nested
+
+pub returns-in_err-value-clause-tree : goal.returns-in_err-value-clause-tree
+returns-in_err-value-clause-tree c =
+    by.exit_ok _ c.from_residual.result _ c.from_residual.ensures.1
+
+pub returns-in_err-value-clause-rest : goal.returns-in_err-value-clause-rest
+returns-in_err-value-clause-rest c =
+    by.exit_ok _ c.from_residual.result _ c.from_residual.ensures.1
+
+pub returns-in_ok-value-clause-rest : goal.returns-in_ok-value-clause-rest
+returns-in_ok-value-clause-rest c =
+    sight.at_most _ _ (sight.past _ c.split.ensures.whole c.in_ok-value.ensures.rest)
+
+pub returns-else-eq-clause-rest : goal.returns-else-eq-clause-rest
+returns-else-eq-clause-rest c =
+    sight.all_left _ c.requires.ended

@@ -6,6 +6,7 @@ use Rattle.aos_parse_expr.proofs.Steps as by
 use Rattle.aos_parse_stat.specs.Symbols as m
 use Rattle.aos_parse_stat.proofs.StatProductions as q
 use Rattle.aos_parse_stat.proofs.Trees as trees
+use Rattle.aos_parse_expr.proofs.Sight as sight
 use Rattle.aos_parse_stat.proofs.part.qualident.Goals as goal
 
 pub returns-in_err-second-in-Period-clause-moves : goal.returns-in_err-second-in-Period-clause-moves
@@ -23,3 +24,11 @@ returns-in_ok-second-in-Period-clause-tree c =
 pub returns-in_default : goal.returns-in_default
 returns-in_default c =
     record { tree = words.plain c.in_ok-first.ensures.tree; rest = c.in_ok-first.ensures.rest; moves = λ k. c.in_ok-first.ensures.moves (m.second c.args.depth ∷ k) ∙ by.skips m.table shallow c.split.ensures.whole (m.second c.args.depth) (q.no_second _ _ c.in_default.not-Period) refl k }
+
+pub ident-requires-in-Period-clause-ended : goal.ident-requires-in-Period-clause-ended
+ident-requires-in-Period-clause-ended c =
+    sight.behind kind.Period c.split.ensures.whole c.in-Period.is refl c.split.ensures.ended
+
+pub returns-in_ok-second-in-Period-clause-rest : goal.returns-in_ok-second-in-Period-clause-rest
+returns-in_ok-second-in-Period-clause-rest c =
+    sight.further _ _ _ c.in_ok-first.ensures.rest (sight.past _ c.split.ensures.whole c.in_ok-second-in-Period.ensures.rest)

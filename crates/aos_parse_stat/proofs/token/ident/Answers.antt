@@ -5,6 +5,7 @@ use Rattle.aos_tree.specs.Words as words
 use Rattle.aos_parse_expr.proofs.Steps as by
 use Rattle.aos_parse_stat.specs.Symbols as m
 use Rattle.aos_parse_stat.proofs.StatProductions as q
+use Rattle.aos_parse_expr.proofs.Sight as sight
 use Rattle.aos_parse_stat.proofs.token.ident.Goals as goal
 
 pub returns-in-Ident-clause-tree : goal.returns-in-Ident-clause-tree
@@ -20,3 +21,7 @@ returns-in_default c = record {
   rest = tt;
   moves = record { refused = (_, by.refuses m.table shallow c.split.ensures.whole (m.tok c.args.depth kind.Ident) c.args.depth (q.word_not _ _ _ c.in_default.not-Ident) refl (by.fits_shallow _ c.requires.nested)) };
 }
+
+pub returns-in-Ident-clause-rest : goal.returns-in-Ident-clause-rest
+returns-in-Ident-clause-rest c =
+    sight.taken kind.Ident c.split.ensures.whole c.in-Ident.is refl c.split.ensures.ended

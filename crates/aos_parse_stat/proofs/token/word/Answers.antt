@@ -6,6 +6,7 @@ use Rattle.aos_tree.specs.Words as words
 use Rattle.aos_parse_expr.proofs.Steps as by
 use Rattle.aos_parse_stat.specs.Symbols as m
 use Rattle.aos_parse_stat.proofs.StatProductions as q
+use Rattle.aos_parse_expr.proofs.Sight as sight
 use Rattle.aos_parse_stat.proofs.token.word.Goals as goal
 
 pub returns-then-eq-clause-tree : goal.returns-then-eq-clause-tree
@@ -25,3 +26,7 @@ returns-else-eq-clause-moves c = record {
         (q.word_not _ _ _ (same_false the_type _ _ (sym c.eq.ensures ∙ c.if-eq.false))) refl (by.fits_shallow _ c.requires.nested),
   );
 }
+
+pub returns-then-eq-clause-rest : goal.returns-then-eq-clause-rest
+returns-then-eq-clause-rest c =
+    sight.taken_of c.args.kind c.split.ensures.whole (same_true the_type (search rules) _ _ (sym c.eq.ensures ∙ c.if-eq.true)) c.requires.inner c.split.ensures.ended
