@@ -19,7 +19,7 @@ use aos_types::{TypeId, TypeRow, Types};
 use std::alloc::{AllocError, Global};
 
 /// What the number of a type's definition leads to: itself, another type, or none that is known.
-#[derive(Clone, Copy, PartialEq, Eq, Debug)]
+#[derive(Clone, Copy)]
 pub enum Target {
     Own,
     Of(TypeId),

@@ -248,7 +248,7 @@ fn given(
 }
 
 /// Arguments so far, and whether each keeps the rules of the call.
-#[derive(Drop, Debug)]
+#[derive(Drop)]
 pub struct Handing {
     pub are_kept: bool,
     pub given: Vec<TArgument>,

@@ -27,7 +27,7 @@ use std::alloc::{AllocError, Global};
 use std::mem;
 
 /// What is found of a name, the name, and where its designator begins.
-#[derive(Clone, Copy, PartialEq, Eq, Debug)]
+#[derive(Clone, Copy)]
 pub struct Head {
     pub found: Lookup,
     pub name: Name,

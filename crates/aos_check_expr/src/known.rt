@@ -18,7 +18,7 @@ use aos_types::TypeId;
 /// What an expression is: unknown where a part of it breaks a rule, a constant, which has no value where its computation would
 /// trap or where it is declared later, a variable, one that may only be read, another value, or a procedure that is named, by the
 /// number of the module that declares it and its own among that module's signatures.
-#[derive(Clone, Copy, PartialEq, Eq, Debug)]
+#[derive(Clone, Copy)]
 pub enum Class {
     Unknown,
     Constant(Option<Literal>),
@@ -29,28 +29,28 @@ pub enum Class {
 }
 
 /// What is known of a part of an expression: its type, none where it may be any, and its class.
-#[derive(Clone, Copy, PartialEq, Eq, Debug)]
+#[derive(Clone, Copy)]
 pub struct Known {
     pub of: Option<TypeId>,
     pub class: Class,
 }
 
 /// An expression, and what it is in the typed program.
-#[derive(Drop, Debug)]
+#[derive(Drop)]
 pub struct Answer {
     pub known: Known,
     pub typed: TExpr,
 }
 
 /// What a designator is in the typed program: a variable, or a value.
-#[derive(Drop, Debug)]
+#[derive(Drop)]
 pub enum Held {
     Stands(TPlace),
     Value(TExpr),
 }
 
 /// A designator, and where the name stands that is its own.
-#[derive(Drop, Debug)]
+#[derive(Drop)]
 pub struct Spot {
     pub known: Known,
     pub held: Held,

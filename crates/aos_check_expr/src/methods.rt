@@ -28,7 +28,7 @@ use std::alloc::{AllocError, Global};
 
 /// A method, or what a value of a procedure type stands for, that waits for its bracket: what is called, its heading, and where its
 /// designator begins.
-#[derive(Drop, Debug)]
+#[derive(Drop)]
 pub struct Bound {
     pub callee: TCallee,
     pub heading: Heading,
@@ -36,7 +36,7 @@ pub struct Bound {
 }
 
 /// What a designator is so far: a name, which a bracket may call, a variable or a value, or what waits for its bracket.
-#[derive(Drop, Debug)]
+#[derive(Drop)]
 pub enum Part {
     Begun(Head),
     Meant(Spot),

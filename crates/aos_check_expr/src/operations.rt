@@ -25,7 +25,7 @@ use aos_types::TypeId;
 use std::alloc::{AllocError, Global};
 
 /// What is done to one operand.
-#[derive(Clone, Copy, PartialEq, Eq, Debug)]
+#[derive(Clone, Copy)]
 pub enum Single {
     On(Unary),
     /// The code of a character.
@@ -39,7 +39,7 @@ pub enum Single {
 }
 
 /// What is done to two operands.
-#[derive(Clone, Copy, PartialEq, Eq, Debug)]
+#[derive(Clone, Copy)]
 pub enum Joint {
     On(Binary),
     And,
@@ -55,7 +55,7 @@ pub enum Joint {
 }
 
 /// What an operator or function does to an operand of a type: whether it takes that, the type that it gives, and how.
-#[derive(Clone, Copy, PartialEq, Eq, Debug)]
+#[derive(Clone, Copy)]
 pub struct Step {
     pub is_kept: bool,
     pub of: Option<TypeId>,
@@ -63,7 +63,7 @@ pub struct Step {
 }
 
 /// What an operator or function does to two operands of two types.
-#[derive(Clone, Copy, PartialEq, Eq, Debug)]
+#[derive(Clone, Copy)]
 pub struct Operation {
     pub is_kept: bool,
     pub of: Option<TypeId>,

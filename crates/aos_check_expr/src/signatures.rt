@@ -11,7 +11,7 @@ use std::alloc::{AllocError, Global};
 
 /// Where the signature of what is called stands: it is that of a procedure, by the number of the module that declares it and its own
 /// among that module's signatures, or that of a procedure type.
-#[derive(Clone, Copy, PartialEq, Eq, Debug)]
+#[derive(Clone, Copy)]
 pub enum Heading {
     Declared(u32, u32),
     OfType(TypeId),

@@ -3,14 +3,14 @@
 use crate::instr::{Cell, Instr, Kind};
 
 /// The code of a procedure, and how many operands it has at most.
-#[derive(Drop, Debug)]
+#[derive(Drop)]
 pub struct Body {
     pub code: Vec<Instr>,
     pub depth: u32,
 }
 
 /// What a parameter takes in a frame.
-#[derive(Clone, Copy, PartialEq, Eq, Debug)]
+#[derive(Clone, Copy)]
 pub enum ParamKind {
     /// A value of one cell, of this kind.
     Scalar(Kind),
@@ -24,7 +24,7 @@ pub enum ParamKind {
 }
 
 /// What is known of a procedure.
-#[derive(Drop, Debug)]
+#[derive(Drop)]
 pub struct ProcShape {
     /// The number of the module in which it stands, in load order from 0.
     pub module: u32,
@@ -44,7 +44,7 @@ pub struct ProcShape {
 }
 
 /// A module: its name, what its cells hold at first, and the number of the procedure that is its body, 0 for none.
-#[derive(Drop, Debug)]
+#[derive(Drop)]
 pub struct ModuleDesc {
     pub name: String,
     pub cells: Vec<Cell>,
@@ -52,7 +52,7 @@ pub struct ModuleDesc {
 }
 
 /// A type of objects.
-#[derive(Drop, Debug)]
+#[derive(Drop)]
 pub struct TypeDesc {
     /// The number of the type that it extends, 0 for none.
     pub base: u32,
@@ -67,7 +67,7 @@ pub struct TypeDesc {
 /// A program in code. Procedures are numbered from 1, and procedure p has shape and body p - 1; so are types. The
 /// number 0 names no procedure and no type: a module or type whose body is 0 has nothing to run. Conditions are numbered
 /// from 0; one that is awaited is evaluated over the frame that awaits it.
-#[derive(Drop, Debug)]
+#[derive(Drop)]
 pub struct Image {
     pub modules: Vec<ModuleDesc>,
     pub types: Vec<TypeDesc>,

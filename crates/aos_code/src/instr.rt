@@ -3,7 +3,7 @@
 use aos_base::{Binary, Relation, Root, Unary};
 
 /// What a cell or an operand holds.
-#[derive(Clone, Copy, PartialEq, Eq, Debug)]
+#[derive(Clone, Copy)]
 pub enum Cell {
     Num(i64),
     /// An object, by its number from 1 in the order of making; 0 is NIL.
@@ -15,7 +15,7 @@ pub enum Cell {
 }
 
 /// The kind of what a cell holds.
-#[derive(Clone, Copy, PartialEq, Eq, Debug)]
+#[derive(Clone, Copy)]
 pub enum Kind {
     /// A number.
     N,
@@ -28,7 +28,7 @@ pub enum Kind {
 }
 
 /// An instruction. It takes its operands from the stack, the last one from the top, and puts its result there.
-#[derive(Clone, Copy, PartialEq, Eq, Debug)]
+#[derive(Clone, Copy)]
 pub enum Instr {
     /// Gives a number.
     Num(i64),

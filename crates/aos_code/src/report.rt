@@ -4,7 +4,7 @@ use aos_base::{LockName, Pos};
 
 /// A trap that happened: its number, its code, the activity, and the place of the statement in its module, by the
 /// module's number.
-#[derive(Clone, Copy, PartialEq, Eq, Debug)]
+#[derive(Clone, Copy)]
 pub struct TrapRec {
     pub number: u8,
     pub code: u8,
@@ -15,7 +15,7 @@ pub struct TrapRec {
 
 /// An activity that waits for a lock: for a condition, or else to enter; and the place of the statement in its module, by the
 /// module's number.
-#[derive(Clone, Copy, PartialEq, Eq, Debug)]
+#[derive(Clone, Copy)]
 pub struct WaitRec {
     pub activity: u32,
     pub lock: LockName,

@@ -7,7 +7,7 @@ use aos_base::{NoMemory, Refusal};
 use std::alloc::{AllocError, AllocFailed};
 
 /// Why a text isn't compiled.
-#[derive(Clone, Copy, PartialEq, Eq, Debug)]
+#[derive(Clone, Copy)]
 pub enum CompileErr {
     /// A rule is broken.
     Refused(Refusal),

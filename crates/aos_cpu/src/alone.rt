@@ -15,7 +15,7 @@ use aos_store::{Frames, Heap, Store};
 use std::alloc::Global;
 
 /// Why private turns end: as many have been made as were asked for; the next isn't private; or so many statements have begun.
-#[derive(Clone, Copy, PartialEq, Eq, Debug)]
+#[derive(Clone, Copy)]
 pub enum PrivateStop {
     Most,
     Shared,

@@ -5,7 +5,7 @@ ghost use Rattle.aos_dev.specs.declared.sink.Put.{Put};
 use crate::sink::{Put, Sink};
 
 /// Takes every piece, keeps nothing, and never fails.
-#[derive(Clone, Copy, PartialEq, Eq, Debug)]
+#[derive(Clone, Copy)]
 pub struct NoFailSink;
 
 impl NoFailSink {

@@ -21,7 +21,7 @@ use aos_typed::Program;
 use std::alloc::{AllocError, Global};
 
 /// A condition, by the number of its module in load order and the place of its AWAIT, and whether it is local.
-#[derive(Clone, Copy, PartialEq, Eq, Debug)]
+#[derive(Clone, Copy)]
 pub struct Told {
     pub home: u32,
     pub at: Pos,

@@ -1,7 +1,7 @@
 // What the text of a program uses.
 
 /// The declared variable that a designator names, in whole or in part: behind the last pointer that is followed.
-#[derive(Clone, Copy, PartialEq, Eq, Debug)]
+#[derive(Clone, Copy, PartialEq, Eq)]
 pub enum Variable {
     /// A variable or a string constant of a module, by the numbers of both.
     Module(u32, u32),
@@ -18,14 +18,14 @@ pub enum Variable {
 }
 
 /// A variable, and whether SELF is the first name of the designator and the variable, a field, the next.
-#[derive(Clone, Copy, PartialEq, Eq, Debug)]
+#[derive(Clone, Copy)]
 pub struct Target {
     pub of: Variable,
     pub through_self: bool,
 }
 
 /// One use that a text makes of something.
-#[derive(Clone, Copy, PartialEq, Eq, Debug)]
+#[derive(Clone, Copy)]
 pub enum Use {
     /// A variable is written, or a part of it, in an exclusive block or not.
     Writes(Target, bool),

@@ -6,7 +6,7 @@ ghost use Rattle.aos_kernel.specs.Log.{with_step};
 use aos_base::{MAX_STEPS, Sched};
 
 /// What a step of a worker comes to.
-#[derive(Clone, Copy, PartialEq, Eq, Debug)]
+#[derive(Clone, Copy)]
 pub enum Stepped {
     /// A turn of its activity.
     Turned,

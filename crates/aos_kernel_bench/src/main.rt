@@ -111,12 +111,12 @@ fn image(alloc: Global, activities: u32) -> Result<Image, AllocError> {
 
 /// Whether the last step started this activity.
 fn has_started(kernel: &Kernel, activity: u32) -> bool {
-    kernel.events().first() == Some(&Event::Start { activity })
+    matches!(kernel.events().first(), Some(Event::Start { activity: started }) if *started == activity)
 }
 
 /// Whether the first activity ended in the last step.
 fn has_ended(kernel: &Kernel) -> bool {
-    kernel.events().first() == Some(&Event::End { activity: 0 })
+    matches!(kernel.events().first(), Some(Event::End { activity: 0 }))
 }
 
 fn step(kernel: &mut Kernel) -> Result<(), NoMemory> {

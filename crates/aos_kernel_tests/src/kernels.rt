@@ -73,7 +73,7 @@ static INSTRUCTIONS: [(Instr, Instr, &str); 7] = [
 fn runs_instructions(rt: HostRuntime) -> Result<(), Fail> {
     for (first, second, want) in &INSTRUCTIONS {
         let found = shown(rt.alloc(), *first, *second)?;
-        assert_eq!(rt; found.as_str(), *want, "at {first:?} {second:?}");
+        assert_eq!(rt; found.as_str(), *want);
     }
     Ok(())
 }

@@ -17,7 +17,7 @@ use std::alloc::{AllocError, Global};
 
 /// What code has of a module's variables and, behind them, its string constants: the first cell of each, in the order of the
 /// text, how many cells they have, and the kinds of these.
-#[derive(Drop, Debug)]
+#[derive(Drop)]
 pub struct BlockShape {
     pub places: Vec<u32>,
     pub cells: u32,

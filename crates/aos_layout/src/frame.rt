@@ -96,7 +96,7 @@ fn result_kind(types: &Types, of: Option<TType>) -> Option<Kind>
 
 /// What code has of a procedure: its number from 1 over the whole program, what is known of it, and the first cell of each
 /// parameter and then of each local, in order of declaration.
-#[derive(Drop, Debug)]
+#[derive(Drop)]
 pub struct FrameShape {
     pub own: u32,
     pub shape: ProcShape,

@@ -5,7 +5,7 @@ use aos_ready::Priority;
 
 /// Where an activity stands: on a worker, ready at a priority, or at a lock, where it awaits a condition or else is to enter; or
 /// nowhere, as it doesn't live.
-#[derive(Clone, Copy, PartialEq, Eq, Debug)]
+#[derive(Clone, Copy)]
 pub enum Place {
     Nowhere,
     On(u32),

@@ -4,7 +4,7 @@ use aos_base::Pos;
 use std::alloc::{AllocError, AllocFailed};
 
 /// Why files have no load order. A file is named by its number in the order of the command, from 0.
-#[derive(Debug, Drop)]
+#[derive(Drop, Debug)]
 pub enum OrderErr {
     /// Rule 8, module given twice: the first file of the name, and the first that has it again.
     Twice(usize, usize),

@@ -11,7 +11,7 @@ use std::alloc::Global;
 use std::mem;
 
 /// What the table has of a number: the one behind it in its queue, and its mark.
-#[derive(Clone, Copy, Debug)]
+#[derive(Clone, Copy)]
 pub(crate) struct Node {
     pub(crate) next: Option<u32>,
     pub(crate) is_marked: bool,

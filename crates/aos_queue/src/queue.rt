@@ -6,7 +6,7 @@ ghost use Rattle.aos_queue.specs.declared.queue.Queue.{Queue};
 ghost use Rattle.aos_queue.specs.Lists.{list_in, Belongs};
 
 /// A queue of numbers, which the links through which it was filled see as a list. An empty one is so in any links.
-#[derive(Debug, Drop)]
+#[derive(Drop)]
 pub struct Queue {
     pub(crate) first: Option<u32>,
     /// The last number; where there is none it says nothing.

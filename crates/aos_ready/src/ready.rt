@@ -9,7 +9,7 @@ ghost use Rattle.aos_ready.specs.Order.{number_of, ready_in, all_ready, without_
 use aos_queue::{Links, Queue};
 
 /// An activity's priority. Those of a higher one go first.
-#[derive(Clone, Copy, PartialEq, Eq, Debug)]
+#[derive(Clone, Copy)]
 pub enum Priority {
     Low,
     Normal,
@@ -17,7 +17,7 @@ pub enum Priority {
 }
 
 /// The ready activities, known by their numbers. Those of one priority go in the order in which they became ready.
-#[derive(Debug, Drop)]
+#[derive(Drop)]
 pub struct Ready {
     low: Queue,
     normal: Queue,

@@ -8,7 +8,7 @@ ghost use Rattle.aos_scan.specs.Refusal.{CommentIsOpen};
 use crate::run::is_blank;
 
 /// The place of a comment that isn't closed.
-#[derive(Clone, Copy, PartialEq, Eq, Debug)]
+#[derive(Clone, Copy)]
 pub struct OpenComment {
     pub at: usize,
 }

@@ -17,7 +17,7 @@ use crate::token::TokenKind;
 use crate::word::word_kind;
 
 /// A token that was found: its kind, the end of its bytes and its value.
-#[derive(Clone, Copy, PartialEq, Eq, Debug)]
+#[derive(Clone, Copy)]
 pub struct Found {
     pub kind: TokenKind,
     pub end: usize,

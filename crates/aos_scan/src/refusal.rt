@@ -8,7 +8,7 @@ use std::alloc::AllocError;
 use thiserror::Error;
 
 /// The rule that a text breaks at a place.
-#[derive(Clone, Copy, PartialEq, Eq, Debug)]
+#[derive(Clone, Copy)]
 pub enum Rule {
     /// No token, blank or comment begins with this byte.
     Bad,
@@ -21,7 +21,7 @@ pub enum Rule {
 }
 
 /// Why a text has no token list: the first rule that it breaks, and the place; or memory was wanted and not had.
-#[derive(Clone, Copy, PartialEq, Eq, Debug, Error)]
+#[derive(Clone, Copy, Debug, Error)]
 pub enum ScanErr {
     #[error("no token, blank or comment begins here")]
     Bad(Pos),

@@ -5,7 +5,7 @@ ghost use Rattle.aos_scan.specs.Bytes.{is_blank, is_quote, is_in};
 ghost use Rattle.aos_scan.specs.Run.{IsRun};
 
 /// Which bytes a run is made of.
-#[derive(Clone, Copy, PartialEq, Eq, Debug)]
+#[derive(Clone, Copy)]
 pub enum Class {
     /// Letters, digits and `_`.
     Word,

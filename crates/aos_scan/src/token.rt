@@ -108,7 +108,7 @@ pub enum TokenKind {
 
 /// A token: its kind, the place of its first byte and of the byte after its last in the text, from 0, its line and
 /// column, and its value: of a number the number, of a char its code, of any other 0.
-#[derive(Clone, Copy, PartialEq, Eq, Debug)]
+#[derive(Clone, Copy)]
 pub struct Token {
     pub kind: TokenKind,
     pub start: u32,

@@ -12,7 +12,7 @@ use crate::word::{is, three_words, two_words};
 use aos_base::{MAX_STEPS, Sched};
 
 /// What is wrong with a run line.
-#[derive(Clone, Copy, PartialEq, Eq, Debug)]
+#[derive(Clone, Copy)]
 pub enum Flaw {
     /// It isn't `s W K` or `t W`.
     Form,

@@ -26,7 +26,7 @@ pub const MAX_WORKERS: u32 = 16;
 pub const MAX_BUDGET: u64 = 1_000_000_000;
 
 /// The entries of a script in their order. Contracts see the list of them.
-#[derive(Debug, Drop)]
+#[derive(Drop)]
 pub struct Runs {
     entries: Vec<Sched>,
 }
@@ -50,7 +50,7 @@ impl Runs {
 }
 
 /// What a script says.
-#[derive(Debug, Drop)]
+#[derive(Drop)]
 pub struct Script {
     /// How many workers there are: 1 to 16.
     pub workers: u32,

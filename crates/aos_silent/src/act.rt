@@ -18,7 +18,7 @@ pub struct Callable {
 }
 
 /// How the operands of a call are handed over.
-#[derive(Clone, Copy, PartialEq, Eq, Debug)]
+#[derive(Clone, Copy)]
 pub enum Way {
     /// They are its arguments, with the object on which it is called as the first.
     Direct,

@@ -6,7 +6,7 @@ ghost use Rattle.aos_sound.specs.Sound as sound;
 use aos_code::{Instr, Kind};
 
 /// What an instruction takes from the stack and gives, the topmost operand first.
-#[derive(Clone, Copy, PartialEq, Eq, Debug)]
+#[derive(Clone, Copy)]
 pub enum Effect {
     /// It leaves the stack as it is.
     Pass,
@@ -48,7 +48,7 @@ pub enum Effect {
 }
 
 /// Where code goes on behind an instruction.
-#[derive(Clone, Copy, PartialEq, Eq, Debug)]
+#[derive(Clone, Copy)]
 pub enum Next {
     /// Nowhere.
     Ends,

@@ -11,7 +11,7 @@ use std::alloc::Global;
 use std::marker::Model;
 
 /// A stack: its top, the number of what lies below it, and how many operands it has.
-#[derive(Clone, Copy, Debug)]
+#[derive(Clone, Copy)]
 pub struct Node {
     pub top: Kind,
     pub below: u32,
@@ -19,7 +19,7 @@ pub struct Node {
 }
 
 /// The numbers of the stacks with one more operand on top, by its kind; 0 for none.
-#[derive(Clone, Copy, Debug)]
+#[derive(Clone, Copy)]
 pub struct Over {
     pub n: u32,
     pub r: u32,

@@ -10,7 +10,7 @@ ghost use Rattle.aos_sound.specs.Sound.{is_begin, is_procedure, may_jump, frame_
 use aos_code::{Image, Instr, ModuleDesc, ProcShape, TypeDesc};
 
 /// What code is for.
-#[derive(Clone, Copy, PartialEq, Eq, Debug)]
+#[derive(Clone, Copy)]
 pub enum Role {
     /// It is the body of a procedure.
     Procedure,

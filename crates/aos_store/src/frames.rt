@@ -45,7 +45,7 @@ pub struct Frames {
 }
 
 /// Why a frame isn't made: there are 512, or more than 65,536 scalars would be in them; or memory was wanted and not had.
-#[derive(Clone, Copy, PartialEq, Eq, Debug)]
+#[derive(Clone, Copy)]
 pub enum FrameErr {
     Deep,
     NoMemory,

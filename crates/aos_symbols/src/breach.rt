@@ -6,7 +6,7 @@ ghost use Rattle.aos_symbols.specs.Breaches.{is_before, sooner};
 use aos_base::Pos;
 
 /// The rule that a tree breaks at a place.
-#[derive(Clone, Copy, PartialEq, Eq, Debug)]
+#[derive(Clone, Copy)]
 pub struct Breach {
     pub rule: u16,
     pub pos: Pos,

@@ -22,7 +22,7 @@ use std::alloc::{AllocError, Global};
 pub(crate) const MOST_NUMBERS: usize = 4_294_967_296;
 
 /// A sort of declarations that are numbered in their scope.
-#[derive(Clone, Copy, PartialEq, Eq, Debug)]
+#[derive(Clone, Copy)]
 pub enum Sort {
     Constant,
     Variable,

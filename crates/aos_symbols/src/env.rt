@@ -43,14 +43,14 @@ pub const PROCEDURE: TypeId = TypeId(u32::MAX);
 pub const BASIC_TYPES: u32 = 10;
 
 /// A scope: the number of its module in load order, and its own number in that module.
-#[derive(Clone, Copy, PartialEq, Eq, Debug)]
+#[derive(Clone, Copy)]
 pub struct Open {
     pub home: u32,
     pub scope: u32,
 }
 
 /// What a name stands for, and the scope in which it is declared.
-#[derive(Clone, Copy, PartialEq, Eq, Debug)]
+#[derive(Clone, Copy)]
 pub struct Symbol {
     pub at: Open,
     pub mark: Option<Export>,
@@ -58,7 +58,7 @@ pub struct Symbol {
 }
 
 /// What is found of a name.
-#[derive(Clone, Copy, PartialEq, Eq, Debug)]
+#[derive(Clone, Copy)]
 pub enum Lookup {
     /// Rule 14: no scope has it.
     Unknown,
@@ -69,7 +69,7 @@ pub enum Lookup {
 
 /// A field of a record or an object type: whether this module writes the type that declares it, the field's mark, its number in the
 /// type, and its own type, which is none where it breaks a rule.
-#[derive(Clone, Copy, PartialEq, Eq, Debug)]
+#[derive(Clone, Copy)]
 pub struct Field {
     pub is_own: bool,
     pub mark: Option<Export>,
@@ -79,7 +79,7 @@ pub struct Field {
 
 /// A method of an object type: whether this module writes the type that declares it, its mark, the number of the module that does,
 /// its number among that module's signatures, the type that declares it, and its slot.
-#[derive(Clone, Copy, PartialEq, Eq, Debug)]
+#[derive(Clone, Copy)]
 pub struct Method {
     pub is_own: bool,
     pub mark: Option<Export>,
@@ -90,7 +90,7 @@ pub struct Method {
 }
 
 /// A variable that a WITH narrows: its scope, its number there, and the type that it has within.
-#[derive(Clone, Copy, PartialEq, Eq, Debug)]
+#[derive(Clone, Copy)]
 pub struct Narrowed {
     pub at: Open,
     pub number: u32,
@@ -98,7 +98,7 @@ pub struct Narrowed {
 }
 
 /// What is asked of a type that a name stands for, which may be met later.
-#[derive(Clone, Copy, PartialEq, Eq, Debug)]
+#[derive(Clone, Copy)]
 pub enum Claim {
     /// Rule 25: a pointer leads to what is named here, so it is a record or an array.
     Target(Pos, TypeId),

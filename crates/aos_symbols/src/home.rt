@@ -14,14 +14,14 @@ use std::alloc::{AllocError, Global};
 use std::marker::Model;
 
 /// A parameter: by reference where VAR stands before it. Its type is none where it breaks a rule.
-#[derive(Clone, Copy, PartialEq, Eq, Debug)]
+#[derive(Clone, Copy)]
 pub struct Parameter {
     pub by_reference: bool,
     pub of: Option<TypeId>,
 }
 
 /// What a procedure gives: nothing, or a value of a type, which is none where it breaks a rule.
-#[derive(Clone, Copy, PartialEq, Eq, Debug)]
+#[derive(Clone, Copy)]
 pub enum Gives {
     Nothing,
     Value(Option<TypeId>),
@@ -37,7 +37,7 @@ pub struct Signature {
 
 /// An object type: the number of the module that declares it, the number of its scope there, in which its constants, fields and
 /// methods stand, the number of its first method among the module's signatures, and the place among its methods of its initializer.
-#[derive(Clone, Copy, PartialEq, Eq, Debug)]
+#[derive(Clone, Copy)]
 pub struct ObjectScope {
     pub home: u32,
     pub scope: u32,

@@ -13,7 +13,7 @@ use std::marker::Model;
 
 /// What a name stands for. Constants, variables and procedures are numbered in their scope in the order of the text, types in
 /// the table of types, modules in load order, each from 0.
-#[derive(Clone, Copy, PartialEq, Eq, Debug)]
+#[derive(Clone, Copy)]
 pub enum Meaning {
     Constant(u32),
     /// A type; none is known where its definition only names another, or breaks a rule.
@@ -40,7 +40,7 @@ pub enum Meaning {
 }
 
 /// The predeclared functions (Oberon-2 report, 10.3).
-#[derive(Clone, Copy, PartialEq, Eq, Debug)]
+#[derive(Clone, Copy)]
 pub enum Function {
     Abs,
     Ash,
@@ -56,7 +56,7 @@ pub enum Function {
 }
 
 /// The predeclared procedures that give no value (Oberon-2 report, 10.3).
-#[derive(Clone, Copy, PartialEq, Eq, Debug)]
+#[derive(Clone, Copy)]
 pub enum Routine {
     Assert,
     Copy,
@@ -69,14 +69,14 @@ pub enum Routine {
 }
 
 /// A constant that is declared: where its name stands, and its value, which it has where its declaration breaks no rule.
-#[derive(Clone, Copy, PartialEq, Eq, Debug)]
+#[derive(Clone, Copy)]
 pub struct Constant {
     pub at: Pos,
     pub value: Option<Literal>,
 }
 
 /// What a declared name stands for, with its export mark.
-#[derive(Clone, Copy, PartialEq, Eq, Debug)]
+#[derive(Clone, Copy)]
 pub struct Entry {
     pub mark: Option<Export>,
     pub means: Meaning,

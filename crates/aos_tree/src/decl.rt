@@ -8,21 +8,21 @@ use crate::stat::Block;
 use aos_base::Pos;
 
 /// `*`: exported, `-`: exported and read only.
-#[derive(Clone, Copy, PartialEq, Eq, Debug)]
+#[derive(Clone, Copy, PartialEq, Eq)]
 pub enum Export {
     ReadWrite,
     ReadOnly,
 }
 
 /// `"*" | "-"` behind a name.
-#[derive(Clone, Copy, PartialEq, Eq, Debug)]
+#[derive(Clone, Copy, PartialEq, Eq)]
 pub struct Mark {
     pub pos: Pos,
     pub export: Export,
 }
 
 /// `Def = ident ["*" | "-"].` Its place is that of its name.
-#[derive(Clone, Copy, PartialEq, Eq, Debug)]
+#[derive(Clone, Copy, PartialEq, Eq)]
 pub struct Def {
     pub name: Name,
     pub mark: Option<Mark>,

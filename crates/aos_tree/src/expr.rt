@@ -6,7 +6,7 @@ use crate::name::{Name, Text};
 use aos_base::Pos;
 
 /// `=`, `#`, `<`, `<=`, `>`, `>=`, `IN` and `IS`.
-#[derive(Clone, Copy, PartialEq, Eq, Debug)]
+#[derive(Clone, Copy, PartialEq, Eq)]
 pub enum RelationOp {
     Equal,
     NotEqual,
@@ -19,7 +19,7 @@ pub enum RelationOp {
 }
 
 /// `+`, `-` and `OR`.
-#[derive(Clone, Copy, PartialEq, Eq, Debug)]
+#[derive(Clone, Copy, PartialEq, Eq)]
 pub enum AddOp {
     Plus,
     Minus,
@@ -27,7 +27,7 @@ pub enum AddOp {
 }
 
 /// `*`, `/`, `DIV`, `MOD` and `&`.
-#[derive(Clone, Copy, PartialEq, Eq, Debug)]
+#[derive(Clone, Copy, PartialEq, Eq)]
 pub enum MulOp {
     Times,
     Divide,
@@ -37,7 +37,7 @@ pub enum MulOp {
 }
 
 /// `+` and `-` before a sum.
-#[derive(Clone, Copy, PartialEq, Eq, Debug)]
+#[derive(Clone, Copy, PartialEq, Eq)]
 pub enum Sign {
     Plus,
     Minus,

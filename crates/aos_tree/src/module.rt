@@ -20,7 +20,7 @@ pub struct Module {
 }
 
 /// `Import = ident [":=" ident].` Its place is that of its first name.
-#[derive(Clone, Copy, PartialEq, Eq, Debug)]
+#[derive(Clone, Copy, PartialEq, Eq)]
 pub struct Import {
     pub name: Name,
     pub of: Option<Name>,

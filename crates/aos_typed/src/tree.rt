@@ -5,7 +5,7 @@ use aos_types::Types;
 
 /// A string constant: the module in whose text it stands and its number among the strings there, each from 0, how many characters
 /// it has, and the code of the first one, 0 where it has none.
-#[derive(Clone, Copy, PartialEq, Eq, Debug)]
+#[derive(Clone, Copy)]
 pub struct TextConstant {
     pub home: u32,
     pub number: u32,
@@ -14,7 +14,7 @@ pub struct TextConstant {
 }
 
 /// A value that is written in the text.
-#[derive(Clone, Copy, PartialEq, Eq, Debug)]
+#[derive(Clone, Copy)]
 pub enum Literal {
     Int(i64),
     Bool(bool),
@@ -32,7 +32,6 @@ pub enum Literal {
 
 /// A designator. The string constants of a module are numbered on from its variables.
 #[cycle(parts)]
-#[derive(Debug)]
 pub enum TPlace {
     /// A variable of a module, by the module's number in load order and the variable's number, each from 0.
     ModuleVar(u32, u32),
@@ -56,7 +55,7 @@ pub enum TPlace {
 
 /// An array with the lengths of some of its dimensions, the first ones.
 #[cycle(parts)]
-#[derive(Drop, Debug)]
+#[derive(Drop)]
 pub enum TRows {
     /// One whose lengths are known.
     Known(Box<TPlace>, Vec<u32>),
@@ -73,7 +72,7 @@ pub enum TRows {
 
 /// What a call hands over for a parameter.
 #[cycle(parts)]
-#[derive(Drop, Debug)]
+#[derive(Drop)]
 pub enum TArgument {
     /// A value of a basic type.
     Scalar(TExpr),
@@ -108,7 +107,7 @@ impl Drop for TPlace {
 
 /// What is called.
 #[cycle(parts)]
-#[derive(Drop, Debug)]
+#[derive(Drop)]
 pub enum TCallee {
     /// A procedure of a module, by the numbers of both, each from 0.
     Plain(u32, u32),
@@ -123,7 +122,6 @@ pub enum TCallee {
 
 /// An expression.
 #[cycle(parts)]
-#[derive(Debug)]
 pub enum TExpr {
     Lit(Literal),
     /// The object whose method or body it is in.
@@ -215,7 +213,7 @@ impl Drop for TExpr {
 }
 
 /// A call of a procedure of module Out.
-#[derive(Drop, Debug)]
+#[derive(Drop)]
 pub enum OutCall {
     Open,
     Char(TExpr),
@@ -227,7 +225,7 @@ pub enum OutCall {
 }
 
 /// How INC, DEC, INCL and EXCL change a variable: an integer one of a width, or a set.
-#[derive(Clone, Copy, PartialEq, Eq, Debug)]
+#[derive(Clone, Copy)]
 pub enum Change {
     Add(Width),
     Subtract(Width),
@@ -238,14 +236,14 @@ pub enum Change {
 }
 
 /// Labels of CASE: all numbers, or codes of characters, from the first to the last.
-#[derive(Clone, Copy, PartialEq, Eq, Debug)]
+#[derive(Clone, Copy)]
 pub struct LabelRange {
     pub low: i64,
     pub high: i64,
 }
 
 /// Labels of CASE that lead to the arm of this number; the first arm has the number 0.
-#[derive(Clone, Copy, Debug)]
+#[derive(Clone, Copy)]
 pub struct LabelRow {
     pub labels: LabelRange,
     pub arm: u32,
@@ -253,7 +251,7 @@ pub struct LabelRow {
 
 /// An arm of IF: its statements are carried out where its test is TRUE and none before was.
 #[cycle(statements)]
-#[derive(Drop, Debug)]
+#[derive(Drop)]
 pub struct TArm {
     pub test: TExpr,
     pub body: Vec<TStat>,
@@ -261,7 +259,7 @@ pub struct TArm {
 
 /// An arm of CASE: its statements are carried out where the selector's value is in one of the ranges.
 #[cycle(statements)]
-#[derive(Drop, Debug)]
+#[derive(Drop)]
 pub struct TCase {
     pub labels: Vec<LabelRange>,
     pub body: Vec<TStat>,
@@ -269,7 +267,7 @@ pub struct TCase {
 
 /// ELSE of CASE.
 #[cycle(statements)]
-#[derive(Drop, Debug)]
+#[derive(Drop)]
 pub enum TElse {
     /// There is none: trap 4 where no arm has the selector's value.
     Missing,
@@ -278,7 +276,7 @@ pub enum TElse {
 
 /// A statement, each with its place in the text.
 #[cycle(statements)]
-#[derive(Drop, Debug)]
+#[derive(Drop)]
 pub enum TStat {
     /// A value for a variable of this type.
     Assign(Pos, TType, TPlace, TExpr),
@@ -326,7 +324,7 @@ pub enum TStat {
 
 /// The type of a variable: a basic type, or one that a module defines or writes, by its number among those of the program,
 /// from 0.
-#[derive(Clone, Copy, PartialEq, Eq, Debug)]
+#[derive(Clone, Copy)]
 pub enum TType {
     Integer(Width),
     Boolean,
@@ -338,14 +336,14 @@ pub enum TType {
 }
 
 /// A variable of a module or a procedure.
-#[derive(Drop, Debug)]
+#[derive(Drop)]
 pub struct TVariable {
     pub name: String,
     pub of: TType,
 }
 
 /// A parameter: by reference where VAR stands before it. The type of an open array parameter is an open array.
-#[derive(Drop, Debug)]
+#[derive(Drop)]
 pub struct TParameter {
     pub name: String,
     pub by_reference: bool,
@@ -354,7 +352,7 @@ pub struct TParameter {
 
 /// A procedure, with the statements of its body; a proper one has no result. A method or an object's body says of which type it
 /// is, by the type's number in the program, and an initializer that it is one. An exclusive body is a region, as an exclusive block is.
-#[derive(Drop, Debug)]
+#[derive(Drop)]
 pub struct TProcedure {
     pub name: String,
     pub of: Option<u32>,
@@ -368,7 +366,7 @@ pub struct TProcedure {
 
 /// A method of an object type, with its slot: that of the method which it overrides, or else the next one behind those of the
 /// type's base and of its own methods before.
-#[derive(Drop, Debug)]
+#[derive(Drop)]
 pub struct TMethod {
     pub slot: u32,
     pub procedure: TProcedure,
@@ -378,7 +376,7 @@ pub struct TMethod {
 /// module in load order from 0, the body of its objects, a procedure without parameters and locals, and the methods that it
 /// declares. A type that is no object type, or has no body of its own, has an empty one that nothing carries out; that of a procedure
 /// type has the type's formals, and stands for all procedures that have them.
-#[derive(Drop, Debug)]
+#[derive(Drop)]
 pub struct TObject {
     pub name: String,
     pub home: u32,
@@ -392,7 +390,7 @@ pub struct TObject {
 
 /// A module, with its string constants, by the codes of their characters, its procedures, and the statements of its body, which is a
 /// region of the module's lock where it is exclusive.
-#[derive(Drop, Debug)]
+#[derive(Drop)]
 pub struct TModule {
     pub name: String,
     pub variables: Vec<TVariable>,

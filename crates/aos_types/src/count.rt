@@ -13,7 +13,7 @@ use crate::extension::row_of;
 use crate::row::{TypeId, TypeRow};
 
 /// A type on a walk, and how many of its first fields were seen to have their counts.
-#[derive(Clone, Copy, Debug)]
+#[derive(Clone, Copy)]
 pub(crate) struct Step {
     at: TypeId,
     seen: usize,

@@ -3,11 +3,11 @@
 use crate::items::Items;
 
 /// A type, by its number in the table, from 0.
-#[derive(Clone, Copy, PartialEq, Eq, Debug)]
+#[derive(Clone, Copy)]
 pub struct TypeId(pub u32);
 
 /// A basic type, or that of a constant which no variable has.
-#[derive(Clone, Copy, PartialEq, Eq, Debug)]
+#[derive(Clone, Copy)]
 pub enum Basic {
     /// 8 bits.
     ShortInt,
@@ -27,7 +27,7 @@ pub enum Basic {
 }
 
 /// A row of the table: what a type is made of.
-#[derive(Debug, Drop)]
+#[derive(Drop)]
 pub enum TypeRow {
     Basic(Basic),
     /// The length, and the type of the elements.
