@@ -4,7 +4,7 @@ use crate::rows::{expect, parted, repeated, tokens_of};
 use aos_parse_expr::{ParseErr, desig, expr};
 use aos_parse_mod::module;
 use aos_parse_stat::block;
-use aos_tree::{Desig, Expr, Factor, Selector};
+use aos_tree::{Desig, Expr, Factor, Selector, Sign};
 use std::alloc::{AllocError, Global};
 use std::process::Abort;
 use std::test::Fail;
@@ -159,10 +159,12 @@ fn shape_of(alloc: Global, tree: &Expr, next: usize) -> Result<String, AllocErro
     };
     let terms = tree.left.rest.len();
     let is_relation = tree.right.is_some();
-    format!(in alloc;
-        "{:?} {terms} {is_relation} {is_not} {next}",
-        tree.left.sign
-    )
+    let sign = match tree.left.sign {
+        None => "None",
+        Some(Sign::Plus) => "Some(Plus)",
+        Some(Sign::Minus) => "Some(Minus)",
+    };
+    format!(in alloc; "{sign} {terms} {is_relation} {is_not} {next}")
 }
 
 /// The column, that of the parenthesis behind the name with how many expressions it has, and the place after it.
