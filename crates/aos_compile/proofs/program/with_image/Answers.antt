@@ -49,3 +49,9 @@ link-requires-clause-typed c =
     let texts = c.args.texts.now in
     let size = length-map texts (λ t. t.items) in
     c.law_of_typing.ensures (bytes_of texts) (seen_program c.args.program) c.requires.program (omega (arith, size)) (omega (arith, size)) (omega arith)
+
+pub returns-clause-typed : goal.returns-clause-typed
+returns-clause-typed c =
+    let texts = c.args.texts.now in
+    let size = length-map texts (λ t. t.items) in
+    c.law_of_typing.ensures (bytes_of texts) (seen_program c.args.program) c.requires.program (omega (arith, size)) (omega (arith, size)) (omega arith)
