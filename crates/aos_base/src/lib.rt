@@ -11,7 +11,7 @@ pub mod text;
 
 pub use kernel::{Did, Event, LockName, MAX_STEPS, Outcome, Sched, Verdict};
 pub use number::{Relation, Width, abs, add, ash, div, fits, modulo, mul, neg, related, sub};
-pub use operator::{Binary, Given, Unary, apply_binary, apply_unary, truth};
+pub use operator::{Binary, Given, Unary, apply_binary, apply_unary, natural, truth};
 pub use place::Root;
 pub use set::{set_has, set_span};
 pub use text::{NoMemory, Pos, Refusal};

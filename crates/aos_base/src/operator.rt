@@ -73,11 +73,21 @@ pub fn truth(b: bool) -> i64
     if b { 1 } else { 0 }
 }
 
-/// A number from 0 to below a bound.
-fn natural(a: i64, bound: u32) -> Option<u32>
+/// A number from 0 to below a bound, and nothing where it is none.
+pub fn natural(bound: u64, value: i64) -> Option<u64>
+    ensures { result ≡ natural_of bound value }
+{
+    u64::try_from(value).ok().filter(|n| *n < bound)
+}
+
+/// The same below a bound of 32 bits.
+fn small(bound: u32, a: i64) -> Option<u32>
     ensures { result ≡ natural_of bound a }
 {
-    u32::try_from(a).ok().filter(|n| *n < bound)
+    match natural(u64::from(bound), a) {
+        None => None,
+        Some(n) => Some(n as u32),
+    }
 }
 
 /// A set is a number from 0 to 2^32 - 1.
@@ -150,9 +160,9 @@ pub fn apply_unary(operator: Unary, a: i64) -> Given
     match operator {
         Unary::Neg(w) => if_fit(fits(w, a), or_trap(5, neg(w, a))),
         Unary::Abs(w) => if_fit(fits(w, a), or_trap(5, abs(w, a))),
-        Unary::Not => or_none(natural(a, 2).map(|n| 1 - n)),
+        Unary::Not => or_none(small(2, a).map(|n| 1 - n)),
         Unary::Odd => Given::Number(a.rem_euclid(2)),
-        Unary::Cap => or_none(natural(a, 256).map(capital)),
+        Unary::Cap => or_none(small(256, a).map(capital)),
         Unary::Compl => or_none(set(a).map(|x| !x)),
         Unary::Range(low, high) => ranged(low, high, a),
     }

@@ -2,7 +2,8 @@
 // another tree.
 
 use crate::rows::{parted, tree_of};
-use aos_tree::{Module, same};
+use aos_same::same;
+use aos_tree::Module;
 use std::alloc::{AllocError, Global};
 use std::process::Abort;
 use std::test::Fail;

@@ -8,8 +8,8 @@ ghost use Rattle.aos_silent.specs.Taken.{length_in, numbers_of, rows_of};
 
 use crate::act::{Act, LOST, Spot};
 use crate::operands::{number, replace, spot};
-use crate::values::{cell_past, natural};
-use aos_base::Root;
+use crate::values::cell_past;
+use aos_base::{Root, natural};
 use aos_code::Cell;
 
 /// Whether so many topmost operands are numbers.

@@ -1,12 +1,12 @@
 // What instructions do that work on operands alone.
 ghost use Rattle.std.specs.Prelude.{◌≡◌, ℕ, ◌+◌, ◌-◌, ◌*◌, ◌^◌, ◌<◌, [], min, length, drop, slice_get, vec_len, vec_capacity};
-ghost use Rattle.aos_base.specs.Operators.{unary as unary_of, binary as binary_of, natural as natural_of};
+ghost use Rattle.aos_base.specs.Operators.{unary as unary_of, binary as binary_of};
 ghost use Rattle.aos_code.specs.Silent.{Stack, Goes, given, asserts, on_any, on_number, on_numbers, on_place, gives_place, swaps, indexes, lands, jumps, jumps_on_false};
 ghost use Rattle.aos_silent.specs.Acts.{operands_in, act_in, IsBeginOf, IsJump, WhereStays, small};
 
 use crate::act::{Act, LOST};
 use crate::operands::{number, numbers, operand, replace, spot, take};
-use aos_base::{Binary, Given, Pos, Root, Unary, apply_binary, apply_unary};
+use aos_base::{Binary, Given, Pos, Root, Unary, apply_binary, apply_unary, natural};
 use aos_code::{Cell, Instr};
 
 /// What an operator gives, in place of the operands that it took.
@@ -192,13 +192,6 @@ pub fn offset(stack: &mut Vec<Cell>, cells: u32, of_type: u32) -> Act
         None => LOST,
         Some(at) => put_place(stack, 1, at.root, at.cell.checked_add(cells), of_type),
     }
-}
-
-/// A number from 0 to below a bound.
-pub fn natural(bound: u64, value: i64) -> Option<u64>
-    ensures { result ≡ natural_of bound value }
-{
-    u64::try_from(value).ok().filter(|n| *n < bound)
 }
 
 /// A number that has 32 bits.

@@ -30,12 +30,23 @@ pub struct Def {
 
 /// `Decl = CONST {ConstDef ";"} | TYPE {TypeDef ";"} | VAR {VarDef ";"} | Proc ";".`
 #[cycle(declarations)]
-#[derive(Drop)]
 pub enum Decl {
     Consts(Pos, Items<ConstDef>),
     Types(Pos, Items<TypeDef>),
     Vars(Pos, Items<VarDef>),
     Proc(Proc),
+}
+
+impl Drop for Decl {
+    #[cycle(drop_declarations)]
+    fn drop(self) {
+        match self {
+            Decl::Consts(_, const_def) => drop(const_def),
+            Decl::Types(_, type_def) => drop(type_def),
+            Decl::Vars(_, var_def) => drop(var_def),
+            Decl::Proc(inner) => drop(inner),
+        }
+    }
 }
 
 /// `ConstDef = Def "=" Expr.` Its place is that of its name.
@@ -63,7 +74,6 @@ pub struct VarDef {
 
 /// `Proc = PROCEDURE ["&"] Def [Formals] ";" {LocalDecl} Body ident.` A body that is END alone is no block.
 #[cycle(declarations)]
-#[derive(Drop)]
 pub struct Proc {
     pub pos: Pos,
     /// The place of `&`, where it stands before the name.
@@ -76,12 +86,40 @@ pub struct Proc {
     pub end: Name,
 }
 
+impl Drop for Proc {
+    #[cycle(drop_declarations)]
+    fn drop(self) {
+        let Proc {
+            pos: _,
+            initializer: _,
+            def: _,
+            formals,
+            decls,
+            body,
+            end: _,
+        } = self;
+        drop(formals);
+        drop(decls);
+        drop(body);
+    }
+}
+
 /// `Formals = "(" [Section {";" Section}] ")" [":" Qualident].`
-#[derive(Drop)]
 pub struct Formals {
     pub pos: Pos,
     pub sections: Items<Section>,
     pub result: Option<Qualident>,
+}
+
+impl Drop for Formals {
+    fn drop(self) {
+        let Formals {
+            pos: _,
+            sections,
+            result: _,
+        } = self;
+        drop(sections);
+    }
 }
 
 /// `Section = [VAR] ident {"," ident} ":" {ARRAY OF} Qualident.`
@@ -98,7 +136,6 @@ pub struct Section {
 
 /// `Type`, with a variant for each of its forms.
 #[cycle(declarations)]
-#[derive(Drop)]
 pub enum TypeExpr {
     Named(Qualident),
     /// `ARRAY [Expr {"," Expr}] OF Type`
@@ -111,6 +148,26 @@ pub enum TypeExpr {
     Proc(Pos, Option<Name>, Option<Formals>),
     /// `OBJECT ["(" Qualident ")"] {Decl} Body [ident]`
     Object(Pos, Option<Qualident>, Items<Decl>, Option<Block>, Option<Name>),
+}
+
+impl Drop for TypeExpr {
+    #[cycle(drop_declarations)]
+    fn drop(self) {
+        match self {
+            TypeExpr::Named(_) => {}
+            TypeExpr::Array(_, expr, of) => {
+                drop(expr);
+                drop(of);
+            }
+            TypeExpr::Record(_, _, fields) => drop(fields),
+            TypeExpr::Pointer(_, of) => drop(of),
+            TypeExpr::Proc(_, _, formals) => drop(formals),
+            TypeExpr::Object(_, _, decl, block, _) => {
+                drop(decl);
+                drop(block);
+            }
+        }
+    }
 }
 
 /// `Fields = [VarDef].`

@@ -45,11 +45,23 @@ pub enum Sign {
 
 /// `Expr = Simple [Relation].`
 #[cycle(expressions)]
-#[derive(Drop)]
 pub struct Expr {
     pub pos: Pos,
     pub left: Simple,
     pub right: Option<Relation>,
+}
+
+impl Drop for Expr {
+    #[cycle(drop_expressions)]
+    fn drop(self) {
+        let Expr {
+            pos: _,
+            left,
+            right,
+        } = self;
+        drop(left);
+        drop(right);
+    }
 }
 
 /// `Relation = ("=" | "#" | "<" | "<=" | ">" | ">=" | IN | IS) Simple.` Its place is that of the operator.
@@ -100,7 +112,6 @@ pub struct Product {
 
 /// `Factor = Desig | number | char | text | NIL | "{" [Elem {"," Elem}] "}" | "(" Expr ")" | "~" Factor.`
 #[cycle(expressions)]
-#[derive(Drop)]
 pub enum Factor {
     Desig(Desig),
     Number(Pos, i64),
@@ -110,6 +121,22 @@ pub enum Factor {
     Set(Pos, Items<Elem>),
     Paren(Pos, Boxed<Expr>),
     Not(Pos, Boxed<Factor>),
+}
+
+impl Drop for Factor {
+    #[cycle(drop_expressions)]
+    fn drop(self) {
+        match self {
+            Factor::Desig(desig) => drop(desig),
+            Factor::Number(_, _) => {}
+            Factor::Char(_, _) => {}
+            Factor::Text(_) => {}
+            Factor::Nil(_) => {}
+            Factor::Set(_, elem) => drop(elem),
+            Factor::Paren(_, expr) => drop(expr),
+            Factor::Not(_, factor) => drop(factor),
+        }
+    }
 }
 
 /// `Elem = Expr [".." Expr].` Its place is that of its first expression.
@@ -130,11 +157,22 @@ pub struct Desig {
 
 /// `Selector = "." ident | "[" Expr {"," Expr} "]" | "^" | "(" [Expr {"," Expr}] ")".`
 #[cycle(expressions)]
-#[derive(Drop)]
 pub enum Selector {
     Field(Pos, Name),
     Index(Pos, Items<Expr>),
     Follow(Pos),
     /// A call, a guard or a conversion.
     Paren(Pos, Items<Expr>),
+}
+
+impl Drop for Selector {
+    #[cycle(drop_expressions)]
+    fn drop(self) {
+        match self {
+            Selector::Field(_, _) => {}
+            Selector::Index(_, expr) => drop(expr),
+            Selector::Follow(_) => {}
+            Selector::Paren(_, expr) => drop(expr),
+        }
+    }
 }

@@ -8,7 +8,6 @@ pub mod expr;
 pub mod items;
 pub mod module;
 pub mod name;
-pub mod sameness;
 pub mod stat;
 
 pub use boxed::Boxed;
@@ -22,5 +21,4 @@ pub use expr::{
 pub use items::Items;
 pub use module::{Import, Module};
 pub use name::{Name, Qualident, Text};
-pub use sameness::same;
 pub use stat::{Block, Case, Elsif, Label, Modifier, Stat, StatSeq};

@@ -8,7 +8,6 @@ use aos_base::Pos;
 
 /// `Module = MODULE ident ";" [IMPORT Import {"," Import} ";"] {Decl} Body ident ".".` A body that is END alone is no
 /// block. Beside its parts stand all strings of its text, in their order.
-#[derive(Drop)]
 pub struct Module {
     pub pos: Pos,
     pub name: Name,
@@ -17,6 +16,24 @@ pub struct Module {
     pub body: Option<Block>,
     pub end: Name,
     pub strings: Items<Text>,
+}
+
+impl Drop for Module {
+    fn drop(self) {
+        let Module {
+            pos: _,
+            name: _,
+            imports,
+            decls,
+            body,
+            end: _,
+            strings,
+        } = self;
+        drop(imports);
+        drop(decls);
+        drop(body);
+        drop(strings);
+    }
 }
 
 /// `Import = ident [":=" ident].` Its place is that of its first name.

@@ -14,7 +14,6 @@ pub struct StatSeq {
 
 /// `Stat`, with a variant for each of its forms. The empty statement has no token and so no place.
 #[cycle(statements)]
-#[derive(Drop)]
 pub enum Stat {
     Empty,
     /// `Desig ":=" Expr`, with the place of `:=`
@@ -36,6 +35,51 @@ pub enum Stat {
     For(Pos, Name, Pos, Expr, Expr, Option<Expr>, StatSeq),
     /// `WITH Qualident ":" Qualident DO StatSeq END`, with the places of `WITH` and of `:`
     With(Pos, Qualident, Pos, Qualident, StatSeq),
+}
+
+impl Drop for Stat {
+    #[cycle(drop_statements)]
+    fn drop(self) {
+        match self {
+            Stat::Empty => {}
+            Stat::Assign(desig, _, expr) => {
+                drop(desig);
+                drop(expr);
+            }
+            Stat::Call(desig) => drop(desig),
+            Stat::Block(block) => drop(block),
+            Stat::Exit(_) => {}
+            Stat::Return(_, expr) => drop(expr),
+            Stat::Await(_, expr) => drop(expr),
+            Stat::If(_, expr, body, elsif, body2) => {
+                drop(expr);
+                drop(body);
+                drop(elsif);
+                drop(body2);
+            }
+            Stat::Case(_, expr, case, body) => {
+                drop(expr);
+                drop(case);
+                drop(body);
+            }
+            Stat::While(_, expr, body) => {
+                drop(expr);
+                drop(body);
+            }
+            Stat::Repeat(_, body, expr) => {
+                drop(body);
+                drop(expr);
+            }
+            Stat::Loop(_, body) => drop(body),
+            Stat::For(_, _, _, expr, expr2, expr3, body) => {
+                drop(expr);
+                drop(expr2);
+                drop(expr3);
+                drop(body);
+            }
+            Stat::With(_, _, _, _, body) => drop(body),
+        }
+    }
 }
 
 /// `ELSIF Expr THEN StatSeq`, with the place of `ELSIF`.
@@ -64,11 +108,23 @@ pub struct Label {
 
 /// `Block = BEGIN ["{" Modifier {"," Modifier} "}"] StatSeq END.`
 #[cycle(statements)]
-#[derive(Drop)]
 pub struct Block {
     pub pos: Pos,
     pub modifiers: Items<Modifier>,
     pub body: StatSeq,
+}
+
+impl Drop for Block {
+    #[cycle(drop_statements)]
+    fn drop(self) {
+        let Block {
+            pos: _,
+            modifiers,
+            body,
+        } = self;
+        drop(modifiers);
+        drop(body);
+    }
 }
 
 /// `Modifier = ident ["(" Expr ")"].` Its place is that of its name.
