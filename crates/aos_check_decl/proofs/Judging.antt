@@ -13,7 +13,7 @@ use Rattle.aos_types.specs.declared.row.TypeRow.{TypeRow}
 use Rattle.aos_types.specs.Chain.{circles, cut}
 use Rattle.aos_symbols.specs.declared.breach.Breach.{Breach}
 use Rattle.aos_symbols.specs.declared.env.Env.{Env}
-use Rattle.aos_symbols.specs.declared.home.Signature.{Signature}
+use Rattle.aos_types.specs.declared.signature.Signature.{Signature}
 use Rattle.aos_symbols.specs.Breaches.{breach_unless, first_after}
 use Rattle.aos_symbols.specs.Declarations.{Procedure, all_procedures, seen_procedures, single_variables}
 use Rattle.aos_symbols.specs.Scope.{Scope}

@@ -24,7 +24,7 @@ use Rattle.aos_types.specs.Limit.{is_past, is_first_past}
 use Rattle.aos_types.proofs.Circles.{circle_test}
 use Rattle.aos_types.proofs.Reached.{begins_added}
 use Rattle.aos_symbols.specs.declared.breach.Breach.{Breach}
-use Rattle.aos_symbols.specs.declared.home.Signature.{Signature}
+use Rattle.aos_types.specs.declared.signature.Signature.{Signature}
 use Rattle.aos_symbols.specs.declared.env.Env.{Env}
 use Rattle.aos_symbols.specs.Breaches.{breach_unless}
 use Rattle.aos_symbols.specs.Declarations.{Procedure, all_procedures, all_type_defs, single_variables}

@@ -8,10 +8,10 @@ use Rattle.aos_base.specs.declared.text.Pos.{Pos}
 use Rattle.aos_tree.specs.declared.decl.Decl.{Decl}
 use Rattle.aos_tree.specs.declared.decl.Formals.{Formals}
 use Rattle.aos_types.specs.declared.row.TypeId.{TypeId}
-use Rattle.aos_symbols.specs.declared.home.Gives.{Gives}
-use Rattle.aos_symbols.specs.declared.home.Gives.TheVariants as gives
-use Rattle.aos_symbols.specs.declared.home.Parameter.{Parameter}
-use Rattle.aos_symbols.specs.declared.home.Signature.{Signature}
+use Rattle.aos_types.specs.declared.signature.Gives.{Gives}
+use Rattle.aos_types.specs.declared.signature.Gives.TheVariants as gives
+use Rattle.aos_types.specs.declared.signature.Parameter.{Parameter}
+use Rattle.aos_types.specs.declared.signature.Signature.{Signature}
 use Rattle.aos_symbols.specs.declared.env.Open.{Open}
 use Rattle.aos_symbols.specs.declared.env.Env.{Env}
 use Rattle.aos_symbols.specs.Judged.{kept, bind, walk}

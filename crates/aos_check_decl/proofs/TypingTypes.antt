@@ -37,9 +37,9 @@ use Rattle.aos_symbols.specs.Env as env
 use Rattle.aos_symbols.proofs.Each.{Each, joined, implied, repeated}
 use Rattle.aos_symbols.specs.Declarations.{formal_names}
 use Rattle.aos_symbols.specs.Spelling.{is_word}
-use Rattle.aos_symbols.specs.declared.home.Parameter.{Parameter}
-use Rattle.aos_symbols.specs.declared.home.Gives.{Gives}
-use Rattle.aos_symbols.specs.declared.home.Gives.TheVariants as gives
+use Rattle.aos_types.specs.declared.signature.Parameter.{Parameter}
+use Rattle.aos_types.specs.declared.signature.Gives.{Gives}
+use Rattle.aos_types.specs.declared.signature.Gives.TheVariants as gives
 use Rattle.aos_tree.specs.declared.decl.Formals.{Formals}
 use Rattle.aos_tree.specs.declared.decl.Section.{Section}
 use Rattle.std.specs.List.{flat_map}

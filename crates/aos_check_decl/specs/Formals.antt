@@ -12,10 +12,10 @@ use Rattle.aos_types.specs.declared.row.TypeRow.TheVariants as row
 use Rattle.aos_symbols.specs.declared.env.Claim.{Claim}
 use Rattle.aos_symbols.specs.declared.env.Claim.TheVariants as claim
 use Rattle.aos_symbols.specs.declared.env.Env.{Env}
-use Rattle.aos_symbols.specs.declared.home.Parameter.{Parameter}
-use Rattle.aos_symbols.specs.declared.home.Gives.{Gives}
-use Rattle.aos_symbols.specs.declared.home.Gives.TheVariants as gives
-use Rattle.aos_symbols.specs.declared.home.Signature.{Signature}
+use Rattle.aos_types.specs.declared.signature.Parameter.{Parameter}
+use Rattle.aos_types.specs.declared.signature.Gives.{Gives}
+use Rattle.aos_types.specs.declared.signature.Gives.TheVariants as gives
+use Rattle.aos_types.specs.declared.signature.Signature.{Signature}
 use Rattle.aos_symbols.specs.Judged.{Judged, kept, bind, walk}
 use Rattle.aos_symbols.specs.Spelling.{is_word}
 use Rattle.aos_check_expr.specs.TypeNames.{named_type}

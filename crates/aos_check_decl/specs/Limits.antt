@@ -22,9 +22,9 @@ use Rattle.aos_typed.specs.WellTyped.{is_whole}
 use Rattle.aos_types.specs.Chain.{circles, cut}
 use Rattle.aos_types.specs.Limit.{is_past, is_first_past}
 use Rattle.aos_symbols.specs.declared.breach.Breach.{Breach}
-use Rattle.aos_symbols.specs.declared.home.Gives.{Gives}
-use Rattle.aos_symbols.specs.declared.home.Gives.TheVariants as gives
-use Rattle.aos_symbols.specs.declared.home.Signature.{Signature}
+use Rattle.aos_types.specs.declared.signature.Gives.{Gives}
+use Rattle.aos_types.specs.declared.signature.Gives.TheVariants as gives
+use Rattle.aos_types.specs.declared.signature.Signature.{Signature}
 use Rattle.aos_symbols.specs.declared.env.Claim.{Claim}
 use Rattle.aos_symbols.specs.declared.env.Claim.TheVariants as claim
 use Rattle.aos_symbols.specs.declared.env.Env.{Env}

@@ -8,7 +8,7 @@ use Rattle.aos_types.specs.declared.row.TypeRow.{TypeRow}
 use Rattle.aos_symbols.specs.declared.breach.Breach.{Breach}
 use Rattle.aos_symbols.specs.declared.scope.Meaning.{Meaning}
 use Rattle.aos_symbols.specs.declared.scope.Meaning.TheVariants as means
-use Rattle.aos_symbols.specs.declared.home.Signature.{Signature}
+use Rattle.aos_types.specs.declared.signature.Signature.{Signature}
 use Rattle.aos_symbols.specs.declared.env.Lookup.{Lookup}
 use Rattle.aos_symbols.specs.declared.env.Lookup.TheVariants.{Unknown, NotExported, Found}
 use Rattle.aos_symbols.specs.declared.env.Method.{Method}
@@ -18,7 +18,7 @@ use Rattle.aos_symbols.specs.Judged.{Judged, judged}
 use Rattle.aos_symbols.specs.Declarations.{Procedure, methods_in}
 use Rattle.aos_symbols.specs.Home.{with_slots}
 use Rattle.aos_symbols.specs.Env as env
-pub use Rattle.aos_check_expr.specs.Signatures.{same_type, same_kind, same_parameter, same_parameters, same_result, same_signature}
+pub use Rattle.aos_types.specs.Signature.{same_type, same_kind, same_parameter, same_parameters, same_result, same_signature, may_stand}
 
 -- the number that a type's name stands for
 abbrev pub slot_meant : Meaning → Option TypeId
@@ -38,7 +38,7 @@ defined_type e d = slot_in (env.lookup e d.def.name)
 
 -- the headings of both are met
 abbrev pub may_override : List TypeRow → Option Signature → Option Signature → Bool
-may_override rows (Some s) (Some t) = same_signature rows s t && same_kind s.is_initializer t.is_initializer
+may_override rows (Some s) (Some t) = may_stand rows s t
 may_override rows _ _ = true
 
 abbrev pub signature_of : Env → Method → Option Signature

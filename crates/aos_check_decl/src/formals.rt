@@ -9,9 +9,9 @@ ghost use Rattle.aos_check_decl.specs.Formals as judge;
 use crate::types::{claim, place_row};
 use aos_base::{NoMemory, Pos};
 use aos_check_expr::{named_type, no_type};
-use aos_symbols::{Breach, Claim, Env, Gives, Parameter, Signature, WRONG_MODIFIER, is_word};
-use aos_tree::{Formals, Items, Name, Qualident, Section};
-use aos_types::{Items as Parts, TypeId, TypeRow};
+use aos_symbols::{Breach, Claim, Env, WRONG_MODIFIER, is_word};
+use aos_tree::{Formals, Name, Qualident, Section};
+use aos_types::{Gives, Items, Parameter, Signature, TypeId, TypeRow};
 use std::alloc::{AllocError, Global};
 
 /// An open array of elements of this type, where it is known.
@@ -168,9 +168,9 @@ pub(crate) fn result_in(formals: &Option<Formals>) -> Option<Qualident>
 
 /// These formals with another one behind them, or none where the type of one isn't known.
 fn with_formal(
-    formals: Option<Parts<(bool, TypeId)>>,
+    formals: Option<Items<(bool, TypeId)>>,
     parameter: Parameter,
-) -> Result<Option<Parts<(bool, TypeId)>>, AllocError>
+) -> Result<Option<Items<(bool, TypeId)>>, AllocError>
     ensures { IfOk result (λ fs. fs ≡ judge.with_formal formals parameter) }
 {
     let Some(mut formals) = formals else {
@@ -187,10 +187,10 @@ fn with_formal(
 fn known_formals(
     alloc: Global,
     parameters: &[Parameter],
-) -> Result<Option<Parts<(bool, TypeId)>>, AllocError>
+) -> Result<Option<Items<(bool, TypeId)>>, AllocError>
     ensures { IfOk result (λ fs. fs ≡ judge.known_formals parameters.now) }
 {
-    let mut formals = Some(Parts::new(alloc));
+    let mut formals = Some(Items::new(alloc));
     for parameter in parameters {
         formals = with_formal(formals, *parameter)?;
     }

@@ -14,11 +14,11 @@ use crate::claims::{drop_bases, note_claims};
 use crate::procedures::next;
 use aos_base::{NoMemory, Pos};
 use aos_symbols::{
-    Breach, CONTAINS_ITSELF, Claim, Env, Gives, Home, Scope, TOO_MANY_SCALARS, WRONG_TYPE,
-    all_procedures, note,
+    Breach, CONTAINS_ITSELF, Claim, Env, Home, Scope, TOO_MANY_SCALARS, WRONG_TYPE, all_procedures,
+    note,
 };
 use aos_tree::{Decl, Def, Formals, Proc, TypeDef, TypeExpr, VarDef};
-use aos_types::{MOST_SCALARS, TypeId, TypeRow, Types};
+use aos_types::{Gives, MOST_SCALARS, TypeId, TypeRow, Types};
 use std::alloc::{AllocError, Global};
 use std::marker::Model;
 

@@ -9,10 +9,9 @@ ghost use Rattle.aos_symbols.specs.Declarations.{procedures, seen_types};
 ghost use Rattle.aos_check_decl.specs.Methods as judge;
 
 use aos_base::NoMemory;
-use aos_check_expr::same_signature;
-use aos_symbols::{Breach, Env, Lookup, Meaning, Signature, WRONG_OVERRIDE, inner_decls, note};
+use aos_symbols::{Breach, Env, Lookup, Meaning, WRONG_OVERRIDE, inner_decls, note};
 use aos_tree::{Decl, Items, Name, TypeDef};
-use aos_types::{TypeId, Types};
+use aos_types::{Signature, TypeId, Types, may_stand};
 use std::alloc::{AllocError, Global};
 
 /// The number of the type that a name stands for.
@@ -43,7 +42,7 @@ fn may_override(types: &Types, a: Option<&Signature>, b: Option<&Signature>) -> 
     let (Some(a), Some(b)) = (a, b) else {
         return true;
     };
-    same_signature(types, a, b) && a.is_initializer == b.is_initializer
+    may_stand(types, a, b)
 }
 
 /// Rule 22 at a method's name.

@@ -10,11 +10,9 @@ use crate::declarations::{add_variable, declare_all};
 use crate::formals::{formals_in, result_in};
 use crate::methods::{defined_type, overriding};
 use aos_base::{NoMemory, Pos};
-use aos_symbols::{
-    Breach, Env, Open, Parameter, Signature, WRONG_INITIALIZER, inner_decls, note, type_definitions,
-};
+use aos_symbols::{Breach, Env, Open, WRONG_INITIALIZER, inner_decls, note, type_definitions};
 use aos_tree::{Decl, Formals, Items, TypeDef};
-use aos_types::TypeId;
+use aos_types::{Parameter, Signature, TypeId};
 use std::alloc::{AllocError, Global};
 
 /// The variables that parameters are.

@@ -19,9 +19,9 @@ use Rattle.aos_typed.specs.Formals.{HasFormals, pattern_of}
 use Rattle.aos_typed.specs.Numbers.{id_of}
 use Rattle.aos_typed.specs.Program.{Expr, Lit, Read, Parameter, Procedure}
 use Rattle.aos_typed.specs.WellTyped.{FitsProcedure, target_in, is_reference as is_reference_type, is_procedural as is_procedural_type, is_value as is_value_type, is_basic as is_basic_type}
-use Rattle.aos_symbols.specs.declared.home.Gives.{Gives}
-use Rattle.aos_symbols.specs.declared.home.Gives.TheVariants as gives
-use Rattle.aos_symbols.specs.declared.home.Signature.{Signature}
+use Rattle.aos_types.specs.declared.signature.Gives.{Gives}
+use Rattle.aos_types.specs.declared.signature.Gives.TheVariants as gives
+use Rattle.aos_types.specs.declared.signature.Signature.{Signature}
 use Rattle.aos_symbols.specs.declared.env.Env.{Env}
 use Rattle.aos_symbols.specs.Env as env
 use Rattle.aos_symbols.specs.Env.{nil, procedure}
@@ -31,7 +31,8 @@ use Rattle.aos_check_expr.specs.declared.known.Class.{Class}
 use Rattle.aos_check_expr.specs.declared.known.Class.TheVariants as class
 use Rattle.aos_check_expr.specs.declared.known.Known.{Known}
 use Rattle.aos_check_expr.specs.Known.{Answer, is_nil, is_basic, object_number, type_as, as_procedure}
-use Rattle.aos_check_expr.specs.Signatures.{same_signature, same_parameters, formal, given_by, row_signature, type_signature}
+use Rattle.aos_types.specs.Signature.{same_signature, same_parameters}
+use Rattle.aos_check_expr.specs.Signatures.{formal, given_by, row_signature, type_signature}
 use Rattle.aos_check_expr.specs.Signatures as signatures
 use Rattle.aos_check_expr.specs.Designators as desig
 use Rattle.aos_check_expr.proofs.Inside.{Inside, IsOf, IsNamed}

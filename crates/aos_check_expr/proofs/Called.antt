@@ -12,7 +12,7 @@ use Rattle.aos_typed.specs.declared.tree.TType.TheVariants as type
 use Rattle.aos_typed.specs.Numbers.{id_of}
 use Rattle.aos_typed.specs.Formals.{pattern_of}
 use Rattle.aos_typed.specs.Program.{Callee, Dispatched, Upper, Through, Expr, SelfRef, Procedure}
-use Rattle.aos_symbols.specs.declared.home.Signature.{Signature}
+use Rattle.aos_types.specs.declared.signature.Signature.{Signature}
 use Rattle.aos_symbols.specs.declared.env.Method.{Method}
 use Rattle.aos_symbols.specs.declared.env.Env.{Env}
 use Rattle.aos_symbols.specs.Env as env

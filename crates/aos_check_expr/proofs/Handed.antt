@@ -11,7 +11,7 @@ use Rattle.aos_typed.specs.declared.tree.TCallee.{TCallee}
 use Rattle.aos_typed.specs.Program.{Arguments, Function}
 use Rattle.aos_typed.specs.Seen.{seen_callee, seen_expr, seen_argument, seen_list}
 use Rattle.aos_typed.proofs.Seen.{function_seen}
-use Rattle.aos_symbols.specs.declared.home.Parameter.{Parameter}
+use Rattle.aos_types.specs.declared.signature.Parameter.{Parameter}
 use Rattle.aos_symbols.specs.declared.env.Env.{Env}
 use Rattle.aos_symbols.specs.declared.breach.Breach.{Breach}
 use Rattle.aos_symbols.specs.Breaches.{first_after}

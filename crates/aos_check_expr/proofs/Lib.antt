@@ -1,5 +1,4 @@
 pub mod Rows
-pub mod Formals
 pub mod Inside
 pub mod Opens
 pub mod Stored

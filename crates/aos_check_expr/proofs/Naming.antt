@@ -3,7 +3,7 @@ use Rattle.std.proofs.Common.{◌≡◌, Some}
 use Rattle.aos_typed.specs.declared.tree.TType.{TType}
 use Rattle.aos_typed.specs.Program.{Procedure, Expr}
 use Rattle.aos_typed.specs.WellTyped.{IsProcedural}
-use Rattle.aos_symbols.specs.declared.home.Signature.{Signature}
+use Rattle.aos_types.specs.declared.signature.Signature.{Signature}
 use Rattle.aos_symbols.specs.declared.env.Env.{Env}
 use Rattle.aos_symbols.specs.Env as env
 use Rattle.aos_check_expr.specs.declared.known.Class.{Class}

@@ -36,7 +36,7 @@ use Rattle.aos_symbols.specs.Spelling.{word, is_among, procedures_of_out}
 use Rattle.aos_symbols.specs.Scope.{Scope, find}
 use Rattle.aos_symbols.specs.Env as env
 use Rattle.aos_symbols.specs.Env.{nil, text}
-use Rattle.aos_symbols.specs.declared.home.Signature.{Signature}
+use Rattle.aos_types.specs.declared.signature.Signature.{Signature}
 use Rattle.aos_symbols.proofs.Each.{each_at}
 use Rattle.aos_symbols.proofs.Holds.{Holds, holds_bind, broken}
 use Rattle.aos_symbols.proofs.Lookups.{IsPredeclared, itself, IsOfAll, lookup_is, member_is}

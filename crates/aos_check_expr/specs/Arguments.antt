@@ -19,7 +19,7 @@ use Rattle.aos_typed.specs.Open.{open_dimensions, open_element}
 use Rattle.aos_typed.specs.Program.{Place, Rows, Arguments, NoMore, Scalar as ScalarFor, Whole as WholeFor, Opening as OpeningFor}
 use Rattle.aos_typed.specs.Program.{Expr as Typed}
 use Rattle.aos_symbols.specs.declared.breach.Breach.{Breach}
-use Rattle.aos_symbols.specs.declared.home.Parameter.{Parameter}
+use Rattle.aos_types.specs.declared.signature.Parameter.{Parameter}
 use Rattle.aos_symbols.specs.declared.env.Env.{Env}
 use Rattle.aos_symbols.specs.Breaches.{breach}
 use Rattle.aos_symbols.specs.Judged.{Judged, judged, kept, bind}

@@ -17,8 +17,8 @@ use Rattle.aos_typed.specs.Program.{Field as FieldOf}
 use Rattle.aos_typed.specs.WellTyped.{is_whole}
 use Rattle.aos_typed.specs.Open.{open_dimensions, open_element, first_same}
 use Rattle.aos_symbols.specs.declared.breach.Breach.{Breach}
-use Rattle.aos_symbols.specs.declared.home.Parameter.{Parameter}
-use Rattle.aos_symbols.specs.declared.home.Signature.{Signature}
+use Rattle.aos_types.specs.declared.signature.Parameter.{Parameter}
+use Rattle.aos_types.specs.declared.signature.Signature.{Signature}
 use Rattle.aos_symbols.specs.declared.scope.Meaning.{Meaning}
 use Rattle.aos_symbols.specs.declared.scope.Meaning.TheVariants as means
 use Rattle.aos_symbols.specs.declared.env.Open.{Open}
@@ -36,7 +36,8 @@ use Rattle.aos_check_expr.specs.declared.known.Class.{Class}
 use Rattle.aos_check_expr.specs.declared.known.Class.TheVariants.{Unknown, Constant, Variable, ReadOnly, Computed, Procedure}
 use Rattle.aos_check_expr.specs.declared.known.Known.{Known as KnownPart}
 use Rattle.aos_check_expr.specs.declared.designators.Head.{Head}
-use Rattle.aos_check_expr.specs.Signatures.{type_signature, same_signature}
+use Rattle.aos_types.specs.Signature.{same_signature}
+use Rattle.aos_check_expr.specs.Signatures.{type_signature}
 use Rattle.aos_check_expr.specs.Known.{Answer, Spot, Held, Stands, Value, passes, is, is_basic, is_of_any, is_long_text, is_number, fits_type, object_number, type_as, unknown, some_value, constant_answer, answered, nothing, spot_of, read_from, known_as, value_class, lost, as_procedure}
 
 -- A head is what is found of a name, the name, and where the designator begins.

@@ -14,9 +14,9 @@ use crate::references::{is_record_type, is_value, with_type};
 use crate::texts::{has_room, is_characters, rows_in, string_in, text_for};
 use crate::variables::{is_opened, open_dimensions};
 use aos_base::Pos;
-use aos_symbols::{ARGUMENT_TYPE, Breach, Env, NO_VARIABLE, NOT_BUILT, Parameter, READ_ONLY, note};
+use aos_symbols::{ARGUMENT_TYPE, Breach, Env, NO_VARIABLE, NOT_BUILT, READ_ONLY, note};
 use aos_typed::{TArgument, TextConstant, open_array};
-use aos_types::{MOST_SCALARS, TypeId, TypeRow};
+use aos_types::{MOST_SCALARS, Parameter, TypeId, TypeRow};
 use std::alloc::{AllocError, Global};
 
 fn broken_unless(rule: u16, is_kept: bool) -> Option<u16>

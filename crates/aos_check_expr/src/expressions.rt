@@ -28,11 +28,11 @@ use crate::signatures::{Heading, signature_at};
 use crate::variables::is_of_module;
 use aos_base::Pos;
 use aos_symbols::{
-    ARGUMENT_COUNT, Breach, Env, Function, Gives, Lookup, Meaning, NOT_CONSTANT, Parameter, Symbol,
-    WRONG_CALL, note,
+    ARGUMENT_COUNT, Breach, Env, Function, Lookup, Meaning, NOT_CONSTANT, Symbol, WRONG_CALL, note,
 };
 use aos_tree::{Addition, Desig, Elem, Expr, Factor, Product, Relation, Selector, Simple, Term};
 use aos_typed::{Literal, TCallee};
+use aos_types::{Gives, Parameter};
 use std::alloc::{AllocError, Global};
 
 /// An expression.

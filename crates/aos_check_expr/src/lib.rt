@@ -38,7 +38,7 @@ pub use references::{
     guard, is_compatible, is_object_type, is_pointer_type, made_number, target_of,
 };
 pub use required::{char_argument, condition, constant, constant_class, number_argument};
-pub use signatures::{Heading, same_signature, signature_at};
+pub use signatures::{Heading, signature_at};
 pub use texts::{has_room, is_characters, may_be_text, text_for, text_rows};
 pub use type_names::{known_type, named_type, no_type};
 pub use variables::{is_of_module, place_of_variable};

@@ -11,13 +11,13 @@ use crate::designators::refused_value_at;
 use crate::known::{Answer, Class, Held, Known, Spot, as_procedure, known_as};
 use crate::operations;
 use crate::references::{is_compatible, is_procedural};
-use crate::signatures::{same_signature, type_signature};
+use crate::signatures::type_signature;
 use crate::texts::relation_in;
 use aos_base::Pos;
 use aos_symbols::{Breach, Env, NIL, NOT_CONSTANT, PROCEDURE};
 use aos_tree::RelationOp;
 use aos_typed::TExpr;
-use aos_types::TypeId;
+use aos_types::{TypeId, same_signature};
 use std::alloc::{AllocError, Global};
 
 /// A procedure as a value, whose signature has these numbers. Where its heading isn't met yet a constant is needed.

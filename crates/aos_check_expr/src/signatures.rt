@@ -1,12 +1,11 @@
-// The signatures of procedures: which are the same, and those of procedure types.
+// The signatures of what is called: of procedures, and of procedure types.
 
-ghost use Rattle.std.specs.Prelude.{◌≡◌, IfOk, length, map};
+ghost use Rattle.std.specs.Prelude.{◌≡◌, IfOk, map};
 ghost use Rattle.aos_symbols.specs.Env as scopes;
 ghost use Rattle.aos_check_expr.specs.Signatures as judge;
 
-use aos_symbols::{Env, Gives, Parameter, Signature};
-use aos_tree::Items;
-use aos_types::{TypeId, TypeRow, Types};
+use aos_symbols::Env;
+use aos_types::{Gives, Items, Parameter, Signature, TypeId, TypeRow};
 use std::alloc::{AllocError, Global};
 
 /// Where the signature of what is called stands: it is that of a procedure, by the number of the module that declares it and its own
@@ -15,61 +14,6 @@ use std::alloc::{AllocError, Global};
 pub enum Heading {
     Declared(u32, u32),
     OfType(TypeId),
-}
-
-/// Two types are the same, or one of them breaks a rule.
-fn same_type(types: &Types, a: Option<TypeId>, b: Option<TypeId>) -> bool
-    ensures { result ≡ judge.same_type types.now a b }
-{
-    match (a, b) {
-        (Some(a), Some(b)) => types.same(a, b),
-        _ => true,
-    }
-}
-
-fn same_parameter(types: &Types, a: Parameter, b: Parameter) -> bool
-    ensures { result ≡ judge.same_parameter types.now a b }
-{
-    a.by_reference == b.by_reference && same_type(types, a.of, b.of)
-}
-
-/// Parameters in order, of which there are as many.
-#[tactic(auto, using(crate::proofs::Formals::both_step, crate::proofs::Formals::both_end))]
-fn same_in_order(types: &Types, a: &[Parameter], b: &[Parameter]) -> bool
-    requires { length a.now ≡ length b.now }
-    ensures { result ≡ judge.same_parameters types.now a.now b.now }
-{
-    for number in 0..a.len() {
-        if !same_parameter(types, a[number], b[number]) {
-            return false;
-        }
-    }
-    true
-}
-
-#[tactic(auto, using(crate::proofs::Formals::other_length))]
-fn same_parameters(types: &Types, a: &[Parameter], b: &[Parameter]) -> bool
-    ensures { result ≡ judge.same_parameters types.now a.now b.now }
-{
-    a.len() == b.len() && same_in_order(types, a, b)
-}
-
-fn same_result(types: &Types, a: Gives, b: Gives) -> bool
-    ensures { result ≡ judge.same_result types.now a b }
-{
-    match (a, b) {
-        (Gives::Nothing, Gives::Nothing) => true,
-        (Gives::Value(a), Gives::Value(b)) => same_type(types, a, b),
-        _ => false,
-    }
-}
-
-/// Whether two procedures have the same parameters and the same result; what breaks a rule is the same as all else.
-pub fn same_signature(types: &Types, a: &Signature, b: &Signature) -> bool
-    ensures { result ≡ judge.same_signature types.now a.now b.now }
-{
-    same_parameters(types, a.parameters.as_slice(), b.parameters.as_slice())
-        && same_result(types, a.gives, b.gives)
 }
 
 /// The parameters of the procedures that have these formals.

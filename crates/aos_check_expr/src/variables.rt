@@ -6,9 +6,9 @@ ghost use Rattle.aos_typed.specs.Seen.{seen_place, seen_rows};
 ghost use Rattle.aos_check_expr.specs.Designators as judge;
 
 use crate::known::{is_basic, type_as};
-use aos_symbols::{Env, Open, Parameter, Symbol};
+use aos_symbols::{Env, Open, Symbol};
 use aos_typed::{TExpr, TPlace, TRows, open_array};
-use aos_types::{TypeId, TypeRow};
+use aos_types::{Parameter, TypeId, TypeRow};
 use std::alloc::{AllocError, Global};
 use std::mem;
 

@@ -12,9 +12,9 @@ use Rattle.aos_types.specs.Table.{row_of, base_of, is_record}
 use Rattle.aos_typed.specs.declared.tree.TType.TheVariants as type
 use Rattle.aos_typed.specs.Numbers.{id_of}
 use Rattle.aos_typed.specs.Program.{Place, ModuleVar, Guarded, Parameter, Procedure, Guard, Stats, With, WithRecord}
-use Rattle.aos_symbols.specs.declared.home.Parameter.{Parameter as Formal}
+use Rattle.aos_types.specs.declared.signature.Parameter.{Parameter as Formal}
 use Rattle.aos_symbols.specs.declared.home.ObjectScope.{ObjectScope}
-use Rattle.aos_symbols.specs.declared.home.Signature.{Signature}
+use Rattle.aos_types.specs.declared.signature.Signature.{Signature}
 use Rattle.aos_symbols.specs.declared.scope.Meaning.{Meaning}
 use Rattle.aos_symbols.specs.declared.scope.Meaning.TheVariants as means
 use Rattle.aos_symbols.specs.declared.env.Open.{Open}

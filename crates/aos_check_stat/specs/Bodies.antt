@@ -33,9 +33,9 @@ use Rattle.aos_symbols.specs.declared.scope.Meaning.{Meaning}
 use Rattle.aos_symbols.specs.declared.scope.Meaning.TheVariants as means
 use Rattle.aos_symbols.specs.declared.scope.Routine.{Routine}
 use Rattle.aos_symbols.specs.declared.scope.Routine.TheVariants as routine
-use Rattle.aos_symbols.specs.declared.home.Gives.{Gives}
-use Rattle.aos_symbols.specs.declared.home.Gives.TheVariants as gives
-use Rattle.aos_symbols.specs.declared.home.Signature.{Signature}
+use Rattle.aos_types.specs.declared.signature.Gives.{Gives}
+use Rattle.aos_types.specs.declared.signature.Gives.TheVariants as gives
+use Rattle.aos_types.specs.declared.signature.Signature.{Signature}
 use Rattle.aos_symbols.specs.declared.env.Symbol.{Symbol}
 use Rattle.aos_symbols.specs.declared.env.Lookup.{Lookup}
 use Rattle.aos_symbols.specs.declared.env.Lookup.TheVariants.{Unknown as NoName, NotExported, Found}

@@ -14,12 +14,10 @@ use aos_check_expr::{
     Class, Spot, arguments_for, desig_alone, designator, expr, is_number, is_object_type,
     is_pointer_type, made_number, place_of, target_of,
 };
-use aos_symbols::{
-    ARGUMENT_COUNT, Breach, Env, Method, NOT_BUILT, READ_ONLY, Signature, WRONG_NEW, note,
-};
+use aos_symbols::{ARGUMENT_COUNT, Breach, Env, Method, NOT_BUILT, READ_ONLY, WRONG_NEW, note};
 use aos_tree::{Desig, Expr};
 use aos_typed::{TArgument, TExpr, TStat, open_array};
-use aos_types::TypeId;
+use aos_types::{Signature, TypeId};
 use std::alloc::{AllocError, Global};
 
 /// Whether NEW makes what a variable of a type holds; one that isn't known may be any.

@@ -13,12 +13,11 @@ use aos_check_expr::{
     typed_for,
 };
 use aos_symbols::{
-    Breach, Env, Gives, Lookup, Meaning, NOT_BUILT, Signature, Symbol, WRONG_CALL, WRONG_RETURN,
-    note,
+    Breach, Env, Lookup, Meaning, NOT_BUILT, Symbol, WRONG_CALL, WRONG_RETURN, note,
 };
 use aos_tree::{Desig, Expr, Selector};
 use aos_typed::{TCallee, TStat};
-use aos_types::TypeId;
+use aos_types::{Gives, Signature, TypeId};
 use std::alloc::{AllocError, Global};
 
 /// A call of a proper procedure with these arguments, which begins at a place.

@@ -6,7 +6,7 @@ use Rattle.aos_tree.specs.declared.decl.Decl.TheVariants as decl
 use Rattle.aos_typed.specs.Program.{Stat, Stats, Procedure as TypedProcedure}
 use Rattle.aos_symbols.specs.declared.breach.Breach.{Breach}
 use Rattle.aos_symbols.specs.declared.env.Env.{Env}
-use Rattle.aos_symbols.specs.declared.home.Signature.{Signature}
+use Rattle.aos_types.specs.declared.signature.Signature.{Signature}
 use Rattle.aos_symbols.specs.Env.{within}
 use Rattle.aos_symbols.specs.Judged.{Judged, judged, bind}
 use Rattle.aos_symbols.specs.Breaches.{first_after}

@@ -8,10 +8,10 @@ use Rattle.aos_types.specs.Sameness.{same}
 use Rattle.aos_typed.specs.Methods.{own_methods, initial_slot}
 use Rattle.aos_typed.specs.Program.{Procedure as TypedProcedure, Parameter, Method as TypedMethod, ObjectType, Module}
 use Rattle.aos_symbols.specs.declared.home.ObjectScope.{ObjectScope}
-use Rattle.aos_symbols.specs.declared.home.Parameter.{Parameter as Formal}
-use Rattle.aos_symbols.specs.declared.home.Gives.{Gives}
-use Rattle.aos_symbols.specs.declared.home.Gives.TheVariants as gives
-use Rattle.aos_symbols.specs.declared.home.Signature.{Signature}
+use Rattle.aos_types.specs.declared.signature.Parameter.{Parameter as Formal}
+use Rattle.aos_types.specs.declared.signature.Gives.{Gives}
+use Rattle.aos_types.specs.declared.signature.Gives.TheVariants as gives
+use Rattle.aos_types.specs.declared.signature.Signature.{Signature}
 use Rattle.aos_symbols.specs.declared.env.Symbol.{Symbol}
 use Rattle.aos_symbols.specs.declared.env.Env.{Env}
 use Rattle.aos_symbols.specs.Home.{Home}
@@ -19,7 +19,7 @@ use Rattle.aos_symbols.specs.Scope.{Named, Scope, find, methods_of}
 use Rattle.aos_symbols.specs.Env as env
 use Rattle.aos_check_expr.specs.Known.{object_number}
 use Rattle.aos_check_expr.proofs.Opens.{OpensFall}
-use Rattle.aos_check_expr.specs.Signatures.{same_type, same_kind, same_parameters, same_result}
+use Rattle.aos_types.specs.Signature.{same_type, same_kind, same_parameters, same_result}
 use Rattle.aos_check_decl.proofs.Typing.{AreReady}
 use Rattle.aos_compile.proofs.Overriding.{may_stand}
 use Rattle.aos_compile.proofs.Slots.{Word, spot, more, words, is_in}

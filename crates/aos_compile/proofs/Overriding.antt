@@ -10,9 +10,9 @@ use Rattle.aos_types.specs.Table.{row_of}
 use Rattle.aos_types.specs.Sameness.{place, are_predeclared}
 use Rattle.aos_typed.specs.Program.{Procedure as TypedProcedure, Program}
 use Rattle.aos_typed.specs.WellTyped.{Overrides}
-use Rattle.aos_symbols.specs.declared.home.Signature.{Signature}
+use Rattle.aos_types.specs.declared.signature.Signature.{Signature}
 use Rattle.aos_symbols.specs.Env.{basic_rows}
-use Rattle.aos_check_expr.specs.Signatures.{same_kind, same_parameters, same_result, same_signature}
+use Rattle.aos_types.specs.Signature.{same_kind, same_parameters, same_result, same_signature}
 use Rattle.aos_check_expr.proofs.Agreeing.{agree, results}
 use Rattle.aos_check_expr.proofs.Opens.{OpensFall, stand_fall}
 use Rattle.aos_check_expr.proofs.Whole.{IsWritten}
@@ -22,10 +22,6 @@ use Rattle.aos_compile.proofs.TypingProcedures.{IsSignature}
 
 not_both : true ≡ false → ⊥
 not_both e = cc
-
--- a signature may stand in the place of another one, that of an initializer in the place of one's
-abbrev pub may_stand : List TypeRow → (s t : Signature) → Bool
-may_stand types s t = same_signature types s t && same_kind s.is_initializer t.is_initializer
 
 -- The predeclared types have one row each.
 

@@ -11,7 +11,7 @@ use Rattle.aos_typed.specs.Program.{Procedure as TypedProcedure, Module}
 use Rattle.aos_symbols.specs.declared.scope.Entry.{Entry}
 use Rattle.aos_symbols.specs.declared.scope.Meaning.TheVariants as means
 use Rattle.aos_symbols.specs.declared.home.ObjectScope.{ObjectScope}
-use Rattle.aos_symbols.specs.declared.home.Signature.{Signature}
+use Rattle.aos_types.specs.declared.signature.Signature.{Signature}
 use Rattle.aos_symbols.specs.Scope.{Scope, find}
 use Rattle.aos_symbols.specs.Home.{Home, texts_of, object_of}
 use Rattle.aos_symbols.specs.Env.{object_among}

@@ -6,8 +6,8 @@ use Rattle.aos_tree.specs.declared.decl.Def.{Def}
 use Rattle.aos_types.specs.declared.row.TypeId.{TypeId}
 use Rattle.aos_typed.specs.Open.{open_dimensions, open_element}
 use Rattle.aos_typed.specs.Program.{Local, Passed, Of, Opened, Stats, Parameter, Procedure as TypedProcedure, Program}
-use Rattle.aos_symbols.specs.declared.home.Parameter.{Parameter as Formal}
-use Rattle.aos_symbols.specs.declared.home.Signature.{Signature}
+use Rattle.aos_types.specs.declared.signature.Parameter.{Parameter as Formal}
+use Rattle.aos_types.specs.declared.signature.Signature.{Signature}
 use Rattle.aos_symbols.specs.declared.env.Open.{Open}
 use Rattle.aos_symbols.specs.declared.env.Env.{Env}
 use Rattle.aos_symbols.specs.Declarations.{Procedure, single_variables, formal_names}

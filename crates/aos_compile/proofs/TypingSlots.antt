@@ -12,7 +12,7 @@ use Rattle.aos_types.specs.Table.{row_of, base_of}
 use Rattle.aos_typed.specs.Methods.{methods_in as methods_beside, own_methods, initial_slot}
 use Rattle.aos_typed.specs.Program.{Stats, ObjectType, Module, Procedure as TypedProcedure, Method as TypedMethod}
 use Rattle.aos_symbols.specs.declared.home.ObjectScope.{ObjectScope}
-use Rattle.aos_symbols.specs.declared.home.Signature.{Signature}
+use Rattle.aos_types.specs.declared.signature.Signature.{Signature}
 use Rattle.aos_symbols.specs.declared.env.Env.{Env}
 use Rattle.aos_symbols.specs.Declarations.{Procedure, procedure_defs, methods_in, all_procedures, type_defs, inner_decls}
 use Rattle.aos_symbols.specs.declared.entries.Sort.TheVariants as sort

@@ -11,9 +11,10 @@ use crate::objects::{number_behind, spelling_of};
 use crate::variables::variables_from;
 use aos_check_expr::type_of;
 use aos_check_stat::are_exclusive;
-use aos_symbols::{Env, Gives, Parameter, Scope, Signature};
+use aos_symbols::{Env, Scope};
 use aos_tree::{Block, Decl, Formals, Name, Proc};
 use aos_typed::{TParameter, TProcedure, TStat, TType, TVariable};
+use aos_types::{Gives, Parameter, Signature};
 use std::alloc::{AllocError, Global};
 
 /// What a function gives.

@@ -32,7 +32,7 @@ use Rattle.aos_symbols.specs.declared.env.Lookup.TheVariants.{Unknown, NotExport
 use Rattle.aos_symbols.specs.declared.env.Env.{Env}
 use Rattle.aos_symbols.specs.Spelling.{word}
 use Rattle.aos_symbols.specs.Scope.{Named, Scope, empty, find, with_names, methods_of, places_in}
-use Rattle.aos_symbols.specs.declared.home.Signature.{Signature}
+use Rattle.aos_types.specs.declared.signature.Signature.{Signature}
 use Rattle.aos_symbols.specs.declared.home.ObjectScope.{ObjectScope}
 use Rattle.aos_symbols.specs.Home.{Home, signature_in, fields_of, object_of, slot_at, is_inner as is_inner_of, string_number, string_in, character}
 

@@ -7,13 +7,13 @@ ghost use Rattle.std.specs.Str.{bytes_eq};
 ghost use Rattle.aos_types.specs.Table.{base_of, is_object, row_of as row_in};
 ghost use Rattle.aos_symbols.specs.Env as env;
 
-use crate::home::{Home, Signature};
+use crate::home::Home;
 use crate::scope::{Entry, Function, Meaning, Routine, Scope};
 use crate::spelling::word;
 use aos_base::Pos;
 use aos_tree::{Export, Items, Name};
 use aos_typed::{Literal, TextConstant};
-use aos_types::{TypeId, TypeRow, Types};
+use aos_types::{Signature, TypeId, TypeRow, Types};
 use std::alloc::{AllocError, Global};
 use std::mem;
 

@@ -8,32 +8,10 @@ use crate::entries::MOST_NUMBERS;
 use crate::scope::{Constant, Scope};
 use crate::spelling::bytes_between;
 use aos_tree::{Items, Text};
-use aos_types::TypeId;
+use aos_types::{Signature, TypeId};
 use indexmap::IndexMap;
 use std::alloc::{AllocError, Global};
 use std::marker::Model;
-
-/// A parameter: by reference where VAR stands before it. Its type is none where it breaks a rule.
-#[derive(Clone, Copy)]
-pub struct Parameter {
-    pub by_reference: bool,
-    pub of: Option<TypeId>,
-}
-
-/// What a procedure gives: nothing, or a value of a type, which is none where it breaks a rule.
-#[derive(Clone, Copy)]
-pub enum Gives {
-    Nothing,
-    Value(Option<TypeId>),
-}
-
-/// A procedure's parameters, in the order of the text, what it gives, and whether it is an initializer.
-#[derive(Drop)]
-pub struct Signature {
-    pub parameters: Items<Parameter>,
-    pub gives: Gives,
-    pub is_initializer: bool,
-}
 
 /// An object type: the number of the module that declares it, the number of its scope there, in which its constants, fields and
 /// methods stand, the number of its first method among the module's signatures, and the place among its methods of its initializer.

@@ -27,7 +27,7 @@ pub use env::{
     ANY, BASIC_TYPES, BOOLEAN, CHAR, Claim, Env, Field, HUGEINT, INTEGER, LONGINT, Lookup, Method,
     NIL, Narrowed, Open, PROCEDURE, SET, SHORTINT, Symbol, TEXT,
 };
-pub use home::{Gives, Home, ObjectScope, Parameter, Signature};
+pub use home::{Home, ObjectScope};
 pub use laws::law_of_first;
 pub use names::check_names;
 pub use scope::{Constant, Entry, Function, Meaning, Routine, Scope};

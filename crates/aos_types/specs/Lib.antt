@@ -2,6 +2,7 @@ pub mod Table
 pub mod Extension
 pub mod Sameness
 pub mod Fit
+pub mod Signature
 pub mod Shape
 pub mod Contents
 pub mod Chain

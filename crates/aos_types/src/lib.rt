@@ -11,6 +11,7 @@ mod laws;
 mod limit;
 mod row;
 mod sameness;
+mod signature;
 mod table;
 
 /// The most scalars that a type may have.
@@ -22,4 +23,5 @@ pub use laws::{
     law_of_ranks,
 };
 pub use row::{Basic, TypeId, TypeRow};
+pub use signature::{Gives, Parameter, Signature, may_stand, same_signature};
 pub use table::Types;

@@ -1,10 +1,10 @@
 -- Two lists of parameters, of which the first ones are the same.
 use Rattle.std.proofs.Common.{◌≡◌, ◌==◌, ◌&&◌, ◌<◌, ◌≤◌, ℕ, suc, ◌+◌, List, [], ◌∷◌, length, get_or, drop, drop-cons, add-one, Bool, true, false, refl, sym, ap, ◌∙◌, arith}
 use Rattle.std.proofs.lemmas.Bool.Decides.{nat_tests}
+use Rattle.std.proofs.lemmas.List.{drop_all}
 use Rattle.aos_types.specs.declared.row.TypeRow.{TypeRow}
-use Rattle.aos_symbols.specs.declared.home.Parameter.{Parameter}
-use Rattle.aos_symbols.proofs.Paths.{past}
-use Rattle.aos_check_expr.specs.Signatures.{same_parameter, same_parameters}
+use Rattle.aos_types.specs.declared.signature.Parameter.{Parameter}
+use Rattle.aos_types.specs.Signature.{same_parameter, same_parameters}
 
 module _ (rows : List TypeRow) (as' bs : List Parameter) where
   pub both_step : (i : ℕ) (d : Parameter) → i < length as' → length as' ≡ length bs →
@@ -16,7 +16,7 @@ module _ (rows : List TypeRow) (as' bs : List Parameter) where
 
   pub both_end : (i : ℕ) → length as' ≤ i → length as' ≡ length bs → same_parameters rows (drop i as') (drop i bs) ≡ true
   both_end i over long =
-      ap (λ l. same_parameters rows l (drop i bs)) (past as' i over) ∙ ap (λ l. same_parameters rows [] l) (past bs i (omega (arith, over, long)))
+      ap (λ l. same_parameters rows l (drop i bs)) (drop_all i as' over) ∙ ap (λ l. same_parameters rows [] l) (drop_all i bs (omega (arith, over, long)))
 
 -- other numbers of them aren't the same
 pub other_length : (rows : List TypeRow) (as' bs : List Parameter) → (length as' == length bs) ≡ false → same_parameters rows as' bs ≡ false
