@@ -33,7 +33,7 @@ use Rattle.aos_check_expr.specs.declared.known.Known.{Known}
 use Rattle.aos_check_expr.specs.Known.{Answer, is_nil, is_basic, object_number, type_as, as_procedure}
 use Rattle.aos_types.specs.Signature.{same_signature, same_parameters}
 use Rattle.aos_check_expr.specs.Signatures.{formal, given_by, row_signature, type_signature}
-use Rattle.aos_check_expr.specs.Signatures as signatures
+use Rattle.aos_types.specs.Signature as signatures
 use Rattle.aos_check_expr.specs.Designators as desig
 use Rattle.aos_check_expr.proofs.Inside.{Inside, IsOf, IsNamed}
 use Rattle.aos_check_expr.proofs.Types.{not_both, as_named, id_as, id_above}

@@ -1,6 +1,6 @@
 -- The signatures of what is called: that of a procedure, or that of a procedure type, which is the signature of those procedures that
 -- its values stand for.
-use Rattle.std.specs.Prelude.{map, Bool, Option, Some, None}
+use Rattle.std.specs.Prelude.{map, Bool, false, Option, Some, None}
 use Rattle.aos_types.specs.declared.row.TypeId.{TypeId}
 use Rattle.aos_types.specs.declared.row.TypeRow.{TypeRow}
 use Rattle.aos_types.specs.declared.row.TypeRow.TheVariants as row

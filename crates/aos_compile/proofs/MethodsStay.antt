@@ -19,9 +19,8 @@ use Rattle.aos_symbols.specs.Scope.{Named, Scope, find, methods_of}
 use Rattle.aos_symbols.specs.Env as env
 use Rattle.aos_check_expr.specs.Known.{object_number}
 use Rattle.aos_check_expr.proofs.Opens.{OpensFall}
-use Rattle.aos_types.specs.Signature.{same_type, same_kind, same_parameters, same_result}
+use Rattle.aos_types.specs.Signature.{same_type, same_kind, same_parameters, same_result, may_stand}
 use Rattle.aos_check_decl.proofs.Typing.{AreReady}
-use Rattle.aos_compile.proofs.Overriding.{may_stand}
 use Rattle.aos_compile.proofs.Slots.{Word, spot, more, words, is_in}
 use Rattle.aos_compile.proofs.TypingMethods.{Meant, bare, meant_at, bare_meant, own_meant, meant, meant_behind, own_start, start, start_behind, slot_words, words_behind, own_words, above, base_falls, meant_is, start_is, words_are, IsMeant, IsOwn, AreOwnOf, HasOwn}
 use Rattle.aos_compile.proofs.TypingProcedures.{AreFormals, IsSignature, signature_on}

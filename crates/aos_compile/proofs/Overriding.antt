@@ -12,7 +12,7 @@ use Rattle.aos_typed.specs.Program.{Procedure as TypedProcedure, Program}
 use Rattle.aos_typed.specs.WellTyped.{Overrides}
 use Rattle.aos_types.specs.declared.signature.Signature.{Signature}
 use Rattle.aos_symbols.specs.Env.{basic_rows}
-use Rattle.aos_types.specs.Signature.{same_kind, same_parameters, same_result, same_signature}
+use Rattle.aos_types.specs.Signature.{same_kind, same_parameters, same_result, same_signature, may_stand}
 use Rattle.aos_check_expr.proofs.Agreeing.{agree, results}
 use Rattle.aos_check_expr.proofs.Opens.{OpensFall, stand_fall}
 use Rattle.aos_check_expr.proofs.Whole.{IsWritten}

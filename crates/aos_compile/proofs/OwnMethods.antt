@@ -34,7 +34,7 @@ use Rattle.aos_check_decl.proofs.Typing.{AreReady, HasHeading}
 use Rattle.aos_compile.specs.Modules.{procedure_of, procedures_of, variables_of, slotted, method_beside}
 use Rattle.aos_compile.proofs.MethodNames.{IsInner, AreOnce, once_first, once_rest}
 use Rattle.aos_compile.proofs.MethodsStay.{own_meant_is, own_start_is, own_methods_are, in_home, start_in, named_in}
-use Rattle.aos_compile.proofs.Overriding.{may_stand}
+use Rattle.aos_types.specs.Signature.{may_stand}
 use Rattle.aos_compile.proofs.ObjectScopes.{scope_at, methods_before, method_at}
 use Rattle.aos_compile.proofs.Slots.{Word, spot, spot_is, words, fold_placed, is_in}
 use Rattle.aos_compile.proofs.TypingMethods.{Meant, bare, meant_at, own_meant, own_start, IsStarted, meant, meant_behind, slot_words, words_behind, own_words, words_are, meant_is, IsOwn, AreOwnOf}

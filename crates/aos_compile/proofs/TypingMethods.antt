@@ -32,7 +32,8 @@ use Rattle.aos_symbols.proofs.Told.{get_front}
 use Rattle.aos_check_decl.proofs.Typing.{AreReady}
 use Rattle.aos_check_decl.proofs.TypingLists.{set_other}
 use Rattle.aos_compile.proofs.Nearest.{initializer_is}
-use Rattle.aos_compile.proofs.Overriding.{may_stand, overrides}
+use Rattle.aos_types.specs.Signature.{may_stand}
+use Rattle.aos_compile.proofs.Overriding.{overrides}
 use Rattle.aos_compile.proofs.Slots.{Word, spot, more, words, names_more, fold_stays, is_in, Stands, AreOwn, slots_stand}
 use Rattle.aos_compile.proofs.TypingProcedures.{IsSignature}
 use Rattle.aos_compile.proofs.TypingTypes.{RowsStay, bases_there}
