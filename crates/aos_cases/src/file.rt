@@ -88,6 +88,9 @@ fn add_group(alloc: Global, cases: &mut Vec<Case>, line: usize, group: &str) -> 
 
 /// The cases of a file's text, in their order. The crate's first lines say how such a file is written.
 pub fn cases_of(alloc: Global, text: &str) -> Result<Vec<Case>, Fault> {
+    if text.starts_with("=== ") {
+        return Err(Fault::Malformed(1, "malformed: no prose about the file"));
+    }
     let mut cases = Vec::new(alloc);
     let mut line = 1usize;
     for (at, group) in text.split("\n=== ").enumerate() {

@@ -32,9 +32,11 @@
 //! - `--- fronts TEXT`: each front of the text that ends before a blank is a case. The front stands in the places of
 //!   `$front`, and the number of its bytes and one in those of `$column`.
 //!
-//! Between two backquotes stands a part that is repeated, also one that has sections: `` `3 INC(i);` `` is the part
-//! three times, and in `` `1..9 , $n` `` the part has each of the numbers in the places of `$n`, and the next number in
-//! those of `$m`. Columns are put in before.
+//! Between two backquotes stands a part that is repeated: `` `3 INC(i);` `` is the part three times, and in
+//! `` `1..9 , $n` `` the part has each of the numbers in the places of `$n`, and the next number in those of `$m`. Columns
+//! are put in before. A part may have sections, behind the first one of its group.
+//!
+//! A text that can't be read so is refused with the line of the group's title, or of the row.
 #![tactic(auto)]
 
 mod case;

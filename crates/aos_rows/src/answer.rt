@@ -1,5 +1,8 @@
 // What the top call answers to a command, beside what is wanted of it.
 
+ghost use Rattle.std.specs.Prelude.{◌≡◌, IfOk, string_len};
+ghost use Rattle.aos_dev.specs.MemSink.{sink_bytes};
+
 use crate::given::{shelf_of, sink_fails, wanted, words_of};
 use aos::aos;
 use aos_base::NoMemory;
@@ -46,16 +49,22 @@ fn answer_to<R: Wait>(
     Ok(Answer { status, out, err })
 }
 
-// What is told of an answer beside what the sections behind its command want.
-fn told_of(alloc: Global, answer: &Answer, behind: &[Section]) -> Result<String, AllocError> {
+// What is told of an answer beside the status and the texts that are wanted; nothing where they are the same.
+fn told_of(
+    alloc: Global,
+    answer: &Answer,
+    status: &str,
+    out: &str,
+    err: &str,
+) -> Result<String, AllocError>
+    ensures out { IfOk result (λ told. string_len told ≡ 0 → sink_bytes answer.now.out ≡ out.now) }
+    ensures err { IfOk result (λ told. string_len told ≡ 0 → sink_bytes answer.now.err ≡ err.now) }
+{
     let mut told = String::new(alloc);
-    let status = answer.status.to_string(alloc)?;
-    let want = wanted(behind, "status", "0");
-    tell(alloc, &mut told, "status", status.as_bytes(), want)?;
-    let want = wanted(behind, "out", "");
-    tell(alloc, &mut told, "out", answer.out.bytes(), want)?;
-    let want = wanted(behind, "err", "");
-    tell(alloc, &mut told, "err", answer.err.bytes(), want)?;
+    let number = answer.status.to_string(alloc)?;
+    tell(alloc, &mut told, "status", number.as_bytes(), status)?;
+    tell(alloc, &mut told, "out", answer.out.bytes(), out)?;
+    tell(alloc, &mut told, "err", answer.err.bytes(), err)?;
     Ok(told)
 }
 
@@ -68,5 +77,8 @@ pub fn differences<R: Wait>(
     behind: &[Section],
 ) -> Result<String, NoMemory> {
     let answer = answer_to(rt, alloc, sections, command)?;
-    Ok(told_of(alloc, &answer, behind)?)
+    let status = wanted(behind, "status", "0");
+    let out = wanted(behind, "out", "");
+    let err = wanted(behind, "err", "");
+    Ok(told_of(alloc, &answer, status, out, err)?)
 }

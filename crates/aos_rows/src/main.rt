@@ -75,12 +75,18 @@ fn answer_cases<R: Print + Eprint + AllocGlobal + Wait>(
     Ok(met == count)
 }
 
-// Answers a file, and says whether all of its cases are met.
+// Answers a file, and says whether it is one whose cases are all met.
 fn answer_file<R: Files + Print + Eprint + AllocGlobal + Wait>(
     rt: &R,
     file: &str,
 ) -> io::Result<bool> {
-    let text = fs::read_to_string(rt, file)?;
+    let text = match fs::read_to_string(rt, file) {
+        Ok(text) => text,
+        Err(error) => {
+            eprintln!(rt; "{file}: {error}")?;
+            return Ok(false);
+        }
+    };
     match cases_of(rt.alloc(), text.as_str()) {
         Ok(cases) => answer_cases(rt, file, &cases),
         Err(Fault::Malformed(line, why)) => {
