@@ -157,7 +157,7 @@ fn instr_of(text: &str) -> Option<Instr> {
 /// The code that a text says, none where it is empty.
 pub fn code_of(alloc: Global, text: &str) -> Result<Vec<Instr>, Stop> {
     let mut code = Vec::new(alloc);
-    for part in text.trim_end().split_terminator(';') {
+    for part in text.trim().split_terminator(';') {
         match instr_of(part) {
             Some(instr) => code.push(instr)?,
             None => return Err(Stop::Malformed("malformed: no instruction")),

@@ -1,14 +1,13 @@
 // What is told of the locks of open regions, over frames by hand.
 
-use crate::state::lock_of;
+use crate::state::add_lock;
 use crate::stop::Stop;
-use crate::word::index_of;
+use crate::word::next_index;
 use aos_base::LockName;
 use aos_code::Image;
 use aos_store::{Frame, Frames};
 use aos_trap::unwind;
 use std::alloc::{AllocError, Global};
-use std::fmt::Write;
 
 // A frame without operands.
 fn frame_of(alloc: Global, procedure: u32, object: u32, is_open: bool) -> Frame {
@@ -27,29 +26,25 @@ fn frame_of(alloc: Global, procedure: u32, object: u32, is_open: bool) -> Frame 
 
 // Adds the frame that a text says: `PROCEDURE OBJECT open` or `PROCEDURE OBJECT closed`.
 fn add_frame(alloc: Global, frames: &mut Frames, text: &str) -> Result<(), Stop> {
-    let mut words = text.split(' ');
-    let procedure = words.next().and_then(index_of);
-    let object = words.next().and_then(index_of);
-    let (Some(procedure), Some(object)) = (procedure, object) else {
+    let mut words = text.split_whitespace();
+    let procedure = next_index(&mut words);
+    let object = next_index(&mut words);
+    let (Some(procedure), Some(object), Some(region)) = (procedure, object, words.next()) else {
         return Err(Stop::Malformed("malformed: a frame is `PROCEDURE OBJECT open`, or `closed`"));
     };
-    let is_open = words.next() == Some("open");
-    frames
-        .list
-        .push(frame_of(alloc, procedure, object, is_open))?;
+    let frame = frame_of(alloc, procedure, object, region == "open");
+    frames.list.push(frame)?;
     Ok(())
 }
 
-// Tells of locks, with a blank between them, or that there are none.
+// Tells of locks, or that there are none.
 fn told_of(alloc: Global, locks: &[LockName]) -> Result<String, AllocError> {
-    if locks.is_empty() {
-        return String::from_str(alloc, "none");
-    }
     let mut told = String::new(alloc);
     for lock in locks {
-        let between = if told.is_empty() { "" } else { " " };
-        let (kind, number) = lock_of(*lock);
-        write!(told, "{between}{kind}{number}")?;
+        add_lock(&mut told, *lock)?;
+    }
+    if told.is_empty() {
+        told.push_str(" none")?;
     }
     Ok(told)
 }

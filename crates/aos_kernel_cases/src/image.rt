@@ -122,14 +122,6 @@ fn add(alloc: Global, image: &mut Image, name: &str, text: &str) -> Result<(), S
     Ok(())
 }
 
-/// Whether a section says a part of an image.
-pub fn is_part(name: &str) -> bool {
-    matches!(
-        name,
-        "module" | "type" | "condition" | "procedure" | "method"
-    )
-}
-
 /// The image of a case: what its own sections say of it, and behind that what those say that it shares with other cases.
 pub fn image_of(alloc: Global, own: &[Section], shared: &[Section]) -> Result<Image, Stop> {
     let mut image = no_image(alloc);

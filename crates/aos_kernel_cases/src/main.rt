@@ -23,7 +23,7 @@ mod word;
 use crate::answer::differences;
 use crate::image::image_of;
 use crate::stop::Stop;
-use crate::wanted::{is_command, is_known};
+use crate::wanted::{Role, role_of};
 use aos_cases::{Case, Fault, Section, cases_of};
 use std::alloc::Global;
 use std::process::ExitCode;
@@ -32,41 +32,40 @@ use std::{env, fs, io};
 
 // Whether a case is none, but says a part of the images of those below it.
 fn is_image(case: &Case) -> bool {
-    case.sections
-        .iter()
-        .any(|section| section.name.as_str() == "image")
-}
-
-// The sections that a case shares with those around it: what was said last above it.
-fn shared_by(cases: &[Case], at: usize) -> &[Section] {
-    for case in cases.get(..at).unwrap_or(&[]).iter().rev() {
-        if is_image(case) {
-            return case.sections.as_slice();
-        }
+    match case.sections.first() {
+        Some(section) => section.name.as_str() == "image",
+        None => false,
     }
-    &[]
 }
 
-// What is told of a case: nothing where each of its commands comes to what it wants.
-fn told_of(alloc: Global, case: &Case, shared: &[Section]) -> Result<String, Stop> {
-    let mut told = String::new(alloc);
-    let mut is_run = false;
+// The sections of the case with this number, none where there is no such case.
+fn sections_at(cases: &[Case], at: usize) -> &[Section] {
+    match cases.get(at) {
+        Some(case) => case.sections.as_slice(),
+        None => &[],
+    }
+}
+
+// Where the command of a case stands among its sections.
+fn command_at(case: &Case) -> Result<usize, Stop> {
+    let mut found = None;
     for (at, section) in case.sections.iter().enumerate() {
-        let name = section.name.as_str();
-        if !is_known(name) {
-            return Err(Stop::Malformed("malformed: a section says nothing known"));
-        }
-        if is_command(name) && told.is_empty() {
-            let behind = case.sections.get(at.saturating_add(1)..).unwrap_or(&[]);
-            let image = image_of(alloc, &case.sections, shared)?;
-            told = differences(alloc, image, section, behind)?;
-            is_run = true;
+        match role_of(section.name.as_str()) {
+            Role::Unknown => return Err(Stop::Malformed("malformed: a section says nothing known")),
+            Role::Command => found = Some(at),
+            _ => {}
         }
     }
-    if is_run {
-        Ok(told)
-    } else {
-        Err(Stop::Malformed("malformed: nothing is run"))
+    found.ok_or(Stop::Malformed("malformed: nothing is run"))
+}
+
+// What is told of a case: nothing where its command comes to what it wants.
+fn told_of(alloc: Global, case: &Case, shared: &[Section]) -> Result<String, Stop> {
+    let at = command_at(case)?;
+    let image = image_of(alloc, &case.sections, shared)?;
+    match case.sections.get(at) {
+        Some(command) => differences(alloc, image, command, &case.sections),
+        None => Ok(String::new(alloc)),
     }
 }
 
@@ -97,17 +96,20 @@ fn is_met<R: Eprint + AllocGlobal>(
     }
 }
 
-// Runs cases, and says how many there are and how many of them are met.
+// Runs cases, and says how many there are and how many of them are met. Each shares the sections of the image above it.
 fn count_met<R: Eprint + AllocGlobal>(
     rt: &R,
     file: &str,
     cases: &[Case],
 ) -> io::Result<(usize, usize)> {
     let (mut count, mut met) = (0usize, 0usize);
+    let mut image = cases.len();
     for (at, case) in cases.iter().enumerate() {
-        if !is_image(case) {
+        if is_image(case) {
+            image = at;
+        } else {
             count = count.saturating_add(1);
-            if is_met(rt, file, case, shared_by(cases, at))? {
+            if is_met(rt, file, case, sections_at(cases, image))? {
                 met = met.saturating_add(1);
             }
         }

@@ -4,6 +4,7 @@ use crate::word::{number_of, width_of};
 use aos_base::{Width, abs, add, ash, div, modulo, mul, neg, set_has, set_span, sub};
 use std::alloc::{AllocError, Global};
 use std::fmt::Write;
+use std::str::SplitWhitespace;
 
 // What a sum, a difference, a product, a quotient, a remainder, a shift, a negation and an absolute value come to.
 fn results_of(w: Width, a: i64, b: i64) -> [Option<i64>; 8] {
@@ -19,27 +20,31 @@ fn results_of(w: Width, a: i64, b: i64) -> [Option<i64>; 8] {
     ]
 }
 
-// The two numbers that a text writes, with a blank between them.
-fn pair_of(text: &str) -> Option<(i64, i64)> {
-    let (first, second) = text.split_once(' ')?;
-    Some((number_of(first)?, number_of(second)?))
+// The number that the next word writes, 0 where it writes none.
+fn next_number(words: &mut SplitWhitespace) -> i64 {
+    match words.next() {
+        Some(word) => number_of(word).unwrap_or(0),
+        None => 0,
+    }
 }
 
-/// Tells the results of `WIDTH A B`, with `-` for one that there isn't.
+// Adds a number, or `-` where there is none.
+fn add_number(told: &mut String, number: Option<i64>) -> Result<(), AllocError> {
+    match number {
+        Some(number) => write!(told, " {number}"),
+        None => told.push_str(" -"),
+    }
+}
+
+/// Tells the results of `WIDTH A B`, with `-` for one that there isn't, and nothing where there is no such width.
 pub fn arithmetic(alloc: Global, text: &str) -> Result<String, AllocError> {
     let mut told = String::new(alloc);
-    let (bits, pair) = text.split_once(' ').unwrap_or((text, ""));
-    let width = width_of(number_of(bits).unwrap_or(0));
-    let (Some(width), Some((a, b))) = (width, pair_of(pair)) else {
-        return Ok(told);
-    };
-    for result in results_of(width, a, b) {
-        if !told.is_empty() {
-            told.push(' ')?;
-        }
-        match result {
-            Some(number) => write!(told, "{number}")?,
-            None => told.push('-')?,
+    let mut words = text.split_whitespace();
+    if let Some(width) = width_of(next_number(&mut words)) {
+        let a = next_number(&mut words);
+        let b = next_number(&mut words);
+        for number in results_of(width, a, b) {
+            add_number(&mut told, number)?;
         }
     }
     Ok(told)
@@ -47,7 +52,10 @@ pub fn arithmetic(alloc: Global, text: &str) -> Result<String, AllocError> {
 
 /// Tells the set of the elements from `A` to `B`, with `-` where there is none.
 pub fn span(alloc: Global, text: &str) -> Result<String, AllocError> {
-    match pair_of(text).and_then(|(a, b)| set_span(a, b)) {
+    let mut words = text.split_whitespace();
+    let a = next_number(&mut words);
+    let b = next_number(&mut words);
+    match set_span(a, b) {
         Some(set) => format!(in alloc; "{set:b}"),
         None => String::from_str(alloc, "-"),
     }
@@ -63,10 +71,12 @@ fn word_of(has: Option<bool>) -> &'static str {
 }
 
 /// Tells whether the set `SET` has the element `X`, with `-` where no set could.
-pub fn has(alloc: Global, text: &str) -> Result<String, AllocError> {
-    let has = match pair_of(text) {
-        Some((set, x)) => set_has(u32::try_from(set).unwrap_or(0), x),
-        None => None,
-    };
-    String::from_str(alloc, word_of(has))
+pub fn has(text: &str) -> &'static str {
+    let mut words = text.split_whitespace();
+    let set = next_number(&mut words);
+    let x = next_number(&mut words);
+    match u32::try_from(set) {
+        Ok(set) => word_of(set_has(set, x)),
+        Err(_) => "-",
+    }
 }

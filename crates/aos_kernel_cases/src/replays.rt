@@ -3,7 +3,7 @@
 use crate::run::{kernel_of, replayed, run, script_of, script_text};
 use crate::state::{add_entries, state_of};
 use crate::stop::Stop;
-use crate::wanted::{wanted, wanted_or};
+use crate::wanted::{wanted, wanted_or_empty};
 use aos_cases::{Section, tell};
 use aos_code::Image;
 use aos_kernel::Kernel;
@@ -11,7 +11,7 @@ use std::alloc::Global;
 use std::sync::Arc;
 
 // Tells where a kernel's state or its log isn't the one wanted.
-fn compare(alloc: Global, kernel: &Kernel, behind: &[Section]) -> Result<String, Stop> {
+fn compare(alloc: Global, kernel: &Kernel, sections: &[Section]) -> Result<String, Stop> {
     let mut told = String::new(alloc);
     let state = state_of(alloc, kernel)?;
     tell(
@@ -19,9 +19,9 @@ fn compare(alloc: Global, kernel: &Kernel, behind: &[Section]) -> Result<String,
         &mut told,
         "state",
         state.as_bytes(),
-        wanted_or(behind, "state", ""),
+        wanted_or_empty(sections, "state"),
     )?;
-    if let Some(wanted) = wanted(behind, "log") {
+    if let Some(wanted) = wanted(sections, "log") {
         let mut log = String::new(alloc);
         add_entries(&mut log, kernel.log())?;
         tell(alloc, &mut told, "log", log.as_bytes(), wanted)?;
@@ -34,13 +34,13 @@ fn differences_by_steps(
     alloc: Global,
     image: Arc<Image>,
     text: &str,
-    behind: &[Section],
+    sections: &[Section],
 ) -> Result<String, Stop> {
     let script = script_of(alloc, text)?;
     let mut kernel = kernel_of(alloc, image, &script)?;
     let events = run(alloc, &mut kernel, script.runs.as_slice())?;
-    let mut told = compare(alloc, &kernel, behind)?;
-    if let Some(wanted) = wanted(behind, "events") {
+    let mut told = compare(alloc, &kernel, sections)?;
+    if let Some(wanted) = wanted(sections, "events") {
         tell(alloc, &mut told, "events", events.as_bytes(), wanted)?;
     }
     Ok(told)
@@ -51,14 +51,14 @@ pub fn differences_of_replay(
     alloc: Global,
     image: Image,
     lines: &str,
-    behind: &[Section],
+    sections: &[Section],
 ) -> Result<String, Stop> {
     let image = Arc::new(alloc, image)?;
     let text = script_text(alloc, lines)?;
     let kernel = replayed(alloc, image.clone()?, text.as_str())?;
-    let told = compare(alloc, &kernel, behind)?;
+    let told = compare(alloc, &kernel, sections)?;
     if told.is_empty() {
-        return differences_by_steps(alloc, image, text.as_str(), behind);
+        return differences_by_steps(alloc, image, text.as_str(), sections);
     }
     Ok(told)
 }

@@ -17,13 +17,16 @@ pub const MAX_SCRIPT: usize = 67_108_864;
 #[derive(Drop)]
 struct Seen {
     events: String,
-    number: u32,
+    number: u64,
 }
 
 /// The text of a script of these lines, which have `; ` between them.
 pub fn script_text(alloc: Global, lines: &str) -> Result<String, AllocError> {
     let lines = lines.replace(alloc, "; ", "\n")?;
-    format!(in alloc; "aos-script 1\n{lines}\nend\n")
+    let mut text = String::from_str(alloc, "aos-script 1\n")?;
+    text.push_str(lines.as_str())?;
+    text.push_str("\nend\n")?;
+    Ok(text)
 }
 
 /// The script that a text says.
@@ -31,10 +34,10 @@ pub fn script_of(alloc: Global, text: &str) -> Result<Script, Stop> {
     if MAX_SCRIPT < text.len() {
         return Err(Stop::Malformed("malformed: the script is too long"));
     }
-    match read_script(alloc, text.as_bytes()) {
-        Ok(script) => Ok(script),
-        Err(_) => Err(Stop::Malformed("malformed: the script is refused")),
-    }
+    let Ok(script) = read_script(alloc, text.as_bytes()) else {
+        return Err(Stop::Malformed("malformed: the script is refused"));
+    };
+    Ok(script)
 }
 
 /// A kernel behind the steps and ticks of a script.
@@ -50,21 +53,32 @@ pub fn replayed(alloc: Global, image: Arc<Image>, text: &str) -> Result<Box<Kern
     Ok(kernel)
 }
 
-// A step of a worker, and whether something happened.
-fn step(kernel: &mut Kernel, worker: u32) -> Result<bool, NoMemory> {
-    if kernel.workers() <= worker {
-        return Ok(false);
+// A step of a worker, which is over where there is no such worker.
+fn step(kernel: &mut Kernel, worker: u32) -> Result<Stepped, NoMemory> {
+    if worker < kernel.workers() {
+        kernel.step(worker)
+    } else {
+        Ok(Stepped::Over)
     }
-    let stepped = kernel.step(worker)?;
-    Ok(matches!(stepped, Stepped::Turned | Stepped::Dispatched))
+}
+
+// Whether something happened.
+fn is_made(stepped: Stepped) -> bool {
+    match stepped {
+        Stepped::Turned => true,
+        Stepped::Dispatched => true,
+        Stepped::Idle => false,
+        Stepped::Over => false,
+    }
 }
 
 // A tick of a worker, and whether it took its activity.
 fn tick(kernel: &mut Kernel, worker: u32) -> Result<bool, NoMemory> {
-    if kernel.workers() <= worker {
-        return Ok(false);
+    if worker < kernel.workers() {
+        kernel.tick(worker)
+    } else {
+        Ok(false)
     }
-    kernel.tick(worker)
 }
 
 // What has just happened joins what was seen.
@@ -79,7 +93,7 @@ fn see(kernel: &Kernel, seen: &mut Seen) -> Result<(), AllocError> {
 // So many steps of a worker. Behind one at which nothing happens nothing would at the others.
 fn steps(kernel: &mut Kernel, seen: &mut Seen, worker: u32, count: u32) -> Result<(), Stop> {
     for _ in 0..count {
-        if !step(kernel, worker)? {
+        if !is_made(step(kernel, worker)?) {
             return Ok(());
         }
         see(kernel, seen)?;

@@ -59,23 +59,15 @@ fn add_params(shape: &mut ProcShape, text: &str) -> Result<(), Stop> {
     Ok(())
 }
 
-// The number behind a name, where a text begins with that.
-fn behind(text: &str, name: &str) -> Option<u32> {
-    index_of(text.strip_prefix(name)?)
-}
-
-// Adds what a part of the head says: `gives KIND`, `keeps N`, `counts N`, or `local KIND` for a cell more.
+// Adds what a part of the head says: `gives KIND`, `local KIND` for a cell more, `keeps N`, or `counts N`.
 fn add_part(shape: &mut ProcShape, part: &str) -> Result<(), Stop> {
-    if let Some(kind) = part.strip_prefix("gives ") {
-        shape.result = kind_of(kind);
-    } else if let Some(keeps) = behind(part, "keeps ") {
-        shape.keeps = keeps;
-    } else if let Some(counted) = behind(part, "counts ") {
-        shape.counted = counted;
-    } else if let Some(kind) = part.strip_prefix("local ").and_then(kind_of) {
-        shape.kinds.push(kind)?;
-    } else {
-        return Err(Stop::Malformed("malformed: a part says nothing known of a procedure"));
+    let (name, value) = part.split_once(' ').unwrap_or((part, ""));
+    match (name, kind_of(value), index_of(value)) {
+        ("gives", Some(kind), _) => shape.result = Some(kind),
+        ("local", Some(kind), _) => shape.kinds.push(kind)?,
+        ("keeps", _, Some(keeps)) => shape.keeps = keeps,
+        ("counts", _, Some(counted)) => shape.counted = counted,
+        _ => return Err(Stop::Malformed("malformed: a part says nothing known of a procedure")),
     }
     Ok(())
 }

@@ -1,29 +1,49 @@
 // What a case wants of its commands.
 
-use crate::image::is_part;
 use aos_cases::Section;
 
-/// Whether a section is a command.
-pub fn is_command(name: &str) -> bool {
-    matches!(
-        name,
-        "replay" | "sound" | "script" | "frames" | "arithmetic" | "span" | "has"
-    )
+/// What a section is in a case.
+#[derive(Clone, Copy)]
+pub enum Role {
+    /// The mark of what says images for the cases below it.
+    Mark,
+    /// A part of an image.
+    Part,
+    /// Something that is to be run or told.
+    Command,
+    /// What is wanted of a command.
+    Wanted,
+    /// Nothing known.
+    Unknown,
 }
 
-/// Whether a section says something that is known.
-pub fn is_known(name: &str) -> bool {
-    is_part(name)
-        || is_command(name)
-        || matches!(name, "image" | "state" | "events" | "log" | "told")
+/// What a section of this name is.
+pub fn role_of(name: &str) -> Role {
+    match name {
+        "image" => Role::Mark,
+        "module" => Role::Part,
+        "type" => Role::Part,
+        "condition" => Role::Part,
+        "procedure" => Role::Part,
+        "method" => Role::Part,
+        "replay" => Role::Command,
+        "sound" => Role::Command,
+        "frames" => Role::Command,
+        "script" => Role::Command,
+        "arithmetic" => Role::Command,
+        "span" => Role::Command,
+        "has" => Role::Command,
+        "state" => Role::Wanted,
+        "events" => Role::Wanted,
+        "log" => Role::Wanted,
+        "told" => Role::Wanted,
+        _ => Role::Unknown,
+    }
 }
 
-/// What is wanted under a name by the sections behind a command, where they say so.
-pub fn wanted<'a>(behind: &'a [Section], name: &str) -> Option<&'a str> {
-    for section in behind {
-        if is_command(section.name.as_str()) {
-            return None;
-        }
+/// What a case wants under a name, where it says so.
+pub fn wanted<'a>(sections: &'a [Section], name: &str) -> Option<&'a str> {
+    for section in sections {
         if section.name.as_str() == name {
             return Some(section.text.as_str());
         }
@@ -31,7 +51,7 @@ pub fn wanted<'a>(behind: &'a [Section], name: &str) -> Option<&'a str> {
     None
 }
 
-/// The same, and a default where they don't say so.
-pub fn wanted_or<'a>(behind: &'a [Section], name: &str, default: &'a str) -> &'a str {
-    wanted(behind, name).unwrap_or(default)
+/// The same, and nothing where it doesn't say so.
+pub fn wanted_or_empty<'a>(sections: &'a [Section], name: &str) -> &'a str {
+    wanted(sections, name).unwrap_or("")
 }

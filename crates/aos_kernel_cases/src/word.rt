@@ -2,6 +2,7 @@
 
 use aos_base::{Relation, Width};
 use aos_code::Kind;
+use std::str::SplitWhitespace;
 
 /// The width of so many bits.
 pub fn width_of(bits: i64) -> Option<Width> {
@@ -45,5 +46,10 @@ pub fn number_of(word: &str) -> Option<i64> {
 
 /// The number of something that a word writes.
 pub fn index_of(word: &str) -> Option<u32> {
-    word.parse::<u32>().ok()
+    u32::try_from(number_of(word)?).ok()
+}
+
+/// The number of something that the next word writes.
+pub fn next_index(words: &mut SplitWhitespace) -> Option<u32> {
+    index_of(words.next()?)
 }
