@@ -24,10 +24,10 @@ pub fn no_image(alloc: Global) -> Image {
 
 // What a cell holds: `num N`, or `ref N` for an object.
 fn cell_of(text: &str) -> Option<Cell> {
-    let (name, number) = text.split_once(' ')?;
-    match name {
-        "num" => Some(Cell::Num(number_of(number)?)),
-        "ref" => Some(Cell::Ref(index_of(number)?)),
+    let (name, number) = text.split_once(' ').unwrap_or((text, ""));
+    match (name, number_of(number), index_of(number)) {
+        ("num", Some(number), _) => Some(Cell::Num(number)),
+        ("ref", _, Some(number)) => Some(Cell::Ref(number)),
         _ => None,
     }
 }

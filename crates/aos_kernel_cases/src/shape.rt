@@ -6,6 +6,16 @@ use crate::word::{index_of, kind_of};
 use aos_code::{Kind, ParamKind, ProcShape};
 use std::alloc::{AllocError, Global};
 
+// A parameter that has one or two numbers.
+fn sized_param(name: &str, first: Option<u32>, second: Option<u32>) -> Option<ParamKind> {
+    match (name, first, second) {
+        ("whole", Some(cells), None) => Some(ParamKind::Whole(cells)),
+        ("open", Some(dimensions), Some(cells)) => Some(ParamKind::Open(dimensions, false, cells)),
+        ("copy", Some(dimensions), Some(cells)) => Some(ParamKind::Open(dimensions, true, cells)),
+        _ => None,
+    }
+}
+
 // A parameter: a kind, `place`, `whole/CELLS`, `open/DIMENSIONS/CELLS`, or `copy/DIMENSIONS/CELLS` for an open array by value.
 fn param_of(word: &str) -> Option<ParamKind> {
     if let Some(kind) = kind_of(word) {
@@ -14,17 +24,9 @@ fn param_of(word: &str) -> Option<ParamKind> {
     if word == "place" {
         return Some(ParamKind::Place);
     }
-    let (name, rest) = word.split_once('/')?;
-    if name == "whole" {
-        return Some(ParamKind::Whole(index_of(rest)?));
-    }
-    let (dimensions, cells) = rest.split_once('/')?;
-    let (dimensions, cells) = (index_of(dimensions)?, index_of(cells)?);
-    match name {
-        "open" => Some(ParamKind::Open(dimensions, false, cells)),
-        "copy" => Some(ParamKind::Open(dimensions, true, cells)),
-        _ => None,
-    }
+    let (name, rest) = word.split_once('/').unwrap_or((word, ""));
+    let (first, second) = rest.split_once('/').unwrap_or((rest, ""));
+    sized_param(name, index_of(first), index_of(second))
 }
 
 // The first kind among a parameter's cells, and how many numbers come behind it.
