@@ -1,6 +1,27 @@
 //! Cases of what a run stands on: arithmetic, scripts, soundness of code, instructions, the kernel, regions and their locks,
 //! conditions, and replays. The words name files of cases. A line on `err` tells of each case that comes to something else than it
 //! wants, and one on `out` of each file how many of its cases are met. The status is 1 where one isn't.
+//!
+//! Sections say an image, whose parts are numbered in their order:
+//!
+//! - `module BODY CELLS`, with what its cells hold at first, as in `module 1 num 0, ref 0`.
+//! - `type BODY KINDS`, with the kinds of its cells, as in `type 0 n r; extends 2; methods 12 13`.
+//! - `condition CODE`.
+//! - `procedure MODULE PARAMETERS`, or `method` where it is called on an object, with the code below, as in
+//!   `procedure 0 n open/1/1; gives n; keeps 2`.
+//!
+//! A group that begins with a section `image` is no case: the parts that it says stand behind those that the cases below it say.
+//!
+//! A case has one command, and says what it wants of that:
+//!
+//! - `replay SCRIPT` replays a script, whose lines have `; ` between them, and makes its steps once more, one by one. Wanted are the
+//!   `state`, which is the outcome, what was written, the traps and who waits where; and, where the case says them, the `log` of the
+//!   steps and ticks that did something, and the `events`, each behind the number of its step.
+//! - `sound PROCEDURE CODE`: `told` is as what the code is sound in that procedure.
+//! - `script TEXT`: `told` is what the text says as a script, or why it is refused.
+//! - `frames FRAMES`: `told` are the locks of their open regions.
+//! - `arithmetic WIDTH A B`: `told` are the results of the eight operators.
+//! - `span A B`: `told` is the set of the elements from A to B; `has SET X`: whether the set has the element.
 #![tactic(auto)]
 
 mod answer;
@@ -148,6 +169,9 @@ fn main(rt: HostRuntime) -> ExitCode {
     match run_files(&rt) {
         Ok(true) => ExitCode::from(0),
         Ok(false) => ExitCode::from(1),
-        Err(_) => ExitCode::from(2),
+        Err(error) => {
+            let _ = eprintln!(rt; "{error}");
+            ExitCode::from(2)
+        }
     }
 }
