@@ -1,0 +1,50 @@
+// What the commands of a case come to, beside what it wants of them.
+
+use crate::frames::locks;
+use crate::image::image_of;
+use crate::numbers::{arithmetic, has, span};
+use crate::replays::differences_of_replay;
+use crate::scripts::script;
+use crate::soundness::soundness;
+use crate::stop::Stop;
+use crate::wanted::wanted_or_empty;
+use aos_cases::{Section, tell};
+use aos_code::Image;
+use std::alloc::Global;
+
+// What is told of a command but a replay.
+fn answer(alloc: Global, image: &Image, name: &str, text: &str) -> Result<String, Stop> {
+    match name {
+        "sound" => Ok(String::from_str(alloc, soundness(alloc, image, text)?)?),
+        "frames" => locks(alloc, image, text),
+        "script" => script(alloc, text),
+        "arithmetic" => Ok(arithmetic(alloc, text)?),
+        "span" => Ok(span(alloc, text)?),
+        "has" => Ok(String::from_str(alloc, has(text))?),
+        _ => Err(Stop::Malformed("malformed: no such command")),
+    }
+}
+
+/// What is told of a command that doesn't come to what the case wants; nothing where it does.
+pub fn differences(
+    alloc: Global,
+    image: Image,
+    command: &Section,
+    sections: &[Section],
+) -> Result<String, Stop> {
+    let (name, text) = (command.name.as_str(), command.text.as_str());
+    if name == "replay" {
+        return differences_of_replay(alloc, image, text, sections);
+    }
+    let answer = answer(alloc, &image, name, text)?;
+    let answer = answer.as_str().trim();
+    let mut told = String::new(alloc);
+    tell(
+        alloc,
+        &mut told,
+        name,
+        answer.as_bytes(),
+        wanted_or_empty(sections, "told"),
+    )?;
+    Ok(told)
+}
