@@ -1,6 +1,13 @@
 //! Cases of the way from a text to its typed program: tokens, trees, passes, the table of types, the load order, and which
-//! conditions are local. Each question of the files that the words name is asked. A line on `err` tells of each answer that
-//! isn't what its case wants, and one on `out` of each file how many of its cases are met. The status is 1 where one isn't.
+//! conditions are local. A line on `err` tells of each answer that isn't the one wanted, and one on `out` of each file of
+//! cases how many are met. The status is 1 where one isn't.
+//!
+//! A question is a section, and behind it stands the answer that is wanted, `told`. Its text is asked for its `tokens`; for
+//! the `expression` or the `block` that it begins with, where as many productions are open round it as `nested` says; for
+//! the `shape` of that expression, and of the `name` behind the first token; for the `module` that it is, and what its
+//! `passes` come to; whether it and `other` have one tree, `trees`; and for the `order` of modules. Of the table `types`, in
+//! which `set` puts another row, the questions are `relation`, `fits`, `scalars` and `contained`. Of files, which are the
+//! sections with a point in their names, they are `conditions` and, with their places, `places`.
 #![tactic(auto)]
 
 mod conditions;
@@ -14,12 +21,15 @@ mod trees;
 mod types;
 mod untold;
 
-use crate::questions::{is_known, is_question, text_of, told_of};
+use crate::questions::{is_known, is_question, text_or, told_of};
 use aos_cases::{Case, Fault, Section, cases_of, tell};
 use std::alloc::{AllocError, Global};
 use std::process::ExitCode;
 use std::rt::{Env, Files};
 use std::{env, fs, io};
+
+// What stands for an answer that is wanted where none is.
+const NOTHING: &str = "malformed: no answer is wanted";
 
 // What is told of an answer that isn't the one wanted; nothing where it is.
 fn difference(
@@ -35,7 +45,7 @@ fn difference(
         &mut told,
         "told",
         found.as_bytes(),
-        text_of(behind, "told"),
+        text_or(behind, "told", NOTHING),
     )?;
     Ok(told)
 }

@@ -46,20 +46,21 @@ pub fn is_known(name: &str) -> bool {
         || name.contains('.')
 }
 
-/// The text of the first section with a name, empty where none has it.
-pub fn text_of<'a>(sections: &'a [Section], name: &str) -> &'a str {
+/// The text of the first section with a name, and the default where none has it.
+pub fn text_or<'a>(sections: &'a [Section], name: &str, default: &'a str) -> &'a str {
     for section in sections {
         if section.name.as_str() == name {
             return section.text.as_str();
         }
     }
-    ""
+    default
 }
 
 // What is told of a text.
 fn told_of_text(alloc: Global, sections: &[Section], question: &Section) -> Result<String, Untold> {
     let text = question.text.as_str();
-    let nested = text_of(sections, "nested").parse::<u32>().unwrap_or(0);
+    let nested = text_or(sections, "nested", "0");
+    let nested = nested.parse::<u32>().unwrap_or(u32::MAX);
     match question.name.as_str() {
         "tokens" => told_tokens(alloc, text),
         "expression" => told_expression(alloc, text, nested),
@@ -69,7 +70,7 @@ fn told_of_text(alloc: Global, sections: &[Section], question: &Section) -> Resu
         "module" => told_module(alloc, text),
         "passes" => told_passes(alloc, text),
         "order" => told_order(alloc, text),
-        _ => told_trees(alloc, text, text_of(sections, "other")),
+        _ => told_trees(alloc, text, text_or(sections, "other", "")),
     }
 }
 
@@ -80,8 +81,8 @@ fn told_of_types(
     question: &Section,
 ) -> Result<String, Untold> {
     let text = question.text.as_str();
-    let table = text_of(sections, "types");
-    let line = text_of(sections, "set");
+    let table = text_or(sections, "types", "");
+    let line = text_or(sections, "set", "");
     match question.name.as_str() {
         "relation" => told_relation(alloc, table, line, text),
         "fits" => told_fits(alloc, table, text),
