@@ -6,8 +6,8 @@ use crate::untold::Untold;
 use aos_base::{NoMemory, Pos};
 use aos_check_decl::declare;
 use aos_check_stat::body_of;
-use aos_symbols::{Breach, check_names};
-use aos_tree::{Items, Module};
+use aos_symbols::{Breach, Env, check_names};
+use aos_tree::{Block, Items, Module};
 use aos_typed::TStat;
 use std::alloc::{AllocError, Global};
 
@@ -24,11 +24,14 @@ nil
 any
 text 0";
 
-// The first broken rule with its column.
-fn told(alloc: Global, found: Option<Breach>) -> Result<String, AllocError> {
+// The first broken rule with its column, behind what is told of the passes before.
+fn tell(out: &mut String, found: Option<Breach>) -> Result<(), AllocError> {
+    if !out.is_empty() {
+        out.push_str(", ")?;
+    }
     match found {
-        None => String::from_str(alloc, "kept"),
-        Some(breach) => format!(in alloc; "{} at {}", breach.rule, breach.pos.col),
+        None => out.push_str("kept"),
+        Some(breach) => write!(out, "{} at {}", breach.rule, breach.pos.col),
     }
 }
 
@@ -46,33 +49,44 @@ fn form_of(statement: &TStat) -> (&'static str, Pos) {
     }
 }
 
-// The forms of statements, each behind a blank.
-fn forms_of(alloc: Global, statements: &[TStat]) -> Result<String, AllocError> {
-    let mut out = String::new(alloc);
+// The forms of statements with their columns, each behind a blank.
+fn tell_forms(out: &mut String, statements: &[TStat]) -> Result<(), AllocError> {
+    out.push(':')?;
     for statement in statements {
         let (form, pos) = form_of(statement);
         write!(out, " {form} {}", pos.col)?;
     }
-    Ok(out)
+    Ok(())
+}
+
+// What the body comes to.
+fn tell_body(
+    alloc: Global,
+    out: &mut String,
+    env: &mut Env<'_>,
+    body: &Option<Block>,
+) -> Result<(), AllocError> {
+    let mut found = None;
+    let body = body_of(alloc, &mut found, env, false, body)?;
+    tell(out, found)?;
+    tell_forms(out, &body)
 }
 
 // What the headings and the body come to.
-fn declared(alloc: Global, text: &[u8], tree: &Module) -> Result<String, NoMemory> {
+fn tell_rest(alloc: Global, out: &mut String, text: &[u8], tree: &Module) -> Result<(), NoMemory> {
+    let mut found = None;
     let types = types_of(alloc, BASIC)?;
-    let mut found = None;
     let mut env = declare(alloc, &mut found, Items::new(alloc), types, text, tree)?;
-    let headings = told(alloc, found)?;
-    let mut found = None;
-    let body = body_of(alloc, &mut found, &mut env, false, &tree.body)?;
-    let bodies = told(alloc, found)?;
-    let forms = forms_of(alloc, &body)?;
-    Ok(format!(in alloc; "{headings}, {bodies}:{forms}")?)
+    tell(out, found)?;
+    tell_body(alloc, out, &mut env, &tree.body)?;
+    Ok(())
 }
 
 /// What the passes of a module come to: the first broken rule of each, and the statements of its body.
 pub fn told_passes(alloc: Global, text: &str) -> Result<String, Untold> {
     let tree = tree_of(alloc, text.as_bytes())?;
-    let names = told(alloc, check_names(alloc, text.as_bytes(), &tree)?)?;
-    let rest = declared(alloc, text.as_bytes(), &tree)?;
-    Ok(format!(in alloc; "{names}, {rest}")?)
+    let mut out = String::new(alloc);
+    tell(&mut out, check_names(alloc, text.as_bytes(), &tree)?)?;
+    tell_rest(alloc, &mut out, text.as_bytes(), &tree)?;
+    Ok(out)
 }
