@@ -19,7 +19,6 @@ impl Alike for Relation {
 
 impl Alike for Simple {
     #[cycle(same_expressions)]
-    #[tactic(auto, using(crate::proofs::SameNodes::simple))]
     fn same(&self, other: &Simple) -> bool {
         if !self.pos.same(&other.pos)
             || !self.sign.same(&other.sign)
@@ -40,7 +39,6 @@ impl Alike for Addition {
 
 impl Alike for Term {
     #[cycle(same_expressions)]
-    #[tactic(auto, using(crate::proofs::SameNodes::term))]
     fn same(&self, other: &Term) -> bool {
         self.pos.same(&other.pos) && self.first.same(&other.first) && self.rest.same(&other.rest)
     }
