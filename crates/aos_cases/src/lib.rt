@@ -1,5 +1,5 @@
 //! Files of cases. A case says what a program is given and what it must answer, as a list of sections, each a name with
-//! a text; what the names mean is the program's to say. Cases that differ in a few words stand in a table.
+//! a text; what the names mean is the program's to say, by `Asks`. Cases that differ in a few words stand in a table.
 //!
 //! ```text
 //! Prose about the file.
@@ -45,8 +45,8 @@ mod file;
 mod fill;
 mod repeat;
 mod told;
+mod walk;
 
 pub use case::{Case, Section};
-pub use fault::Fault;
-pub use file::cases_of;
 pub use told::tell;
+pub use walk::{Asks, answer_files};

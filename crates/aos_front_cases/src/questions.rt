@@ -39,11 +39,28 @@ fn is_question_of_files(name: &str) -> bool {
     matches!(name, "conditions" | "places")
 }
 
-/// Whether a section says something that is known: a question, what is told, what a question is about, or a file.
-pub fn is_known(name: &str) -> bool {
+// Whether a section says something that is known: a question, what is told, what a question is about, or a file.
+fn is_known(name: &str) -> bool {
     is_question(name)
         || matches!(name, "told" | "nested" | "other" | "types" | "set")
         || name.contains('.')
+}
+
+/// Why these are no sections of a case; None where they are.
+pub fn flaw_of(sections: &[Section]) -> Option<&'static str> {
+    let mut is_asked = false;
+    for section in sections {
+        let name = section.name.as_str();
+        if !is_known(name) {
+            return Some("malformed: a section says nothing known");
+        }
+        is_asked = is_asked || is_question(name);
+    }
+    if is_asked {
+        None
+    } else {
+        Some("malformed: nothing is asked")
+    }
 }
 
 /// The text of the first section with a name, and the default where none has it.

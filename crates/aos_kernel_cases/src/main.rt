@@ -1,6 +1,5 @@
 //! Cases of what a run stands on: arithmetic, scripts, soundness of code, instructions, the kernel, regions and their locks,
-//! conditions, and replays. The words name files of cases. A line on `err` tells of each case that comes to something else than it
-//! wants, and one on `out` of each file how many of its cases are met. The status is 1 where one isn't.
+//! conditions, and replays. The words name files of cases.
 //!
 //! Sections say an image, whose parts are numbered in their order:
 //!
@@ -45,11 +44,9 @@ use crate::answer::differences;
 use crate::image::image_of;
 use crate::stop::Stop;
 use crate::wanted::{Role, role_of};
-use aos_cases::{Case, Fault, Section, cases_of};
-use std::alloc::Global;
+use aos_cases::{Asks, Case, Section, answer_files};
+use std::alloc::{AllocError, Global};
 use std::process::ExitCode;
-use std::rt::{Env, Files};
-use std::{env, fs, io};
 
 // Whether a case is none, but says a part of the images of those below it.
 fn is_image(case: &Case) -> bool {
@@ -59,12 +56,14 @@ fn is_image(case: &Case) -> bool {
     }
 }
 
-// The sections of the case with this number, none where there is no such case.
-fn sections_at(cases: &[Case], at: usize) -> &[Section] {
-    match cases.get(at) {
-        Some(case) => case.sections.as_slice(),
-        None => &[],
+// The sections of the last image among cases, none where there is no image.
+fn shared_of(cases: &[Case]) -> &[Section] {
+    for case in cases.iter().rev() {
+        if is_image(case) {
+            return case.sections.as_slice();
+        }
     }
+    &[]
 }
 
 // Where the command of a case stands among its sections.
@@ -90,88 +89,23 @@ fn told_of(alloc: Global, case: &Case, shared: &[Section]) -> Result<String, Sto
     }
 }
 
-// Tells of a place in a file, on `err`.
-fn tell_at<R: Eprint>(rt: &R, file: &str, line: usize, told: &str) -> io::Result<()> {
-    eprintln!(rt; "{file}:{line}: {told}")
-}
+// The command of a case.
+struct Command;
 
-// Runs a case, and says whether it is met.
-fn is_met<R: Eprint + AllocGlobal>(
-    rt: &R,
-    file: &str,
-    case: &Case,
-    shared: &[Section],
-) -> io::Result<bool> {
-    match told_of(rt.alloc(), case, shared) {
-        Ok(told) => {
-            if !told.is_empty() {
-                tell_at(rt, file, case.line, told.as_str())?;
-            }
-            Ok(told.is_empty())
-        }
-        Err(Stop::Malformed(why)) => {
-            tell_at(rt, file, case.line, why)?;
-            Ok(false)
-        }
-        Err(Stop::NoMemory) => Err(io::ErrorKind::OutOfMemory.into()),
+impl<R: AllocGlobal> Asks<R> for Command {
+    fn counts(&self, case: &Case) -> bool {
+        !is_image(case)
     }
-}
 
-// Runs cases, and says how many there are and how many of them are met. Each shares the sections of the image above it.
-fn count_met<R: Eprint + AllocGlobal>(
-    rt: &R,
-    file: &str,
-    cases: &[Case],
-) -> io::Result<(usize, usize)> {
-    let (mut count, mut met) = (0usize, 0usize);
-    let mut image = cases.len();
-    for (at, case) in cases.iter().enumerate() {
-        if is_image(case) {
-            image = at;
-        } else {
-            count = count.saturating_add(1);
-            if is_met(rt, file, case, sections_at(cases, image))? {
-                met = met.saturating_add(1);
-            }
+    fn told(&self, rt: &R, above: &[Case], case: &Case) -> Result<String, AllocError> {
+        match told_of(rt.alloc(), case, shared_of(above)) {
+            Ok(told) => Ok(told),
+            Err(Stop::Malformed(why)) => String::from_str(rt.alloc(), why),
+            Err(Stop::NoMemory) => Err(AllocError),
         }
     }
-    Ok((count, met))
-}
-
-// Runs the cases of a file, and says whether all are met.
-fn run_file<R: Files + Print + Eprint + AllocGlobal>(rt: &R, file: &str) -> io::Result<bool> {
-    let text = fs::read_to_string(rt, file)?;
-    let cases = match cases_of(rt.alloc(), text.as_str()) {
-        Ok(cases) => cases,
-        Err(Fault::Malformed(line, why)) => {
-            tell_at(rt, file, line, why)?;
-            return Ok(false);
-        }
-        Err(Fault::NoMemory) => return Err(io::ErrorKind::OutOfMemory.into()),
-    };
-    let (count, met) = count_met(rt, file, cases.as_slice())?;
-    println!(rt; "{file}: {met} of {count}")?;
-    Ok(met == count)
-}
-
-// Runs the files that the words name, and says whether all cases are met.
-fn run_files<R: Env + Files + Print + Eprint + AllocGlobal>(rt: &R) -> io::Result<bool> {
-    let mut are_met = true;
-    for file in env::args(rt)?.skip(1) {
-        if !run_file(rt, file.as_str())? {
-            are_met = false;
-        }
-    }
-    Ok(are_met)
 }
 
 fn main(rt: HostRuntime) -> ExitCode {
-    match run_files(&rt) {
-        Ok(true) => ExitCode::from(0),
-        Ok(false) => ExitCode::from(1),
-        Err(error) => {
-            let _ = eprintln!(rt; "{error}");
-            ExitCode::from(2)
-        }
-    }
+    answer_files(&rt, &Command)
 }

@@ -1,6 +1,6 @@
 // What the top call answers to a command, beside what is wanted of it.
 
-ghost use Rattle.std.specs.Prelude.{◌≡◌, IfOk, string_len};
+ghost use Rattle.std.specs.Prelude.{◌≡◌, OnOk, string_len};
 ghost use Rattle.aos_dev.specs.MemSink.{sink_bytes};
 
 use crate::given::{shelf_of, sink_fails, wanted, words_of};
@@ -49,36 +49,37 @@ fn answer_to<R: Wait>(
     Ok(Answer { status, out, err })
 }
 
-// What is told of an answer beside the status and the texts that are wanted; nothing where they are the same.
-fn told_of(
+// Adds what is told of an answer beside the status and the texts that are wanted; nothing where they are the same.
+fn add_told(
     alloc: Global,
+    told: &mut String,
     answer: &Answer,
     status: &str,
     out: &str,
     err: &str,
-) -> Result<String, AllocError>
-    ensures out { IfOk result (λ told. string_len told ≡ 0 → sink_bytes answer.now.out ≡ out.now) }
-    ensures err { IfOk result (λ told. string_len told ≡ 0 → sink_bytes answer.now.err ≡ err.now) }
+) -> Result<(), AllocError>
+    ensures out { OnOk result (string_len told.new ≡ 0 → sink_bytes answer.now.out ≡ out.now) }
+    ensures err { OnOk result (string_len told.new ≡ 0 → sink_bytes answer.now.err ≡ err.now) }
 {
-    let mut told = String::new(alloc);
     let number = answer.status.to_string(alloc)?;
-    tell(alloc, &mut told, "status", number.as_bytes(), status)?;
-    tell(alloc, &mut told, "out", answer.out.bytes(), out)?;
-    tell(alloc, &mut told, "err", answer.err.bytes(), err)?;
-    Ok(told)
+    tell(alloc, told, "status", number.as_bytes(), status)?;
+    tell(alloc, told, "out", answer.out.bytes(), out)?;
+    tell(alloc, told, "err", answer.err.bytes(), err)
 }
 
-/// What is told of the answer to a command where it isn't the one that the sections behind it want; nothing where it is.
-pub fn differences<R: Wait>(
+/// Adds what is told of the answer to a command where it isn't the one that the sections behind it want.
+pub fn add_differences<R: AllocGlobal + Wait>(
     rt: &R,
-    alloc: Global,
+    told: &mut String,
     sections: &[Section],
     command: &Section,
     behind: &[Section],
-) -> Result<String, NoMemory> {
-    let answer = answer_to(rt, alloc, sections, command)?;
+) -> Result<(), AllocError> {
+    let Ok(answer) = answer_to(rt, rt.alloc(), sections, command) else {
+        return Err(AllocError);
+    };
     let status = wanted(behind, "status", "0");
     let out = wanted(behind, "out", "");
     let err = wanted(behind, "err", "");
-    Ok(told_of(alloc, &answer, status, out, err)?)
+    add_told(rt.alloc(), told, &answer, status, out, err)
 }
