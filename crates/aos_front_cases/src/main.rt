@@ -29,9 +29,9 @@ use std::process::ExitCode;
 const NOTHING: &str = "malformed: no answer is wanted";
 
 // The questions of a case.
-struct Questions;
+struct Asked;
 
-impl<R: AllocGlobal> Asks<R> for Questions {
+impl<R: AllocGlobal> Asks<R> for Asked {
     fn counts(&self, _case: &Case) -> bool {
         true
     }
@@ -55,5 +55,5 @@ impl<R: AllocGlobal> Asks<R> for Questions {
 }
 
 fn main(rt: HostRuntime) -> ExitCode {
-    answer_files(&rt, &Questions)
+    answer_files(&rt, &Asked)
 }
