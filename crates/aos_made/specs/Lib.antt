@@ -1,0 +1,4 @@
+pub mod Handed
+pub mod Kept
+pub mod KeptCallee
+pub mod Looked
