@@ -39,4 +39,4 @@ seen_given (argument.Whole p) = Whole (seen_place p)
 seen_given (argument.Opening r) = Opening (seen_rows r)
 
 abbrev pub seen_handing : CodeHanding → Handing
-seen_handing h = record { are_kept = h.are_kept; given = map seen_given h.given.items }
+seen_handing h = record { are_kept = h.are_kept; given = map seen_given h.given }

@@ -6,7 +6,7 @@ ghost use Rattle.aos_symbols.specs.Breaches.{first_after};
 ghost use Rattle.aos_check_expr.specs.Arguments as judge;
 ghost use Rattle.aos_check_expr.specs.Seen.{seen_answer, seen_given, seen_handing};
 
-use crate::designators::{has_parts, place_in};
+use crate::designators::{has_parts, made_place_in};
 use crate::known::{Answer, Class, Known};
 use crate::lengths::is_array;
 use crate::procedures::{is_assignable, typed_for};
@@ -14,8 +14,9 @@ use crate::references::{is_record_type, is_value, with_type};
 use crate::texts::{has_room, is_characters, rows_in, string_in, text_for};
 use crate::variables::{is_opened, open_dimensions};
 use aos_base::Pos;
+use aos_made::{MadeArgument, MadeArguments};
 use aos_symbols::{ARGUMENT_TYPE, Breach, Env, NO_VARIABLE, NOT_BUILT, READ_ONLY, note};
-use aos_typed::{TArgument, TextConstant, open_array};
+use aos_typed::{TextConstant, open_array};
 use aos_types::{MOST_SCALARS, Parameter, TypeId, TypeRow};
 use std::alloc::{AllocError, Global};
 
@@ -212,19 +213,21 @@ fn given_unopened(
     by_reference: bool,
     of: TypeId,
     argument: Answer,
-) -> Result<TArgument, AllocError>
+) -> Result<MadeArgument, AllocError>
     ensures { IfOk result (λ r. seen_given r ≡
         judge.given_unopened env.now by_reference of (seen_answer argument)) }
 {
     let own = argument.known.of;
     if by_reference {
-        let place = with_type(alloc, env, own, place_in(argument.typed))?;
-        return Ok(TArgument::Whole(place));
+        let place = made_place_in(alloc, argument.typed)?;
+        let place = with_type(alloc, env, own, place)?;
+        return Ok(MadeArgument::whole(place));
     }
     if has_parts(env, of) {
-        return Ok(TArgument::Whole(place_in(argument.typed)));
+        let place = made_place_in(alloc, argument.typed)?;
+        return Ok(MadeArgument::whole(place));
     }
-    Ok(TArgument::Scalar(typed_for(env, Some(of), argument)))
+    Ok(MadeArgument::scalar(typed_for(env, Some(of), argument)))
 }
 
 /// What an argument is in the typed program.
@@ -233,16 +236,17 @@ fn given(
     env: &Env<'_>,
     parameter: Parameter,
     argument: Answer,
-) -> Result<TArgument, AllocError>
+) -> Result<MadeArgument, AllocError>
     ensures { IfOk result (λ r. seen_given r ≡
         judge.given env.now parameter (seen_answer argument)) }
 {
     let Some(of) = parameter.of else {
-        return Ok(TArgument::Scalar(argument.typed));
+        return Ok(MadeArgument::scalar(argument.typed));
     };
     if is_opened(env, of) {
         let dimensions = open_dimensions(env, of)?;
-        return Ok(TArgument::Opening(rows_in(alloc, env, dimensions, argument)?));
+        let rows = rows_in(alloc, env, dimensions, argument)?;
+        return Ok(MadeArgument::opening(rows));
     }
     given_unopened(alloc, env, parameter.by_reference, of, argument)
 }
@@ -251,7 +255,7 @@ fn given(
 #[derive(Drop)]
 pub struct Handing {
     pub are_kept: bool,
-    pub given: Vec<TArgument>,
+    pub given: MadeArguments,
 }
 
 /// No arguments.
@@ -260,7 +264,7 @@ pub fn nothing_handed(alloc: Global, are_kept: bool) -> Handing
 {
     Handing {
         are_kept,
-        given: Vec::new(alloc),
+        given: MadeArguments::new(alloc),
     }
 }
 

@@ -16,12 +16,13 @@ use crate::known::{Answer, Class, Spot, answered, constant_answer, is_number, no
 use crate::operations::{self, Step};
 use crate::references::{guarded, is_value};
 use aos_base::Pos;
+use aos_made::{MadeArguments, MadeCallee, Typed};
 use aos_symbols::{
     ARGUMENT_COUNT, ARGUMENT_TYPE, Breach, CALL_IN_AWAIT, Env, Function, Lookup, Meaning,
     NOT_BUILT, NOT_EXPORTED, OTHER_KIND, UNKNOWN, WRONG_CALL, note,
 };
 use aos_tree::{Desig, Expr, Factor, Name, Qualident, Selector, Simple};
-use aos_typed::{Literal, TArgument, TCallee, TExpr};
+use aos_typed::Literal;
 use aos_types::TypeId;
 use std::alloc::{AllocError, Global};
 
@@ -287,32 +288,40 @@ pub fn may_be_value(env: &Env<'_>, of: Option<TypeId>) -> bool
 }
 
 /// The call of a function with these arguments, which in the condition of an AWAIT stands for nothing.
-#[tactic(auto, using(crate::proofs::Handed::function_is))]
-fn function_typed(is_condition: bool, callee: TCallee, given: Vec<TArgument>) -> TExpr
-    ensures { seen_expr result ≡
-        judge.function_typed is_condition (seen_callee callee) (map seen_given given.items) }
+#[tactic(auto, using(crate::proofs::Handed::as_listed))]
+fn function_typed(
+    alloc: Global,
+    is_condition: bool,
+    callee: MadeCallee,
+    given: MadeArguments,
+) -> Result<Typed, AllocError>
+    ensures { IfOk result (λ r. seen_expr r ≡
+        judge.function_typed is_condition (seen_callee callee) (map seen_given given)) }
 {
     if is_condition {
-        return nothing();
+        return Ok(nothing());
     }
-    TExpr::Function(callee, given)
+    Typed::function(alloc, callee, given)
 }
 
 /// The result of a function with these arguments.
 fn function_answer(
+    alloc: Global,
     is_condition: bool,
-    callee: TCallee,
+    callee: MadeCallee,
     of: Option<TypeId>,
     handing: Handing,
-) -> Answer
-    ensures { seen_answer result ≡
-        judge.function_answer is_condition (seen_callee callee) of (seen_handing handing) }
+) -> Result<Answer, AllocError>
+    ensures { IfOk result (λ r. seen_answer r ≡
+        judge.function_answer is_condition (seen_callee callee) of (seen_handing handing)) }
 {
-    answered(
-        operations::kept_class(handing.are_kept, Class::Computed),
-        operations::kept_type(handing.are_kept, of),
-        function_typed(is_condition, callee, handing.given),
-    )
+    let are_kept = handing.are_kept;
+    let typed = function_typed(alloc, is_condition, callee, handing.given)?;
+    Ok(answered(
+        operations::kept_class(are_kept, Class::Computed),
+        operations::kept_type(are_kept, of),
+        typed,
+    ))
 }
 
 /// A function of this result that isn't built, or that is called in the condition of an AWAIT, in a call that begins here.
@@ -330,20 +339,21 @@ fn refuse_function(found: &mut Option<Breach>, env: &Env<'_>, first: Pos, of: Op
 
 /// The value of a function of this result with these arguments, in a call that begins here.
 pub fn function_value(
+    alloc: Global,
     found: &mut Option<Breach>,
     env: &Env<'_>,
     first: Pos,
-    callee: TCallee,
+    callee: MadeCallee,
     of: Option<TypeId>,
     handing: Handing,
-) -> Answer
-    ensures noted { found.new ≡ first_after found.old
-        (judge.function_told env.now first (seen_callee callee) of (seen_handing handing)).breaches }
-    ensures answer { seen_answer result ≡
-        (judge.function_told env.now first (seen_callee callee) of (seen_handing handing)).answer }
+) -> Result<Answer, AllocError>
+    ensures noted { OnOk result (found.new ≡ first_after found.old
+        (judge.function_told env.now first (seen_callee callee) of (seen_handing handing)).breaches) }
+    ensures answer { IfOk result (λ r. seen_answer r ≡
+        (judge.function_told env.now first (seen_callee callee) of (seen_handing handing)).answer) }
 {
     refuse_function(found, env, first, of);
-    function_answer(env.is_condition, callee, of, handing)
+    function_answer(alloc, env.is_condition, callee, of, handing)
 }
 
 /// The value of a function of one argument, which begins here.

@@ -15,6 +15,7 @@ use crate::procedures::procedure_spot;
 use crate::references::{guarded_spot, is_value};
 use crate::variables::{is_of_module, is_opened, place_of_variable};
 use aos_base::Pos;
+use aos_made::{MadePlace, Typed};
 use aos_symbols::{
     Breach, Env, Lookup, Meaning, NO_VARIABLE, NOT_BUILT, NOT_CONSTANT, NOT_EXPORTED, Narrowed,
     OTHER_KIND, Open, PROCEDURE, READ_ONLY, Symbol, UNKNOWN, WRONG_CALL, WRONG_SELF,
@@ -275,7 +276,7 @@ fn procedure_meant(
         return meant_otherwise(found, Meaning::Procedure(number), head);
     }
     let home = symbol.at.home;
-    let value = TExpr::ProcedureOf(home, number);
+    let value = Typed::procedure(home, number);
     procedure_spot(found, env, home, number, value, head.first, head.name.pos)
 }
 
@@ -313,7 +314,7 @@ fn itself(found: &mut Option<Breach>, env: &Env<'_>, at: Pos) -> Spot
     match env.self_type {
         Some(of) => Spot {
             known: known_as(Class::Computed, Some(of)),
-            held: Held::Value(TExpr::SelfRef),
+            held: Held::Value(Typed::itself()),
             at,
         },
         None => refused_at(found, WRONG_SELF, at, at),
@@ -434,18 +435,25 @@ pub fn place_of(held: Held) -> TPlace
     ensures { seen_place result ≡ judge.place_of (seen_held held) }
 {
     match held {
-        Held::Stands(place) => place,
+        Held::Stands(place) => place.take(),
         Held::Value(_) => TPlace::ModuleVar(0, 0),
     }
 }
 
 /// The place that an expression reads; some place where it reads none.
-pub fn place_in(part: TExpr) -> TPlace
+pub fn place_in(part: Typed) -> TPlace
     ensures { seen_place result ≡ judge.place_in (seen_expr part) }
 {
-    let mut part = part;
+    let mut part = part.take();
     match &mut part {
         TExpr::Read(_, place) => mem::replace(place, TPlace::ModuleVar(0, 0)),
         _ => TPlace::ModuleVar(0, 0),
     }
+}
+
+/// The same, to be made a part of something.
+pub fn made_place_in(alloc: Global, part: Typed) -> Result<MadePlace, AllocError>
+    ensures { IfOk result (λ r. seen_place r ≡ judge.place_in (seen_expr part)) }
+{
+    MadePlace::new(alloc, place_in(part))
 }

@@ -27,11 +27,12 @@ use crate::selectors::element as element_of;
 use crate::signatures::{Heading, signature_at};
 use crate::variables::is_of_module;
 use aos_base::Pos;
+use aos_made::MadeCallee;
 use aos_symbols::{
     ARGUMENT_COUNT, Breach, Env, Function, Lookup, Meaning, NOT_CONSTANT, Symbol, WRONG_CALL, note,
 };
 use aos_tree::{Addition, Desig, Elem, Expr, Factor, Product, Relation, Selector, Simple, Term};
-use aos_typed::{Literal, TCallee};
+use aos_typed::Literal;
 use aos_types::{Gives, Parameter};
 use std::alloc::{AllocError, Global};
 
@@ -531,7 +532,7 @@ fn called_as(
         }
         Meaning::Procedure(number) if is_of_module(symbol) => {
             let bound = Bound {
-                callee: TCallee::Plain(symbol.at.home, number),
+                callee: MadeCallee::plain(symbol.at.home, number),
                 heading: Heading::Declared(symbol.at.home, number),
                 first,
             };
@@ -599,7 +600,7 @@ fn invoked(
     };
     let parameters = signature.parameters.as_slice();
     let handing = arguments_for(alloc, found, env, first, parameters, arguments)?;
-    Ok(function_value(found, env, first, bound.callee, of, handing))
+    function_value(alloc, found, env, first, bound.callee, of, handing)
 }
 
 /// The arguments of a call that begins here: there is one for each parameter.

@@ -11,7 +11,7 @@ ghost use Rattle.aos_check_expr.specs.Expressions as judge;
 ghost use Rattle.aos_typed.specs.Seen.{seen_expr};
 ghost use Rattle.aos_check_expr.specs.Seen.{seen_answer};
 
-use crate::designators::{place_in, refused};
+use crate::designators::{made_place_in, refused};
 use crate::known::{
     Answer, answered, constant_answer, is_of_any, nothing, object_number, value_class,
 };
@@ -24,9 +24,10 @@ use crate::references::{
 use crate::texts::{compares_texts, relation_in, texts_related};
 use crate::type_names::known_type;
 use aos_base::Pos;
+use aos_made::Typed;
 use aos_symbols::{BOOLEAN, Breach, Env, NOT_BUILT, WRONG_TEST, note};
 use aos_tree::{AddOp, MulOp, Qualident, RelationOp, Sign};
-use aos_typed::{Literal, TExpr, TextConstant};
+use aos_typed::{Literal, TextConstant};
 use aos_types::TypeId;
 use std::alloc::{AllocError, Global};
 
@@ -126,18 +127,18 @@ fn test_typed(
     env: &Env<'_>,
     a: Answer,
     t: Option<TypeId>,
-) -> Result<TExpr, AllocError>
+) -> Result<Typed, AllocError>
     ensures { IfOk result (λ r. seen_expr r ≡ judge.test_typed env.now (seen_answer a) t) }
 {
     let (Some(of), Some(t)) = (a.known.of, t) else {
         return Ok(nothing());
     };
     if is_record_type(env, of) {
-        let record = Box::new(alloc, place_in(a.typed))?;
-        return Ok(TExpr::IsRecord(record, object_number(t)));
+        let whole = made_place_in(alloc, a.typed)?;
+        return Typed::is_record(alloc, whole, object_number(t));
     }
-    let object = Box::new(alloc, a.typed)?;
-    Ok(TExpr::Is(object, made_number(env, t)?))
+    let number = made_number(env, t)?;
+    Typed::is(alloc, a.typed, number)
 }
 
 /// A type test with a type, which may not be known; IS stands here.

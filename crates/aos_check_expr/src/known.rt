@@ -8,11 +8,12 @@ ghost use Rattle.aos_check_expr.specs.Known as known;
 ghost use Rattle.aos_check_expr.specs.Seen.{seen_answer, seen_held, seen_spot};
 
 use aos_base::{Pos, Width};
+use aos_made::{MadePlace, Typed};
 use aos_symbols::{
     ANY, BASIC_TYPES, BOOLEAN, Breach, CHAR, HUGEINT, INTEGER, LONGINT, NIL, NOT_CONSTANT,
     PROCEDURE, SET, SHORTINT, TEXT, note,
 };
-use aos_typed::{Literal, TExpr, TPlace, TType};
+use aos_typed::{Literal, TType};
 use aos_types::TypeId;
 
 /// What an expression is: unknown where a part of it breaks a rule, a constant, which has no value where its computation would
@@ -39,14 +40,14 @@ pub struct Known {
 #[derive(Drop)]
 pub struct Answer {
     pub known: Known,
-    pub typed: TExpr,
+    pub typed: Typed,
 }
 
 /// What a designator is in the typed program: a variable, or a value.
 #[derive(Drop)]
 pub enum Held {
-    Stands(TPlace),
-    Value(TExpr),
+    Stands(MadePlace),
+    Value(Typed),
 }
 
 /// A designator, and where the name stands that is its own.
@@ -370,17 +371,17 @@ pub fn known_as(class: Class, of: Option<TypeId>) -> Known
 }
 
 /// What a part of this class is in the typed program; a constant is a literal.
-fn typed_as(class: Class, typed: TExpr) -> TExpr
+fn typed_as(class: Class, typed: Typed) -> Typed
     ensures { seen_expr result ≡ known.typed_as class (seen_expr typed) }
 {
     match class {
-        Class::Constant(Some(value)) => TExpr::Lit(value),
+        Class::Constant(Some(value)) => Typed::literal(value),
         _ => typed,
     }
 }
 
 /// An expression of this class and type.
-pub fn answered(class: Class, of: Option<TypeId>, typed: TExpr) -> Answer
+pub fn answered(class: Class, of: Option<TypeId>, typed: Typed) -> Answer
     ensures { seen_answer result ≡ known.answered class of (seen_expr typed) }
 {
     Answer {
@@ -393,25 +394,25 @@ pub fn answered(class: Class, of: Option<TypeId>, typed: TExpr) -> Answer
 pub fn constant_answer(value: Literal) -> Answer
     ensures { seen_answer result ≡ known.constant_answer value }
 {
-    answered(Class::Constant(Some(value)), None, TExpr::Lit(value))
+    answered(Class::Constant(Some(value)), None, Typed::literal(value))
 }
 
 /// NIL, beside a procedure or where one is asked for, is no procedure.
-pub fn as_procedure(answer: Answer) -> TExpr
+pub fn as_procedure(answer: Answer) -> Typed
     ensures { seen_expr result ≡ known.as_procedure (seen_answer answer) }
 {
     if is_nil(answer.known.class) {
-        TExpr::Lit(Literal::NoProcedure)
+        Typed::literal(Literal::NoProcedure)
     } else {
         answer.typed
     }
 }
 
 /// What stands for a part that breaks a rule; it is never looked at.
-pub fn nothing() -> TExpr
+pub fn nothing() -> Typed
     ensures { seen_expr result ≡ known.nothing }
 {
-    TExpr::Lit(Literal::Bool(false))
+    Typed::literal(Literal::Bool(false))
 }
 
 /// What may be anything.
@@ -440,11 +441,11 @@ pub fn spot_of(at: Pos, answer: Answer) -> Spot
 }
 
 /// The value of a designator of this type.
-pub fn read_from(of: Option<TypeId>, held: Held) -> TExpr
+pub fn read_from(of: Option<TypeId>, held: Held) -> Typed
     ensures { seen_expr result ≡ known.read_from of (seen_held held) }
 {
     match held {
-        Held::Stands(place) => TExpr::Read(type_of(of), place),
+        Held::Stands(place) => Typed::read(type_of(of), place),
         Held::Value(value) => value,
     }
 }

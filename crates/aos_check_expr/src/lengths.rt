@@ -7,13 +7,14 @@ ghost use Rattle.aos_symbols.specs.Env as scopes;
 ghost use Rattle.aos_check_expr.specs.Arrays as judge;
 ghost use Rattle.aos_check_expr.specs.Seen.{seen_answer};
 
-use crate::designators::place_in;
+use crate::designators::made_place_in;
 use crate::known::{Answer, Class, answered, is_basic, is_unknown, value_class};
 use crate::operations::{argument, kept_class, kept_type};
 use crate::variables::{is_opened, open_dimensions, rows_of};
 use aos_base::Pos;
+use aos_made::{MadePlace, MadeRows, Typed};
 use aos_symbols::{Breach, Env, LONGINT, NOT_CONSTANT, note};
-use aos_typed::{Literal, TExpr, TPlace, TRows, open_array};
+use aos_typed::{Literal, open_array};
 use aos_types::{TypeId, TypeRow};
 use std::alloc::{AllocError, Global};
 
@@ -101,8 +102,8 @@ fn open_rows(
     env: &Env<'_>,
     dimensions: u32,
     of: TypeId,
-    place: TPlace,
-) -> Result<TRows, AllocError>
+    place: MadePlace,
+) -> Result<MadeRows, AllocError>
     ensures { IfOk result (λ r. seen_rows r ≡
         judge.open_rows env.now dimensions of (seen_place place)) }
 {
@@ -110,7 +111,7 @@ fn open_rows(
     let left = dimensions.saturating_sub(open_dimensions(env, of)?);
     let lengths = lengths_from(alloc, env, Some(behind), left)?;
     let rows = rows_of(alloc, place)?;
-    Ok(TRows::Longer(Box::new(alloc, rows)?, lengths))
+    MadeRows::longer(alloc, rows, lengths)
 }
 
 /// An array of a type at a place, with the lengths of its first dimensions.
@@ -119,19 +120,19 @@ pub fn array_rows(
     env: &Env<'_>,
     dimensions: u32,
     of: Option<TypeId>,
-    place: TPlace,
-) -> Result<TRows, AllocError>
+    place: MadePlace,
+) -> Result<MadeRows, AllocError>
     ensures { IfOk result (λ r. seen_rows r ≡
         judge.array_rows env.now dimensions of (seen_place place)) }
 {
     let Some(array) = of else {
-        return Ok(TRows::Known(Box::new(alloc, place)?, Vec::new(alloc)));
+        return MadeRows::known(alloc, place, Vec::new(alloc));
     };
     if is_opened(env, array) {
         return open_rows(alloc, env, dimensions, array, place);
     }
     let lengths = lengths_from(alloc, env, of, dimensions)?;
-    Ok(TRows::Known(Box::new(alloc, place)?, lengths))
+    MadeRows::known(alloc, place, lengths)
 }
 
 /// The length of a dimension behind the open ones of a type.
@@ -144,22 +145,23 @@ fn length_behind(env: &Env<'_>, of: TypeId, dimension: u32) -> Result<Option<u32
 }
 
 fn len_typed(
+    alloc: Global,
     env: &Env<'_>,
     of: Option<TypeId>,
-    rows: TRows,
+    rows: MadeRows,
     dimension: u32,
-) -> Result<TExpr, AllocError>
+) -> Result<Typed, AllocError>
     ensures { IfOk result (λ x. seen_expr x ≡
         judge.len_typed env.now of (seen_rows rows) dimension) }
 {
     let Some(of) = of else {
-        return Ok(TExpr::LenBehind(rows, 0));
+        return Typed::len_behind(alloc, rows, 0);
     };
     if dimension < open_dimensions(env, of)? {
-        return Ok(TExpr::Len(rows, dimension));
+        return Typed::len(alloc, rows, dimension);
     }
     let length = length_behind(env, of, dimension)?.unwrap_or(0);
-    Ok(TExpr::LenBehind(rows, length))
+    Typed::len_behind(alloc, rows, length)
 }
 
 /// LEN of a dimension of an array.
@@ -174,11 +176,12 @@ fn len_answer(
 {
     let known = array.known;
     let takes = is_array(env, known.of);
-    let rows = rows_of(alloc, place_in(array.typed))?;
+    let place = made_place_in(alloc, array.typed)?;
+    let rows = rows_of(alloc, place)?;
     Ok(answered(
         kept_class(takes, value_class(known.class)),
         kept_type(takes, Some(LONGINT)),
-        len_typed(env, known.of, rows, dimension)?,
+        len_typed(alloc, env, known.of, rows, dimension)?,
     ))
 }
 

@@ -18,6 +18,7 @@ use crate::selectors::{field, followed};
 use crate::signatures::Heading;
 use crate::variables::is_of_module;
 use aos_base::Pos;
+use aos_made::{MadeCallee, Typed};
 use aos_symbols::{
     Breach, Env, Lookup, Meaning, Method, NOT_EXPORTED, WRONG_CALL, WRONG_SELECTOR, WRONG_SELF,
 };
@@ -30,7 +31,7 @@ use std::alloc::{AllocError, Global};
 /// designator begins.
 #[derive(Drop)]
 pub struct Bound {
-    pub callee: TCallee,
+    pub callee: MadeCallee,
     pub heading: Heading,
     pub first: Pos,
 }
@@ -47,16 +48,15 @@ pub enum Part {
 fn dispatched(
     alloc: Global,
     first: Pos,
-    object: TExpr,
+    object: Typed,
     of: TypeId,
     method: Method,
 ) -> Result<Bound, AllocError>
     ensures { IfOk result (λ r. seen_bound r ≡
         judge.dispatched first (seen_expr object) of method) }
 {
-    let object = Box::new(alloc, object)?;
     Ok(Bound {
-        callee: TCallee::Dispatched(object, object_number(of), method.slot),
+        callee: MadeCallee::dispatched(alloc, object, object_number(of), method.slot)?,
         heading: Heading::Declared(method.home, method.number),
         first,
     })
@@ -84,7 +84,7 @@ fn method_on(
 {
     match env.method(of, head.name)? {
         Some(method) => {
-            let bound = dispatched(alloc, head.first, TExpr::SelfRef, of, method)?;
+            let bound = dispatched(alloc, head.first, Typed::itself(), of, method)?;
             Ok(Some(bound))
         },
         None => Ok(None),
@@ -108,9 +108,9 @@ fn own_method(alloc: Global, env: &Env<'_>, head: Head) -> Result<Option<Bound>,
 fn through(alloc: Global, first: Pos, value: Spot, of: TypeId) -> Result<Bound, AllocError>
     ensures { IfOk result (λ r. seen_bound r ≡ judge.through first (seen_spot value) of) }
 {
-    let value = Box::new(alloc, read_from(value.known.of, value.held))?;
+    let value = read_from(value.known.of, value.held);
     Ok(Bound {
-        callee: TCallee::Through(value, object_number(of)),
+        callee: MadeCallee::through(alloc, value, object_number(of))?,
         heading: Heading::OfType(of),
         first,
     })
@@ -195,7 +195,7 @@ fn upper_of(env: &Env<'_>, head: Head, of: TypeId) -> Result<Option<Bound>, Allo
     };
     match env.method(base, head.name)? {
         Some(method) => Ok(Some(Bound {
-            callee: TCallee::Upper(object_number(base), method.slot),
+            callee: MadeCallee::upper(object_number(base), method.slot),
             heading: Heading::Declared(method.home, method.number),
             first: head.first,
         })),
@@ -230,29 +230,38 @@ fn raised(
 }
 
 /// What is called, as a value.
-fn value_called(callee: TCallee) -> Option<TExpr>
-    ensures { option_map seen_expr result ≡ judge.value_called (seen_callee callee) }
+fn value_called(alloc: Global, callee: MadeCallee) -> Result<Option<Typed>, AllocError>
+    ensures { IfOk result (λ r. option_map seen_expr r ≡ judge.value_called (seen_callee callee)) }
 {
-    match callee {
-        TCallee::Plain(home, number) => Some(TExpr::ProcedureOf(home, number)),
-        TCallee::Dispatched(object, of, slot) => Some(TExpr::MethodOf(object, of, slot)),
-        TCallee::Upper(_, _) => None,
-        TCallee::Through(_, _) => None,
+    match callee.take() {
+        TCallee::Plain(home, number) => Ok(Some(Typed::procedure(home, number))),
+        TCallee::Dispatched(object, of, slot) => {
+            let value = Typed::new(alloc, TExpr::MethodOf(object, of, slot))?;
+            Ok(Some(value))
+        }
+        TCallee::Upper(_, _) => Ok(None),
+        TCallee::Through(_, _) => Ok(None),
     }
 }
 
 /// A method that isn't called: a procedure as a value, with its object.
-fn unbound(found: &mut Option<Breach>, env: &Env<'_>, bound: Bound) -> Spot
-    ensures noted { found.new ≡ first_after found.old
-        (judge.unbound env.now (seen_bound bound)).breaches }
-    ensures answer { seen_spot result ≡ (judge.unbound env.now (seen_bound bound)).answer }
+fn unbound(
+    alloc: Global,
+    found: &mut Option<Breach>,
+    env: &Env<'_>,
+    bound: Bound,
+) -> Result<Spot, AllocError>
+    ensures noted { OnOk result (found.new ≡ first_after found.old
+        (judge.unbound env.now (seen_bound bound)).breaches) }
+    ensures answer { IfOk result (λ r. seen_spot r ≡
+        (judge.unbound env.now (seen_bound bound)).answer) }
 {
     let first = bound.first;
-    match (bound.heading, value_called(bound.callee)) {
+    match (bound.heading, value_called(alloc, bound.callee)?) {
         (Heading::Declared(home, number), Some(value)) => {
-            procedure_spot(found, env, home, number, value, first, first)
+            Ok(procedure_spot(found, env, home, number, value, first, first))
         },
-        _ => refused_value_at(found, WRONG_CALL, first, first),
+        _ => Ok(refused_value_at(found, WRONG_CALL, first, first)),
     }
 }
 
@@ -269,7 +278,7 @@ fn named_spot(
         (judge.spot_of_part env.now (judge.Begun head)).answer) }
 {
     match own_method(alloc, env, head)? {
-        Some(bound) => Ok(unbound(found, env, bound)),
+        Some(bound) => unbound(alloc, found, env, bound),
         None => named(alloc, found, env, head),
     }
 }
@@ -289,7 +298,7 @@ pub fn spot_of_part(
     match part {
         Part::Begun(head) => named_spot(alloc, found, env, head),
         Part::Meant(spot) => Ok(spot),
-        Part::Waits(bound) => Ok(unbound(found, env, bound)),
+        Part::Waits(bound) => unbound(alloc, found, env, bound),
     }
 }
 

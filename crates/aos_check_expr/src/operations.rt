@@ -15,12 +15,13 @@ use crate::known::{
     is_number, is_set, larger, least_of, lost, next, previous, width_of, width_of_type,
 };
 use aos_base::{Binary, Given, Pos, Relation, Unary, Width, apply_binary, apply_unary, truth};
+use aos_made::Typed;
 use aos_symbols::{
     ARGUMENT_TYPE, BOOLEAN, Breach, CHAR, Function, HUGEINT, INTEGER, LONGINT, SET, SHORTINT,
     WRONG_OPERANDS, note,
 };
 use aos_tree::{AddOp, MulOp, RelationOp, Sign};
-use aos_typed::{Literal, TExpr};
+use aos_typed::Literal;
 use aos_types::TypeId;
 use std::alloc::{AllocError, Global};
 
@@ -271,37 +272,35 @@ fn joint_value(joint: Joint, a: Literal, b: Literal) -> Option<Literal>
     }
 }
 
-fn single_typed(alloc: Global, single: Single, operand: TExpr) -> Result<TExpr, AllocError>
+fn single_typed(alloc: Global, single: Single, operand: Typed) -> Result<Typed, AllocError>
     ensures { IfOk result (λ r. seen_expr r ≡ judge.single_typed single (seen_expr operand)) }
 {
     match single {
-        Single::On(operator) => Ok(TExpr::Unary(operator, Box::new(alloc, operand)?)),
-        Single::Ord => Ok(TExpr::Ord(Box::new(alloc, operand)?)),
-        Single::Chr => Ok(TExpr::Chr(Box::new(alloc, operand)?)),
-        Single::Element => Ok(TExpr::Element(Box::new(alloc, operand)?)),
+        Single::On(operator) => Typed::unary(alloc, operator, operand),
+        Single::Ord => Typed::ord(alloc, operand),
+        Single::Chr => Typed::chr(alloc, operand),
+        Single::Element => Typed::element(alloc, operand),
         Single::Same => Ok(operand),
     }
 }
 
-fn joint_typed(alloc: Global, joint: Joint, left: TExpr, right: TExpr) -> Result<TExpr, AllocError>
+fn joint_typed(alloc: Global, joint: Joint, left: Typed, right: Typed) -> Result<Typed, AllocError>
     ensures { IfOk result (λ r. seen_expr r ≡
         judge.joint_typed joint (seen_expr left) (seen_expr right)) }
 {
-    let left = Box::new(alloc, left)?;
-    let right = Box::new(alloc, right)?;
     match joint {
-        Joint::On(operator) => Ok(TExpr::Binary(operator, left, right)),
-        Joint::And => Ok(TExpr::And(left, right)),
-        Joint::Or => Ok(TExpr::Or(left, right)),
-        Joint::Same => Ok(TExpr::Same(left, right)),
+        Joint::On(operator) => Typed::binary(alloc, operator, left, right),
+        Joint::And => Typed::and(alloc, left, right),
+        Joint::Or => Typed::or(alloc, left, right),
+        Joint::Same => Typed::same(alloc, left, right),
         Joint::Differ => {
-            let same = Box::new(alloc, TExpr::Same(left, right))?;
-            Ok(TExpr::Unary(Unary::Not, same))
+            let same = Typed::same(alloc, left, right)?;
+            Typed::unary(alloc, Unary::Not, same)
         }
-        Joint::SameProcedure => Ok(TExpr::SameProcedure(left, right)),
+        Joint::SameProcedure => Typed::same_procedure(alloc, left, right),
         Joint::OtherProcedure => {
-            let same = Box::new(alloc, TExpr::SameProcedure(left, right))?;
-            Ok(TExpr::Unary(Unary::Not, same))
+            let same = Typed::same_procedure(alloc, left, right)?;
+            Typed::unary(alloc, Unary::Not, same)
         }
     }
 }

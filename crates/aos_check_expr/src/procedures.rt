@@ -14,9 +14,9 @@ use crate::references::{is_compatible, is_procedural};
 use crate::signatures::type_signature;
 use crate::texts::relation_in;
 use aos_base::Pos;
+use aos_made::Typed;
 use aos_symbols::{Breach, Env, NIL, NOT_CONSTANT, PROCEDURE};
 use aos_tree::RelationOp;
-use aos_typed::TExpr;
 use aos_types::{TypeId, same_signature};
 use std::alloc::{AllocError, Global};
 
@@ -26,7 +26,7 @@ pub fn procedure_spot(
     env: &Env<'_>,
     home: u32,
     number: u32,
-    value: TExpr,
+    value: Typed,
     first: Pos,
     at: Pos,
 ) -> Spot
@@ -83,7 +83,7 @@ pub fn is_assignable(
 }
 
 /// What a value is in the typed program that is assigned to a variable of a type.
-pub fn typed_for(env: &Env<'_>, to: Option<TypeId>, value: Answer) -> TExpr
+pub fn typed_for(env: &Env<'_>, to: Option<TypeId>, value: Answer) -> Typed
     ensures { seen_expr result ≡ designators.typed_for env.now to (seen_answer value) }
 {
     match to {

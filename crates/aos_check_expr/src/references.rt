@@ -16,8 +16,9 @@ use crate::known::{
 };
 use crate::variables::{is_opened, open_dimensions};
 use aos_base::Pos;
+use aos_made::{Look, MadePlace, MadeRows, Typed};
 use aos_symbols::{Breach, Env, NOT_BUILT, WRONG_CALL, WRONG_TEST};
-use aos_typed::{TExpr, TPlace, TRows};
+use aos_typed::{TExpr, TPlace};
 use aos_types::{TypeId, TypeRow, Types};
 use std::alloc::{AllocError, Global};
 
@@ -137,17 +138,17 @@ fn followed_place(
     alloc: Global,
     env: &Env<'_>,
     of: TypeId,
-    pointer: TExpr,
-) -> Result<TPlace, AllocError>
+    pointer: Typed,
+) -> Result<MadePlace, AllocError>
     ensures { IfOk result (λ p. seen_place p ≡
         judge.followed_place env.now of (seen_expr pointer)) }
 {
-    let pointer = Box::new(alloc, pointer)?;
     if is_opened(env, of) {
-        let rows = TRows::Spread(pointer, open_dimensions(env, of)?);
-        return Ok(TPlace::Of(Box::new(alloc, rows)?));
+        let dimensions = open_dimensions(env, of)?;
+        let rows = MadeRows::spread(alloc, pointer, dimensions)?;
+        return MadePlace::of(alloc, rows);
     }
-    Ok(TPlace::Deref(pointer, type_as(of)))
+    MadePlace::deref(alloc, pointer, type_as(of))
 }
 
 /// What a pointer leads to, which is a variable of this type.
@@ -196,17 +197,18 @@ fn holds_passed(held: &Held) -> bool
     ensures { result ≡ judge.is_passed (judge.place_of (seen_held held.now)) }
 {
     match held {
-        Held::Stands(place) => is_passed(place),
+        Held::Stands(place) => is_passed(place.look()),
         Held::Value(_) => false,
     }
 }
 
 /// The same of what an expression reads.
-pub fn reads_passed(part: &TExpr) -> bool
+pub fn reads_passed(part: &Typed) -> bool
     ensures { result ≡ judge.is_passed (judge.place_in (seen_expr part.now)) }
 {
-    match part {
-        TExpr::Read(_, place) => is_passed(place),
+    match part.look() {
+        Look::Read(_, place) => is_passed(place),
+        Look::Made(TExpr::Read(_, place)) => is_passed(place),
         _ => false,
     }
 }
@@ -260,10 +262,11 @@ pub fn unknown_part(at: Pos, whole: Spot) -> Spot
 fn guarded_object(alloc: Global, env: &Env<'_>, t: TypeId, whole: Spot) -> Result<Spot, AllocError>
     ensures { IfOk result (λ r. seen_spot r ≡ judge.guarded_object env.now t (seen_spot whole)) }
 {
-    let object = Box::new(alloc, read_from(whole.known.of, whole.held))?;
+    let number = made_number(env, t)?;
+    let object = read_from(whole.known.of, whole.held);
     Ok(Spot {
         known: known_as(value_class(whole.known.class), Some(t)),
-        held: Held::Value(TExpr::Guard(object, made_number(env, t)?)),
+        held: Held::Value(Typed::guard(alloc, object, number)?),
         at: whole.at,
     })
 }
@@ -274,8 +277,8 @@ fn guarded_held(alloc: Global, t: TypeId, whole: Held) -> Result<Held, AllocErro
 {
     match whole {
         Held::Stands(place) => {
-            let place = Box::new(alloc, place)?;
-            Ok(Held::Stands(TPlace::Guarded(place, object_number(t))))
+            let place = MadePlace::guarded(alloc, place, object_number(t))?;
+            Ok(Held::Stands(place))
         }
         Held::Value(value) => Ok(Held::Value(value)),
     }
@@ -375,13 +378,13 @@ pub fn with_type(
     alloc: Global,
     env: &Env<'_>,
     of: Option<TypeId>,
-    place: TPlace,
-) -> Result<TPlace, AllocError>
+    place: MadePlace,
+) -> Result<MadePlace, AllocError>
     ensures { IfOk result (λ p. seen_place p ≡ judge.with_type env.now of (seen_place place)) }
 {
     match of {
-        Some(of) if is_record_type(env, of) && !names_type(&place) => {
-            Ok(TPlace::Typed(Box::new(alloc, place)?, object_number(of)))
+        Some(of) if is_record_type(env, of) && !names_type(place.look()) => {
+            MadePlace::typed(alloc, place, object_number(of))
         }
         _ => Ok(place),
     }

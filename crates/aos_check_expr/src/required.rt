@@ -10,9 +10,10 @@ use crate::expressions::expr;
 use crate::known::{Class, is_boolean, is_char, is_number};
 use crate::operations;
 use aos_base::Pos;
+use aos_made::Typed;
 use aos_symbols::{Breach, Env, NO_CONDITION, NOT_CONSTANT, note};
 use aos_tree::Expr;
-use aos_typed::{Literal, TExpr};
+use aos_typed::Literal;
 use std::alloc::{AllocError, Global};
 
 /// The value of a constant expression, by its class.
@@ -53,7 +54,7 @@ pub fn condition(
     found: &mut Option<Breach>,
     env: &Env<'_>,
     part: &Expr,
-) -> Result<TExpr, AllocError>
+) -> Result<Typed, AllocError>
     ensures noted { OnOk result (found.new ≡ first_after found.old
         (judge.condition env.now part.now).breaches) }
     ensures answer { IfOk result (λ r. seen_expr r ≡ (judge.condition env.now part.now).answer) }
@@ -72,7 +73,7 @@ pub fn number_argument(
     found: &mut Option<Breach>,
     env: &Env<'_>,
     part: &Expr,
-) -> Result<TExpr, AllocError>
+) -> Result<Typed, AllocError>
     ensures noted { OnOk result (found.new ≡ first_after found.old
         (judge.argument env.now known.is_number part.now).breaches) }
     ensures answer { IfOk result (λ r. seen_expr r ≡
@@ -90,7 +91,7 @@ pub fn char_argument(
     found: &mut Option<Breach>,
     env: &Env<'_>,
     part: &Expr,
-) -> Result<TExpr, AllocError>
+) -> Result<Typed, AllocError>
     ensures noted { OnOk result (found.new ≡ first_after found.old
         (judge.argument env.now known.is_char part.now).breaches) }
     ensures answer { IfOk result (λ r. seen_expr r ≡

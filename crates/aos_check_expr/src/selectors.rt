@@ -16,9 +16,10 @@ use crate::references::{
 };
 use crate::variables::rows_of;
 use aos_base::Pos;
+use aos_made::{MadePlace, MadeRows, Typed};
 use aos_symbols::{Breach, Env, Field, NOT_BUILT, NOT_EXPORTED, WRONG_SELECTOR};
 use aos_tree::{Export, Name};
-use aos_typed::{TExpr, TPlace, TRows, open_array};
+use aos_typed::open_array;
 use aos_types::{TypeId, TypeRow};
 use std::alloc::{AllocError, Global};
 
@@ -63,8 +64,8 @@ fn field_held(alloc: Global, of: TypeId, number: u32, whole: Held) -> Result<Hel
 {
     match whole {
         Held::Stands(place) => {
-            let place = Box::new(alloc, place)?;
-            Ok(Held::Stands(TPlace::Field(place, type_as(of), number)))
+            let place = MadePlace::field(alloc, place, type_as(of), number)?;
+            Ok(Held::Stands(place))
         }
         Held::Value(value) => Ok(Held::Value(value)),
     }
@@ -81,11 +82,11 @@ fn object_field(
     ensures { IfOk result (λ r. seen_spot r ≡ judge.object_field of field at (seen_spot whole)) }
 {
     let class = part_class(may_write(field), followed_class(whole.known.class));
-    let object = Box::new(alloc, read_from(whole.known.of, whole.held))?;
-    let object = Box::new(alloc, TPlace::Deref(object, type_as(of)))?;
+    let object = read_from(whole.known.of, whole.held);
+    let object = MadePlace::deref(alloc, object, type_as(of))?;
     Ok(Spot {
         known: known_as(class, field.of),
-        held: Held::Stands(TPlace::Field(object, type_as(of), field.number)),
+        held: Held::Stands(MadePlace::field(alloc, object, type_as(of), field.number)?),
         at,
     })
 }
@@ -176,7 +177,7 @@ fn element_held(
     alloc: Global,
     elements: u32,
     of: TypeId,
-    index: TExpr,
+    index: Typed,
     whole: Held,
 ) -> Result<Held, AllocError>
     ensures { IfOk result (λ r. seen_held r ≡
@@ -185,9 +186,8 @@ fn element_held(
 {
     match whole {
         Held::Stands(place) => {
-            let place = Box::new(alloc, place)?;
-            let index = Box::new(alloc, index)?;
-            Ok(Held::Stands(TPlace::Index(place, elements, type_as(of), index)))
+            let place = MadePlace::index(alloc, place, elements, type_as(of), index)?;
+            Ok(Held::Stands(place))
         }
         Held::Value(value) => Ok(Held::Value(value)),
     }
@@ -233,17 +233,16 @@ fn found_element(
     }
 }
 
-fn row_held(alloc: Global, of: TypeId, index: TExpr, whole: Held) -> Result<Held, AllocError>
+fn row_held(alloc: Global, of: TypeId, index: Typed, whole: Held) -> Result<Held, AllocError>
     ensures { IfOk result (λ r. seen_held r ≡
         judge.part_held (λ p. Of (Row (judge.rows_of p) (known.type_as of) (seen_expr index)))
         (seen_held whole)) }
 {
     match whole {
         Held::Stands(place) => {
-            let rows = Box::new(alloc, rows_of(alloc, place)?)?;
-            let index = Box::new(alloc, index)?;
-            let row = TRows::Row(rows, type_as(of), index);
-            Ok(Held::Stands(TPlace::Of(Box::new(alloc, row)?)))
+            let rows = rows_of(alloc, place)?;
+            let row = MadeRows::row(alloc, rows, type_as(of), index)?;
+            Ok(Held::Stands(MadePlace::of(alloc, row)?))
         }
         Held::Value(value) => Ok(Held::Value(value)),
     }

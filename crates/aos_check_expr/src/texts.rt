@@ -6,14 +6,15 @@ ghost use Rattle.aos_typed.specs.Seen.{seen_rows};
 ghost use Rattle.aos_check_expr.specs.Expressions as judge;
 ghost use Rattle.aos_check_expr.specs.Seen.{seen_answer};
 
-use crate::designators::place_in;
+use crate::designators::made_place_in;
 use crate::known::{Answer, Class, Known, answered, is_basic, is_char};
 use crate::lengths::{array_rows, is_opening, length_of};
 use crate::operations::{Joint, class_of};
 use aos_base::{Relation, related};
+use aos_made::{MadePlace, MadeRows, Typed};
 use aos_symbols::{BOOLEAN, CHAR, Env};
 use aos_tree::RelationOp;
-use aos_typed::{Literal, TExpr, TPlace, TRows, TextConstant};
+use aos_typed::{Literal, TextConstant};
 use aos_types::{TypeId, TypeRow};
 use std::alloc::{AllocError, Global};
 use std::cmp::Ordering;
@@ -96,13 +97,14 @@ fn element_count(characters: &[u8]) -> Result<u32, AllocError>
 }
 
 /// A string constant as an array.
-fn string_rows(alloc: Global, env: &Env<'_>, text: TextConstant) -> Result<TRows, AllocError>
+fn string_rows(alloc: Global, env: &Env<'_>, text: TextConstant) -> Result<MadeRows, AllocError>
     ensures { IfOk result (λ r. seen_rows r ≡ judge.string_rows env.now text) }
 {
-    let place = TPlace::ModuleVar(text.home, env.string_place(text)?);
+    let number = env.string_place(text)?;
     let mut lengths = Vec::new(alloc);
     lengths.push(element_count(env.characters(text))?)?;
-    Ok(TRows::Known(Box::new(alloc, place)?, lengths))
+    let place = MadePlace::module_variable(alloc, text.home, number)?;
+    MadeRows::known(alloc, place, lengths)
 }
 
 /// A part as an array, with the lengths of its first dimensions.
@@ -111,19 +113,22 @@ pub fn rows_in(
     env: &Env<'_>,
     dimensions: u32,
     part: Answer,
-) -> Result<TRows, AllocError>
+) -> Result<MadeRows, AllocError>
     ensures { IfOk result (λ r. seen_rows r ≡
         judge.rows_in env.now dimensions (seen_answer part)) }
 {
     let known = part.known;
     match string_in(env, known.class) {
         Some(text) => string_rows(alloc, env, text),
-        None => array_rows(alloc, env, dimensions, known.of, place_in(part.typed)),
+        None => {
+            let place = made_place_in(alloc, part.typed)?;
+            array_rows(alloc, env, dimensions, known.of, place)
+        }
     }
 }
 
 /// The array of a text, with its length.
-pub fn text_rows(alloc: Global, env: &Env<'_>, part: Answer) -> Result<TRows, AllocError>
+pub fn text_rows(alloc: Global, env: &Env<'_>, part: Answer) -> Result<MadeRows, AllocError>
     ensures { IfOk result (λ r. seen_rows r ≡ judge.text_rows env.now (seen_answer part)) }
 {
     rows_in(alloc, env, 1, part)
@@ -209,6 +214,6 @@ pub fn texts_related(
     let class = texts_class(env, relation, a.known.class, b.known.class);
     let left = text_rows(alloc, env, a)?;
     let right = text_rows(alloc, env, b)?;
-    let typed = TExpr::CompareTexts(relation, left, right);
+    let typed = Typed::compare_texts(alloc, relation, left, right)?;
     Ok(answered(class, Some(BOOLEAN), typed))
 }

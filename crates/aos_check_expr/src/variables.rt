@@ -6,8 +6,9 @@ ghost use Rattle.aos_typed.specs.Seen.{seen_place, seen_rows};
 ghost use Rattle.aos_check_expr.specs.Designators as judge;
 
 use crate::known::{is_basic, type_as};
+use aos_made::{MadePlace, MadeRows, Typed};
 use aos_symbols::{Env, Open, Symbol};
-use aos_typed::{TExpr, TPlace, TRows, open_array};
+use aos_typed::{TPlace, TRows, open_array};
 use aos_types::{Parameter, TypeId, TypeRow};
 use std::alloc::{AllocError, Global};
 use std::mem;
@@ -30,13 +31,13 @@ pub fn open_dimensions(env: &Env<'_>, of: TypeId) -> Result<u32, AllocError>
 }
 
 /// A parameter that is no open array.
-fn unopened(number: u32, parameter: Parameter) -> TPlace
-    ensures { seen_place result ≡ judge.unopened_place number parameter }
+fn unopened(alloc: Global, number: u32, parameter: Parameter) -> Result<MadePlace, AllocError>
+    ensures { IfOk result (λ p. seen_place p ≡ judge.unopened_place number parameter) }
 {
     if parameter.by_reference {
-        TPlace::Passed(number)
+        MadePlace::passed(alloc, number)
     } else {
-        TPlace::Local(number)
+        MadePlace::local(alloc, number)
     }
 }
 
@@ -46,15 +47,16 @@ fn parameter_place(
     env: &Env<'_>,
     number: u32,
     parameter: Parameter,
-) -> Result<TPlace, AllocError>
+) -> Result<MadePlace, AllocError>
     ensures { IfOk result (λ p. seen_place p ≡ judge.parameter_place env.now number parameter) }
 {
     match parameter.of {
         Some(of) if is_opened(env, of) => {
-            let rows = TRows::Opened(number, open_dimensions(env, of)?);
-            Ok(TPlace::Of(Box::new(alloc, rows)?))
+            let dimensions = open_dimensions(env, of)?;
+            let rows = MadeRows::opened(alloc, number, dimensions)?;
+            MadePlace::of(alloc, rows)
         }
-        _ => Ok(unopened(number, parameter)),
+        _ => unopened(alloc, number, parameter),
     }
 }
 
@@ -71,12 +73,12 @@ fn own_parameter(env: &Env<'_>, number: u32) -> Option<Parameter>
 }
 
 /// A parameter or a local of the procedure in which a place stands.
-fn own_place(alloc: Global, env: &Env<'_>, number: u32) -> Result<TPlace, AllocError>
+fn own_place(alloc: Global, env: &Env<'_>, number: u32) -> Result<MadePlace, AllocError>
     ensures { IfOk result (λ p. seen_place p ≡ judge.own_place env.now number) }
 {
     match own_parameter(env, number) {
         Some(parameter) => parameter_place(alloc, env, number, parameter),
-        None => Ok(TPlace::Local(number)),
+        None => MadePlace::local(alloc, number),
     }
 }
 
@@ -95,26 +97,31 @@ fn is_own_scope(env: &Env<'_>, at: Open) -> bool
 }
 
 /// A field of SELF, which is of this type, by the field's number.
-fn self_place(alloc: Global, of: TypeId, number: u32) -> Result<TPlace, AllocError>
+fn self_place(alloc: Global, of: TypeId, number: u32) -> Result<MadePlace, AllocError>
     ensures { IfOk result (λ p. seen_place p ≡ judge.self_place of number) }
 {
-    let object = TPlace::Deref(Box::new(alloc, TExpr::SelfRef)?, type_as(of));
-    Ok(TPlace::Field(Box::new(alloc, object)?, type_as(of), number))
+    let object = MadePlace::deref(alloc, Typed::itself(), type_as(of))?;
+    MadePlace::field(alloc, object, type_as(of), number)
 }
 
 /// A variable in the scope of an object type: a field of SELF.
-fn inner_place(alloc: Global, env: &Env<'_>, at: Open, number: u32) -> Result<TPlace, AllocError>
+fn inner_place(alloc: Global, env: &Env<'_>, at: Open, number: u32) -> Result<MadePlace, AllocError>
     ensures { IfOk result (λ p. seen_place p ≡ judge.inner_place env.now at number) }
 {
     match (env.self_type, env.object_at(at)) {
         (Some(of), Some(declarer)) => {
             self_place(alloc, of, env.field_number(declarer, number)?)
         },
-        _ => Ok(TPlace::Local(number)),
+        _ => MadePlace::local(alloc, number),
     }
 }
 
-fn place_in_scope(alloc: Global, env: &Env<'_>, at: Open, number: u32) -> Result<TPlace, AllocError>
+fn place_in_scope(
+    alloc: Global,
+    env: &Env<'_>,
+    at: Open,
+    number: u32,
+) -> Result<MadePlace, AllocError>
     ensures { IfOk result (λ p. seen_place p ≡ judge.place_in_scope env.now at number) }
 {
     if is_own_scope(env, at) {
@@ -130,23 +137,24 @@ pub fn place_of_variable(
     env: &Env<'_>,
     symbol: Symbol,
     number: u32,
-) -> Result<TPlace, AllocError>
+) -> Result<MadePlace, AllocError>
     ensures { IfOk result (λ p. seen_place p ≡ judge.place_of_variable env.now symbol number) }
 {
     if is_of_module(symbol) {
-        Ok(TPlace::ModuleVar(symbol.at.home, number))
+        MadePlace::module_variable(alloc, symbol.at.home, number)
     } else {
         place_in_scope(alloc, env, symbol.at, number)
     }
 }
 
 /// The rows of an open array; what is none has no open dimensions.
-pub fn rows_of(alloc: Global, place: TPlace) -> Result<TRows, AllocError>
+pub fn rows_of(alloc: Global, place: MadePlace) -> Result<MadeRows, AllocError>
     ensures { IfOk result (λ r. seen_rows r ≡ judge.rows_of (seen_place place)) }
 {
-    let mut place = place;
+    let mut place = place.take();
     if let TPlace::Of(rows) = &mut place {
-        return Ok(mem::replace(&mut **rows, TRows::Opened(0, 0)));
+        return MadeRows::new(alloc, mem::replace(&mut **rows, TRows::Opened(0, 0)));
     }
-    Ok(TRows::Known(Box::new(alloc, place)?, Vec::new(alloc)))
+    let place = MadePlace::new(alloc, place)?;
+    MadeRows::known(alloc, place, Vec::new(alloc))
 }

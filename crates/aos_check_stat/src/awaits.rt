@@ -51,5 +51,5 @@ pub fn await_of(
     if !env.is_exclusive {
         note(found, AWAIT_OUTSIDE, at);
     }
-    Ok(Some(TStat::Await(at, 0, test)))
+    Ok(Some(TStat::Await(at, 0, test.take())))
 }

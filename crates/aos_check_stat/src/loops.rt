@@ -10,11 +10,12 @@ use aos_base::Pos;
 use aos_check_expr::{
     Class, access, expr, fits, is_number, place_of_variable, refuse_written, type_of_literal,
 };
+use aos_made::Typed;
 use aos_symbols::{
     Breach, Env, Lookup, Meaning, NOT_BUILT, NOT_EXPORTED, Symbol, UNKNOWN, WRONG_FOR, note,
 };
 use aos_tree::{Expr, Name};
-use aos_typed::{Literal, TExpr, TPlace};
+use aos_typed::{Literal, TPlace};
 use aos_types::TypeId;
 use std::alloc::{AllocError, Global};
 
@@ -65,7 +66,7 @@ fn control_meant(
     match symbol.means {
         Meaning::Variable(number) => {
             let of = env.variable_type(symbol.at, number);
-            let place = place_of_variable(alloc, env, symbol, number)?;
+            let place = place_of_variable(alloc, env, symbol, number)?.take();
             let class = access(symbol.at.home == env.number, symbol.mark);
             Ok(control_variable(found, class, at, place, of))
         },
@@ -102,7 +103,7 @@ pub fn fitting(
     rule: u16,
     at: Pos,
     part: &Expr,
-) -> Result<TExpr, AllocError>
+) -> Result<Typed, AllocError>
     ensures noted { OnOk result (found.new ≡
         first_after found.old (judge.fitting env.now of rule at part.now).breaches) }
     ensures answer { IfOk result (λ r.

@@ -105,7 +105,7 @@ fn put_length(
     if !may_be_length(of, value.known.of) {
         note(found, WRONG_NEW, at);
     }
-    lengths.push(value.typed)?;
+    lengths.push(value.typed.take())?;
     Ok(())
 }
 
@@ -181,7 +181,7 @@ fn initialized_by(
         Some(signature) => {
             let parameters = signature.parameters.as_slice();
             let handing = arguments_for(alloc, found, env, at, parameters, arguments)?;
-            Ok(handing.given)
+            Ok(handing.given.take())
         },
         None => {
             note(found, NOT_BUILT, at);

@@ -32,7 +32,7 @@ fn int_call(
         [number, width] => {
             let number = number_argument(alloc, found, env, number)?;
             let width = number_argument(alloc, found, env, width)?;
-            Ok(Some(TStat::Out(at, OutCall::Int(number, width))))
+            Ok(Some(TStat::Out(at, OutCall::Int(number.take(), width.take()))))
         },
         _ => Ok(refused(found, ARGUMENT_COUNT, at)),
     }
@@ -55,7 +55,7 @@ fn char_call(
     match arguments {
         [character] => {
             let character = char_argument(alloc, found, env, character)?;
-            Ok(Some(TStat::Out(at, OutCall::Char(character))))
+            Ok(Some(TStat::Out(at, OutCall::Char(character.take()))))
         },
         _ => Ok(refused(found, ARGUMENT_COUNT, at)),
     }
@@ -79,7 +79,7 @@ fn string_call(
         [text] => {
             let text = text_argument(alloc, found, env, text)?;
             let rows = text_rows(alloc, env, text)?;
-            Ok(Some(TStat::Out(at, OutCall::String(rows))))
+            Ok(Some(TStat::Out(at, OutCall::String(rows.take()))))
         },
         _ => Ok(refused(found, ARGUMENT_COUNT, at)),
     }

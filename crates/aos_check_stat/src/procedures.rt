@@ -12,11 +12,12 @@ use aos_check_expr::{
     Head, Heading, arguments_for, expr, is_assignable, may_be_value, member_behind, signature_at,
     typed_for,
 };
+use aos_made::MadeCallee;
 use aos_symbols::{
     Breach, Env, Lookup, Meaning, NOT_BUILT, Symbol, WRONG_CALL, WRONG_RETURN, note,
 };
 use aos_tree::{Desig, Expr, Selector};
-use aos_typed::{TCallee, TStat};
+use aos_typed::TStat;
 use aos_types::{Gives, Signature, TypeId};
 use std::alloc::{AllocError, Global};
 
@@ -27,7 +28,7 @@ fn perform_with(
     found: &mut Option<Breach>,
     env: &Env<'_>,
     at: Pos,
-    callee: TCallee,
+    callee: MadeCallee,
     signature: &Signature,
     arguments: &[Expr],
 ) -> Result<Option<TStat>, AllocError>
@@ -38,7 +39,7 @@ fn perform_with(
 {
     let parameters = signature.parameters.as_slice();
     let handing = arguments_for(alloc, found, env, at, parameters, arguments)?;
-    Ok(Some(TStat::Perform(at, callee, handing.given)))
+    Ok(Some(TStat::Perform(at, callee.take(), handing.given.take())))
 }
 
 /// A call of a procedure with these arguments, which begins at a place: a function gives a value.
@@ -47,7 +48,7 @@ fn perform_signed(
     found: &mut Option<Breach>,
     env: &Env<'_>,
     at: Pos,
-    callee: TCallee,
+    callee: MadeCallee,
     signature: &Signature,
     arguments: &[Expr],
 ) -> Result<Option<TStat>, AllocError>
@@ -68,7 +69,7 @@ pub fn perform(
     found: &mut Option<Breach>,
     env: &Env<'_>,
     at: Pos,
-    callee: TCallee,
+    callee: MadeCallee,
     heading: Heading,
     arguments: &[Expr],
 ) -> Result<Option<TStat>, AllocError>
@@ -100,7 +101,7 @@ pub fn performed(
         (judge.performed env.now at symbol number selectors.now).answer) }
 {
     let home = symbol.at.home;
-    let callee = TCallee::Plain(home, number);
+    let callee = MadeCallee::plain(home, number);
     let heading = Heading::Declared(home, number);
     let call = perform(alloc, found, env, at, callee, heading, arguments(selectors))?;
     refuse_behind(found, at, behind_arguments(selectors));
@@ -187,7 +188,7 @@ fn return_value(
     if !may_be_value(env, of) {
         note(found, NOT_BUILT, at);
     }
-    Ok(Some(TStat::Return(at, Some(typed_for(env, of, value)))))
+    Ok(Some(TStat::Return(at, Some(typed_for(env, of, value).take()))))
 }
 
 /// RETURN at a place, with a value or without.

@@ -13,11 +13,12 @@ use aos_check_expr::{
     Class, Spot, condition, desig_alone, designator, expr, fits, is_number, is_set, place_of,
     refuse_written, width_of,
 };
+use aos_made::Typed;
 use aos_symbols::{
     ARGUMENT_COUNT, ARGUMENT_TYPE, Breach, Env, NO_VARIABLE, NOT_CONSTANT, Routine, note,
 };
 use aos_tree::{Desig, Expr};
-use aos_typed::{Change, Literal, TExpr, TStat};
+use aos_typed::{Change, Literal, TStat};
 use aos_types::TypeId;
 use std::alloc::{AllocError, Global};
 
@@ -79,14 +80,14 @@ fn amount(
     routine: Routine,
     of: Option<TypeId>,
     value: Option<&Expr>,
-) -> Result<TExpr, AllocError>
+) -> Result<Typed, AllocError>
     ensures noted { OnOk result (found.new ≡ first_after found.old
         (judge.amount env.now routine of (option_copied value.entry)).breaches) }
     ensures answer { IfOk result (λ r.
         seen_expr r ≡ (judge.amount env.now routine of (option_copied value.entry)).answer) }
 {
     let Some(part) = value else {
-        return Ok(TExpr::Lit(Literal::Int(1)));
+        return Ok(Typed::literal(Literal::Int(1)));
     };
     let value = expr(alloc, found, env, part)?;
     if !is_amount(routine, of, value.known.of) {
@@ -115,7 +116,7 @@ fn change_of(
     refuse_changed(found, routine, first, &spot);
     let value = amount(alloc, found, env, routine, spot.known.of, value)?;
     let change = changing(routine, spot.known.of);
-    Ok(Some(TStat::Change(at, change, place_of(spot.held), value)))
+    Ok(Some(TStat::Change(at, change, place_of(spot.held), value.take())))
 }
 
 /// A change of an argument, which is a designator or not, in a call that begins at a place.
@@ -246,12 +247,12 @@ pub fn assert_call(
     match arguments {
         [test] => {
             let test = condition(alloc, found, env, test)?;
-            Ok(Some(TStat::Assert(at, test, 0)))
+            Ok(Some(TStat::Assert(at, test.take(), 0)))
         },
         [test, code] => {
             let test = condition(alloc, found, env, test)?;
             let code = trap_code(alloc, found, env, code)?;
-            Ok(Some(TStat::Assert(at, test, code)))
+            Ok(Some(TStat::Assert(at, test.take(), code)))
         },
         _ => Ok(refused(found, ARGUMENT_COUNT, at)),
     }

@@ -71,7 +71,12 @@ fn assigned_stat(
             return Ok(TStat::Copy(first, of, place_of(spot.held), place_in(value.typed)));
         }
     }
-    Ok(TStat::Assign(first, of, place_of(spot.held), typed_for(env, to, value)))
+    Ok(TStat::Assign(
+        first,
+        of,
+        place_of(spot.held),
+        typed_for(env, to, value).take(),
+    ))
 }
 
 /// An assignment, with `:=` at a place.
@@ -157,7 +162,7 @@ fn stat_of(
             let of = value.known.of;
             let all = cases_in(alloc, found, env, in_loop, arms.as_slice(), of)?;
             let last = case_else(alloc, found, env, in_loop, last)?;
-            Ok(Some(TStat::Case(*at, value.typed, all, last)))
+            Ok(Some(TStat::Case(*at, value.typed.take(), all, last)))
         }
         Stat::While(at, test, body) => while_of(alloc, found, env, in_loop, *at, body, test),
         Stat::Repeat(at, body, test) => repeat_of(alloc, found, env, in_loop, *at, body, test),
@@ -193,7 +198,10 @@ fn arm_of(
 {
     let test = condition(alloc, found, env, test)?;
     let body = stats_in(alloc, found, env, in_loop, body.stats.as_slice())?;
-    Ok(TArm { test, body })
+    Ok(TArm {
+        test: test.take(),
+        body,
+    })
 }
 
 /// Puts the arms of ELSIFs behind others, whatever stands behind them.
@@ -314,7 +322,7 @@ fn while_of(
 {
     let test = condition(alloc, found, env, test)?;
     let body = stats_in(alloc, found, env, in_loop, body.stats.as_slice())?;
-    Ok(Some(TStat::While(at, test, body)))
+    Ok(Some(TStat::While(at, test.take(), body)))
 }
 
 /// REPEAT.
@@ -337,7 +345,7 @@ fn repeat_of(
 {
     let body = stats_in(alloc, found, env, in_loop, body.stats.as_slice())?;
     let test = condition(alloc, found, env, test)?;
-    Ok(Some(TStat::Repeat(at, body, test)))
+    Ok(Some(TStat::Repeat(at, body, test.take())))
 }
 
 /// LOOP.
@@ -387,7 +395,7 @@ fn for_of(
     let to = fitting(alloc, found, env, of, WRONG_FOR, name.pos, to)?;
     let step = step_of(alloc, found, env, name.pos, of, by)?;
     let body = stats_in(alloc, found, env, in_loop, body.stats.as_slice())?;
-    Ok(Some(TStat::For(at, width_of(of), place, from, to, step, body)))
+    Ok(Some(TStat::For(at, width_of(of), place, from.take(), to.take(), step, body)))
 }
 
 /// WITH, whose `:` stands at the second place.

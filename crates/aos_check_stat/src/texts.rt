@@ -15,6 +15,7 @@ use aos_check_expr::{
     Answer, Known, Spot, array_rows, desig_alone, designator, expr, has_room, is_assignable,
     is_characters, is_opening, may_be_text, place_of, refuse_written, text_for, text_rows,
 };
+use aos_made::MadePlace;
 use aos_symbols::{ARGUMENT_COUNT, ARGUMENT_TYPE, Breach, Env, NO_VARIABLE, note};
 use aos_tree::{Desig, Expr};
 use aos_typed::{TStat, TextConstant};
@@ -57,8 +58,9 @@ pub fn put_text(
         judge.put_text env.now at strict (seen_answer value) (seen_spot spot)) }
 {
     let from = text_rows(alloc, env, value)?;
-    let to = array_rows(alloc, env, 1, spot.known.of, place_of(spot.held))?;
-    Ok(TStat::PutText(at, strict, from, to))
+    let place = MadePlace::new(alloc, place_of(spot.held))?;
+    let to = array_rows(alloc, env, 1, spot.known.of, place)?;
+    Ok(TStat::PutText(at, strict, from.take(), to.take()))
 }
 
 /// An argument that must be a text.

@@ -136,7 +136,7 @@ pub fn with_stat(at: Pos, held: Held, body: Vec<TStat>) -> TStat
     ensures { seen_stat result ≡ judge.with_stat at (seen_held held) (seen_stats body.items) }
 {
     match held {
-        Held::Stands(record) => TStat::WithRecord(at, record, body),
-        Held::Value(object) => TStat::With(at, object, body),
+        Held::Stands(record) => TStat::WithRecord(at, record.take(), body),
+        Held::Value(object) => TStat::With(at, object.take(), body),
     }
 }

@@ -10,16 +10,17 @@ use crate::callee::MadeCallee;
 use crate::place::MadePlace;
 use crate::rows::MadeRows;
 use aos_base::{Binary, Relation, Unary};
-use aos_typed::{Literal, TExpr, TType};
+use aos_typed::{Literal, TExpr, TPlace, TType};
 use std::alloc::{AllocError, Global};
 use std::marker::Model;
 
-/// How it is kept: what has no parts takes no memory.
+/// How it is kept: what has no parts takes no memory, nor does what reads a variable.
 #[derive(Drop)]
 enum Kept {
     Lit(Literal),
     Itself,
     Procedure(u32, u32),
+    Read(TType, MadePlace),
     Made(Box<TExpr>),
 }
 
@@ -28,6 +29,7 @@ pub enum Look<'a> {
     Lit(Literal),
     Itself,
     Procedure(u32, u32),
+    Read(TType, &'a TPlace),
     Made(&'a TExpr),
 }
 
@@ -58,14 +60,6 @@ impl Drop for Typed {
     }
 }
 
-fn made(alloc: Global, e: TExpr) -> Result<Typed, AllocError>
-    ensures { IfOk result (λ r. r ≡ e) }
-{
-    Ok(Typed {
-        kept: Kept::Made(Box::new(alloc, e)?),
-    })
-}
-
 fn boxed(alloc: Global, e: TExpr) -> Result<Box<TExpr>, AllocError>
     ensures { IfOk result (λ r. r.value ≡ e) }
 {
@@ -73,6 +67,15 @@ fn boxed(alloc: Global, e: TExpr) -> Result<Box<TExpr>, AllocError>
 }
 
 impl Typed {
+    /// Any expression.
+    pub fn new(alloc: Global, e: TExpr) -> Result<Typed, AllocError>
+        ensures { IfOk result (λ r. r ≡ e) }
+    {
+        Ok(Typed {
+            kept: Kept::Made(Box::new(alloc, e)?),
+        })
+    }
+
     /// As a part of another expression.
     pub fn part(self, alloc: Global) -> Result<Box<TExpr>, AllocError>
         ensures { IfOk result (λ r. r.value ≡ self) }
@@ -82,6 +85,7 @@ impl Typed {
             Kept::Lit(l) => boxed(alloc, TExpr::Lit(l)),
             Kept::Itself => boxed(alloc, TExpr::SelfRef),
             Kept::Procedure(home, number) => boxed(alloc, TExpr::ProcedureOf(home, number)),
+            Kept::Read(of, place) => boxed(alloc, TExpr::Read(of, place.take())),
             Kept::Made(e) => Ok(e),
         }
     }
@@ -95,6 +99,7 @@ impl Typed {
             Kept::Lit(l) => TExpr::Lit(l),
             Kept::Itself => TExpr::SelfRef,
             Kept::Procedure(home, number) => TExpr::ProcedureOf(home, number),
+            Kept::Read(of, place) => TExpr::Read(of, place.take()),
             Kept::Made(e) => Box::into_inner(e),
         }
     }
@@ -107,6 +112,7 @@ impl Typed {
             Kept::Lit(l) => Look::Lit(*l),
             Kept::Itself => Look::Itself,
             Kept::Procedure(home, number) => Look::Procedure(*home, *number),
+            Kept::Read(of, place) => Look::Read(*of, place.look()),
             Kept::Made(e) => Look::Made(e),
         }
     }
@@ -135,10 +141,12 @@ impl Typed {
     }
 
     /// A variable of this type.
-    pub fn read(alloc: Global, of: TType, place: MadePlace) -> Result<Typed, AllocError>
-        ensures { IfOk result (λ r. seen_expr r ≡ program.Read of (seen_place place)) }
+    pub fn read(of: TType, place: MadePlace) -> Typed
+        ensures { seen_expr result ≡ program.Read of (seen_place place) }
     {
-        made(alloc, TExpr::Read(of, place.take()))
+        Typed {
+            kept: Kept::Read(of, place),
+        }
     }
 
     /// An operator on one operand.
@@ -146,7 +154,7 @@ impl Typed {
         ensures { IfOk result (λ r. seen_expr r ≡ program.Unary op (seen_expr a)) }
     {
         let a = a.part(alloc)?;
-        made(alloc, TExpr::Unary(op, a))
+        Typed::new(alloc, TExpr::Unary(op, a))
     }
 
     /// The set of one element.
@@ -154,7 +162,7 @@ impl Typed {
         ensures { IfOk result (λ r. seen_expr r ≡ program.Element (seen_expr a)) }
     {
         let a = a.part(alloc)?;
-        made(alloc, TExpr::Element(a))
+        Typed::new(alloc, TExpr::Element(a))
     }
 
     /// The code of a character.
@@ -162,7 +170,7 @@ impl Typed {
         ensures { IfOk result (λ r. seen_expr r ≡ program.Ord (seen_expr a)) }
     {
         let a = a.part(alloc)?;
-        made(alloc, TExpr::Ord(a))
+        Typed::new(alloc, TExpr::Ord(a))
     }
 
     /// The character of a code.
@@ -170,7 +178,7 @@ impl Typed {
         ensures { IfOk result (λ r. seen_expr r ≡ program.Chr (seen_expr a)) }
     {
         let a = a.part(alloc)?;
-        made(alloc, TExpr::Chr(a))
+        Typed::new(alloc, TExpr::Chr(a))
     }
 
     /// Whether an object's type extends this one, by its number in the program.
@@ -178,7 +186,7 @@ impl Typed {
         ensures { IfOk result (λ r. seen_expr r ≡ program.Is (seen_expr a) of) }
     {
         let a = a.part(alloc)?;
-        made(alloc, TExpr::Is(a, of))
+        Typed::new(alloc, TExpr::Is(a, of))
     }
 
     /// An object whose type extends this one, by its number in the program.
@@ -186,7 +194,7 @@ impl Typed {
         ensures { IfOk result (λ r. seen_expr r ≡ program.Guard (seen_expr a) of) }
     {
         let a = a.part(alloc)?;
-        made(alloc, TExpr::Guard(a, of))
+        Typed::new(alloc, TExpr::Guard(a, of))
     }
 
     /// The method in a slot of an object, of which this type is known, as a value.
@@ -194,7 +202,7 @@ impl Typed {
         ensures { IfOk result (λ r. seen_expr r ≡ program.MethodOf (seen_expr a) of slot) }
     {
         let a = a.part(alloc)?;
-        made(alloc, TExpr::MethodOf(a, of, slot))
+        Typed::new(alloc, TExpr::MethodOf(a, of, slot))
     }
 
     /// An operator on two operands.
@@ -203,7 +211,7 @@ impl Typed {
     {
         let a = a.part(alloc)?;
         let b = b.part(alloc)?;
-        made(alloc, TExpr::Binary(op, a, b))
+        Typed::new(alloc, TExpr::Binary(op, a, b))
     }
 
     /// Both.
@@ -212,7 +220,7 @@ impl Typed {
     {
         let a = a.part(alloc)?;
         let b = b.part(alloc)?;
-        made(alloc, TExpr::And(a, b))
+        Typed::new(alloc, TExpr::And(a, b))
     }
 
     /// One of both.
@@ -221,7 +229,7 @@ impl Typed {
     {
         let a = a.part(alloc)?;
         let b = b.part(alloc)?;
-        made(alloc, TExpr::Or(a, b))
+        Typed::new(alloc, TExpr::Or(a, b))
     }
 
     /// Whether both are one object.
@@ -230,7 +238,7 @@ impl Typed {
     {
         let a = a.part(alloc)?;
         let b = b.part(alloc)?;
-        made(alloc, TExpr::Same(a, b))
+        Typed::new(alloc, TExpr::Same(a, b))
     }
 
     /// Whether both stand for one procedure.
@@ -239,14 +247,14 @@ impl Typed {
     {
         let a = a.part(alloc)?;
         let b = b.part(alloc)?;
-        made(alloc, TExpr::SameProcedure(a, b))
+        Typed::new(alloc, TExpr::SameProcedure(a, b))
     }
 
     /// Whether the type of a record extends this one, by its number in the program.
     pub fn is_record(alloc: Global, whole: MadePlace, of: u32) -> Result<Typed, AllocError>
         ensures { IfOk result (λ r. seen_expr r ≡ program.IsRecord (seen_place whole) of) }
     {
-        made(alloc, TExpr::IsRecord(whole.part(), of))
+        Typed::new(alloc, TExpr::IsRecord(whole.part(), of))
     }
 
     /// Two texts compared.
@@ -259,21 +267,21 @@ impl Typed {
         ensures { IfOk result (λ r. seen_expr r ≡
             program.CompareTexts relation (seen_rows a) (seen_rows b)) }
     {
-        made(alloc, TExpr::CompareTexts(relation, a.take(), b.take()))
+        Typed::new(alloc, TExpr::CompareTexts(relation, a.take(), b.take()))
     }
 
     /// The length of a dimension of an array.
     pub fn len(alloc: Global, rows: MadeRows, dimension: u32) -> Result<Typed, AllocError>
         ensures { IfOk result (λ r. seen_expr r ≡ program.Len (seen_rows rows) dimension) }
     {
-        made(alloc, TExpr::Len(rows.take(), dimension))
+        Typed::new(alloc, TExpr::Len(rows.take(), dimension))
     }
 
     /// The length of a dimension behind the open ones, which is known.
     pub fn len_behind(alloc: Global, rows: MadeRows, length: u32) -> Result<Typed, AllocError>
         ensures { IfOk result (λ r. seen_expr r ≡ program.LenBehind (seen_rows rows) length) }
     {
-        made(alloc, TExpr::LenBehind(rows.take(), length))
+        Typed::new(alloc, TExpr::LenBehind(rows.take(), length))
     }
 
     /// The result of a function.
@@ -286,6 +294,6 @@ impl Typed {
         ensures { IfOk result (λ r. seen_expr r ≡
             program.Function (seen_callee callee) (seen_list given)) }
     {
-        made(alloc, TExpr::Function(callee.take(), given.take()))
+        Typed::new(alloc, TExpr::Function(callee.take(), given.take()))
     }
 }

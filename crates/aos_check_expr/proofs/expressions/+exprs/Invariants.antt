@@ -39,7 +39,7 @@ invariant-indices-loop-part l = record {
 
 abbrev pub invariant-handed-loop-argument : goal.invariant-handed-loop-argument
 invariant-handed-loop-argument l = record {
-  count : length l.all.given.items ≡ l.argument-index;
+  count : length l.all.given ≡ l.argument-index;
   noted : first_after l.found (judge.handed_from l.env (seen_handing l.all) (drop l.argument-index l.parameters) (map (judge.expr l.env) (drop l.argument-index l.arguments)) (drop l.argument-index l.arguments)).breaches ≡ first_after l.initial.found (judge.handed_from l.env (judge.nothing_handed true) l.parameters (map (judge.expr l.env) l.arguments) l.arguments).breaches;
   answer : (judge.handed_from l.env (seen_handing l.all) (drop l.argument-index l.parameters) (map (judge.expr l.env) (drop l.argument-index l.arguments)) (drop l.argument-index l.arguments)).answer ≡ (judge.handed_from l.env (judge.nothing_handed true) l.parameters (map (judge.expr l.env) l.arguments) l.arguments).answer;
 }
