@@ -1,16 +1,12 @@
--- Arguments one after another, and those of a function's call.
-use Rattle.std.proofs.Common.{◌≡◌, ℕ, zero, suc, ◌+◌, ◌≤◌, ◌<◌, List, [], ◌∷◌, ◌++◌, length, map, drop, drop-cons, get_or, add-one, Option, Some, None, slice_get, is_some, Vec, refl, sym, ap, ◌∙◌}
+-- Arguments one after another.
+use Rattle.std.proofs.Common.{◌≡◌, ℕ, zero, suc, ◌+◌, ◌≤◌, ◌<◌, List, [], ◌∷◌, ◌++◌, length, map, drop, drop-cons, get_or, add-one, Option, Some, None, slice_get, is_some, refl, sym, ap, ◌∙◌}
 use Rattle.std.proofs.lemmas.Option.{none-some, same_Some}
 use Rattle.std.proofs.lemmas.List.{drop_all}
-use Rattle.std.specs.declared.alloc.Global.{Global}
 use Rattle.aos_tree.specs.declared.expr.Expr.{Expr, out-Expr}
 use Rattle.aos_typed.specs.declared.tree.TArgument.{TArgument}
 use Rattle.aos_typed.specs.declared.tree.TArgument.TheVariants as argument
-use Rattle.aos_typed.specs.declared.tree.TExpr.TheVariants as expr
-use Rattle.aos_typed.specs.declared.tree.TCallee.{TCallee}
-use Rattle.aos_typed.specs.Program.{Arguments, Function}
-use Rattle.aos_typed.specs.Seen.{seen_callee, seen_expr, seen_argument, seen_list}
-use Rattle.aos_typed.proofs.Seen.{function_seen}
+use Rattle.aos_typed.specs.Program.{Arguments}
+use Rattle.aos_typed.specs.Seen.{seen_argument, seen_list}
 use Rattle.aos_types.specs.declared.signature.Parameter.{Parameter}
 use Rattle.aos_symbols.specs.declared.env.Env.{Env}
 use Rattle.aos_symbols.specs.declared.breach.Breach.{Breach}
@@ -41,9 +37,6 @@ as_given (argument.Opening r) more = refl
 pub as_listed : (as' : List TArgument) → seen_list as' ≡ listed (map seen_given as')
 as_listed [] = refl
 as_listed (a ∷ as') = as_given a (seen_list as') ∙ ap (λ more. given_as (seen_given a) more) (as_listed as')
-
-pub function_is : (c : TCallee) (as' : Vec TArgument Global) → seen_expr (expr.Function c as') ≡ Function (seen_callee c) (listed (map seen_given as'.items))
-function_is c as' = function_seen c as' ∙ ap (λ more. Function (seen_callee c) more) (as_listed as'.items)
 
 module _ (e : Env) (f : Expr → Judged Answer) where
   -- behind the first i arguments

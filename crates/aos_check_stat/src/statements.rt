@@ -395,7 +395,9 @@ fn for_of(
     let to = fitting(alloc, found, env, of, WRONG_FOR, name.pos, to)?;
     let step = step_of(alloc, found, env, name.pos, of, by)?;
     let body = stats_in(alloc, found, env, in_loop, body.stats.as_slice())?;
-    Ok(Some(TStat::For(at, width_of(of), place, from.take(), to.take(), step, body)))
+    let first = from.take();
+    let last = to.take();
+    Ok(Some(TStat::For(at, width_of(of), place, first, last, step, body)))
 }
 
 /// WITH, whose `:` stands at the second place.

@@ -5,7 +5,7 @@ use Rattle.std.proofs.lemmas.Int.{to_z-of_z}
 use Rattle.std.specs.Int.{w64, cast_unsigned as of_z, cast_signed as to_z}
 use Rattle.std.specs.Int.RustNames.{FitsSigned}
 use Rattle.aos_typed.specs.Program.{While, Repeat, Loop, For, Block}
-use Rattle.aos_typed.specs.Seen.{seen_stat, cases_of}
+use Rattle.aos_typed.specs.Seen.{seen_expr, seen_stat, cases_of}
 use Rattle.aos_typed.proofs.Seen.{while_seen, repeat_seen, loop_seen, for_seen, block_seen}
 use Rattle.aos_symbols.specs.Breaches.{first_after}
 use Rattle.aos_symbols.proofs.Keeping.{after_more}
@@ -90,12 +90,12 @@ for_of-returns-clause-answer t c =
     let body = c.in_ok-body.ensures.answer ∙ ap (λ l. (parts.listed_in e c.args.in_loop l).answer) c.as_slice.ensures in
     let k = c.in_ok-place.ensures.answer in
     let of = ap (λ z. z.1) k in
-    let from = c.in_ok-from.ensures.answer ∙ ap (λ z. (judge.fitting e z 31 c.args.assigned c.args.from.now).answer) of in
-    let to = c.in_ok-to.ensures.answer ∙ ap (λ z. (judge.fitting e z 48 n.pos c.args.to.now).answer) of in
+    let from = ap seen_expr c.take-first.ensures ∙ c.in_ok-from.ensures.answer ∙ ap (λ z. (judge.fitting e z 31 c.args.assigned c.args.from.now).answer) of in
+    let to = ap seen_expr c.take-last.ensures ∙ c.in_ok-to.ensures.answer ∙ ap (λ z. (judge.fitting e z 48 n.pos c.args.to.now).answer) of in
     let step = c.in_ok-step.ensures.answer ∙ ap (λ z. (judge.step_of e n.pos z c.args.by.now).answer) of in
     let width = c.width_of.ensures ∙ ap width_of of in
     let fits : FitsSigned w64 c.in_ok-step.step = search rules in
-    ap (λ s. Some s) (for_seen c.args.at c.width_of.result c.in_ok-place.place c.in_ok-from.from c.in_ok-to.to (to_z w64 (of_z w64 c.in_ok-step.step)) b
+    ap (λ s. Some s) (for_seen c.args.at c.width_of.result c.in_ok-place.place c.take-first.result c.take-last.result (to_z w64 (of_z w64 c.in_ok-step.step)) b
     ∙ (λ i. For c.args.at (width i) (k i).0 (from i) (to i) ((to_z-of_z w64 c.in_ok-step.step fits ∙ step) i) ((stats_seen b.items ∙ ap listed body) i)))
 
 pub loop_of-returns-clause-answer : goal.loop_of-returns-clause-answer
@@ -138,8 +138,8 @@ pub repeat_of-returns-clause-answer : goal.repeat_of-returns-clause-answer
 repeat_of-returns-clause-answer t c =
     let b = c.in_ok-body.body in
     let body = c.in_ok-body.ensures.answer ∙ ap (λ l. (parts.listed_in c.args.env.now c.args.in_loop l).answer) c.as_slice.ensures in
-    let test = c.in_ok-test.ensures.answer ∙ ap (λ n. (condition n c.args.test.now).answer) c.in_ok-body.ensures.env in
-    ap (λ s. Some s) (repeat_seen c.args.at b c.in_ok-test.test ∙ (λ i. Repeat c.args.at ((stats_seen b.items ∙ ap listed body) i) (test i)))
+    let test = ap seen_expr c.take.ensures ∙ c.in_ok-test.ensures.answer ∙ ap (λ n. (condition n c.args.test.now).answer) c.in_ok-body.ensures.env in
+    ap (λ s. Some s) (repeat_seen c.args.at b c.take.result ∙ (λ i. Repeat c.args.at ((stats_seen b.items ∙ ap listed body) i) (test i)))
 
 pub stat_of-returns-in_ok-last-in-If-clause-noted : goal.stat_of-returns-in_ok-last-in-If-clause-noted
 stat_of-returns-in_ok-last-in-If-clause-noted t c =
@@ -174,8 +174,8 @@ stat_of-returns-in_ok-last-in-Case-clause-answer t c =
     let x = c.in-Case in
     let v = c.in_ok-value-in-Case in
     let of = ap (λ z. z.known.of) v.ensures.answer in
-    let typed = ap (λ z. z.typed) v.ensures.answer in
-    case_answer e c.args.in_loop c.args.stat.now x.at x.value x.arms x.last x.is v.value.known.of of v.value.typed c.in_ok-all-in-Case.all c.in_ok-last-in-Case.last typed
+    let typed = ap seen_expr c.take.ensures ∙ ap (λ z. z.typed) v.ensures.answer in
+    case_answer e c.args.in_loop c.args.stat.now x.at x.value x.arms x.last x.is v.value.known.of of c.take.result c.in_ok-all-in-Case.all c.in_ok-last-in-Case.last typed
     (λ last. c.in_ok-all-in-Case.ensures.answer last ∙ ap (λ z. (parts.cases_of e c.args.in_loop v.value.known.of [] z last).answer) c.as_slice-in-Case.ensures)
     (c.in_ok-last-in-Case.ensures.answer ∙ ap (λ n. (parts.else_of_case n c.args.in_loop x.last).answer) c.in_ok-all-in-Case.ensures.env)
 
@@ -199,7 +199,8 @@ pub while_of-returns-clause-answer : goal.while_of-returns-clause-answer
 while_of-returns-clause-answer t c =
     let b = c.in_ok-body.body in
     let body = c.in_ok-body.ensures.answer ∙ ap (λ l. (parts.listed_in c.args.env.now c.args.in_loop l).answer) c.as_slice.ensures in
-    ap (λ s. Some s) (while_seen c.args.at c.in_ok-test.test b ∙ (λ i. While c.args.at (c.in_ok-test.ensures.answer i) ((stats_seen b.items ∙ ap listed body) i)))
+    let test = ap seen_expr c.take.ensures ∙ c.in_ok-test.ensures.answer in
+    ap (λ s. Some s) (while_seen c.args.at c.take.result b ∙ (λ i. While c.args.at (test i) ((stats_seen b.items ∙ ap listed body) i)))
 
 pub with_of-returns-clause-answer : goal.with_of-returns-clause-answer
 with_of-returns-clause-answer t c =
