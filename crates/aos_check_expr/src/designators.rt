@@ -440,15 +440,21 @@ pub fn place_of(held: Held) -> TPlace
     }
 }
 
-/// The place that an expression reads; some place where it reads none.
-pub fn place_in(part: Typed) -> TPlace
+fn place_read(part: TExpr) -> TPlace
     ensures { seen_place result ≡ judge.place_in (seen_expr part) }
 {
-    let mut part = part.take();
+    let mut part = part;
     match &mut part {
         TExpr::Read(_, place) => mem::replace(place, TPlace::ModuleVar(0, 0)),
         _ => TPlace::ModuleVar(0, 0),
     }
+}
+
+/// The place that an expression reads; some place where it reads none.
+pub fn place_in(part: Typed) -> TPlace
+    ensures { seen_place result ≡ judge.place_in (seen_expr part) }
+{
+    place_read(part.take())
 }
 
 /// The same, to be made a part of something.

@@ -230,10 +230,10 @@ fn raised(
 }
 
 /// What is called, as a value.
-fn value_called(alloc: Global, callee: MadeCallee) -> Result<Option<Typed>, AllocError>
+fn value_called(alloc: Global, callee: TCallee) -> Result<Option<Typed>, AllocError>
     ensures { IfOk result (λ r. option_map seen_expr r ≡ judge.value_called (seen_callee callee)) }
 {
-    match callee.take() {
+    match callee {
         TCallee::Plain(home, number) => Ok(Some(Typed::procedure(home, number))),
         TCallee::Dispatched(object, of, slot) => {
             let value = Typed::new(alloc, TExpr::MethodOf(object, of, slot))?;
@@ -257,7 +257,7 @@ fn unbound(
         (judge.unbound env.now (seen_bound bound)).answer) }
 {
     let first = bound.first;
-    match (bound.heading, value_called(alloc, bound.callee)?) {
+    match (bound.heading, value_called(alloc, bound.callee.take())?) {
         (Heading::Declared(home, number), Some(value)) => {
             Ok(procedure_spot(found, env, home, number, value, first, first))
         },

@@ -202,14 +202,25 @@ fn holds_passed(held: &Held) -> bool
     }
 }
 
+fn made_of_passed(part: &TExpr) -> bool
+    ensures { result ≡ judge.is_passed (judge.place_in (seen_expr part.now)) }
+{
+    match part {
+        TExpr::Read(_, place) => is_passed(place),
+        _ => false,
+    }
+}
+
 /// The same of what an expression reads.
 pub fn reads_passed(part: &Typed) -> bool
     ensures { result ≡ judge.is_passed (judge.place_in (seen_expr part.now)) }
 {
     match part.look() {
+        Look::Lit(_) => false,
+        Look::Itself => false,
+        Look::Procedure(_, _) => false,
         Look::Read(_, place) => is_passed(place),
-        Look::Made(TExpr::Read(_, place)) => is_passed(place),
-        _ => false,
+        Look::Made(part) => made_of_passed(part),
     }
 }
 

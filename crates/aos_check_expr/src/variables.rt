@@ -147,14 +147,20 @@ pub fn place_of_variable(
     }
 }
 
+fn rows_at(alloc: Global, place: TPlace) -> Result<TRows, AllocError>
+    ensures { IfOk result (λ r. seen_rows r ≡ judge.rows_of (seen_place place)) }
+{
+    let mut place = place;
+    if let TPlace::Of(rows) = &mut place {
+        return Ok(mem::replace(&mut **rows, TRows::Opened(0, 0)));
+    }
+    Ok(TRows::Known(Box::new(alloc, place)?, Vec::new(alloc)))
+}
+
 /// The rows of an open array; what is none has no open dimensions.
 pub fn rows_of(alloc: Global, place: MadePlace) -> Result<MadeRows, AllocError>
     ensures { IfOk result (λ r. seen_rows r ≡ judge.rows_of (seen_place place)) }
 {
-    let mut place = place.take();
-    if let TPlace::Of(rows) = &mut place {
-        return MadeRows::new(alloc, mem::replace(&mut **rows, TRows::Opened(0, 0)));
-    }
-    let place = MadePlace::new(alloc, place)?;
-    MadeRows::known(alloc, place, Vec::new(alloc))
+    let rows = rows_at(alloc, place.take())?;
+    MadeRows::new(alloc, rows)
 }
