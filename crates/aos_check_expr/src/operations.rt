@@ -129,7 +129,8 @@ fn number_given(given: Given) -> Option<Literal>
 {
     match given {
         Given::Number(n) => Some(Literal::Int(n)),
-        _ => None,
+        Given::Trap(_) => None,
+        Given::Undefined => None,
     }
 }
 
@@ -203,7 +204,11 @@ fn widened_one(operator: Unary) -> Unary
     match operator {
         Unary::Neg(_) => Unary::Neg(Width::W64),
         Unary::Abs(_) => Unary::Abs(Width::W64),
-        _ => operator,
+        Unary::Range(_, _) => operator,
+        Unary::Not => operator,
+        Unary::Odd => operator,
+        Unary::Cap => operator,
+        Unary::Compl => operator,
     }
 }
 
@@ -218,7 +223,13 @@ fn widened(operator: Binary) -> Binary
         Binary::Div(_) => Binary::Div(Width::W64),
         Binary::Mod(_) => Binary::Mod(Width::W64),
         Binary::Ash(_) => Binary::Ash(Width::W64),
-        _ => operator,
+        Binary::Cmp(_) => operator,
+        Binary::In => operator,
+        Binary::Union => operator,
+        Binary::Minus => operator,
+        Binary::Meet => operator,
+        Binary::Xor => operator,
+        Binary::SetSpan => operator,
     }
 }
 
