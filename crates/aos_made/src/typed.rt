@@ -25,6 +25,7 @@ enum Kept {
 }
 
 /// What an expression is, to be read.
+#[derive(Clone, Copy)]
 pub enum Look<'a> {
     Lit(Literal),
     Itself,
