@@ -1,5 +1,9 @@
 // The typed program.
 
+ghost use Rattle.std.specs.Prelude.{◌≤◌};
+ghost use Rattle.aos_typed.specs.declared.tree.TPlace.{size-TPlace};
+ghost use Rattle.aos_typed.specs.declared.tree.TExpr.{size-TExpr};
+
 use aos_base::{Binary, Pos, Relation, Unary, Width};
 use aos_types::Types;
 
@@ -105,6 +109,29 @@ impl Drop for TPlace {
     }
 }
 
+impl TPlace {
+    // What is left of a designator without its last part, as an expression: one that reads it, or that asks for its length.
+    #[cycle(drops)]
+    fn rest(self) -> TExpr
+        ensures { size-TExpr result ≤ size-TPlace self }
+    {
+        match self {
+            TPlace::ModuleVar(_, _) => TExpr::SelfRef,
+            TPlace::Local(_) => TExpr::SelfRef,
+            TPlace::Passed(_) => TExpr::SelfRef,
+            TPlace::Of(rows) => TExpr::Len(Box::into_inner(rows), 0),
+            TPlace::Deref(object, _) => Box::into_inner(object),
+            TPlace::Typed(whole, _) => TExpr::Read(TType::Any, Box::into_inner(whole)),
+            TPlace::Guarded(whole, _) => TExpr::Read(TType::Any, Box::into_inner(whole)),
+            TPlace::Field(whole, _, _) => TExpr::Read(TType::Any, Box::into_inner(whole)),
+            TPlace::Index(whole, _, _, index) => {
+                drop(index);
+                TExpr::Read(TType::Any, Box::into_inner(whole))
+            }
+        }
+    }
+}
+
 /// What is called.
 #[cycle(parts)]
 #[derive(Drop)]
@@ -165,7 +192,8 @@ pub enum TExpr {
     SameProcedure(Box<TExpr>, Box<TExpr>),
 }
 
-// A long sum has as many left operands, one in another: it is dropped by a loop, which takes no stack.
+// A long sum has as many left operands, and a long designator as many parts, one in another: they are dropped by a loop, which
+// takes no stack. What is left of a designator is held as an expression that reads it, of an array as one that asks for its length.
 impl Drop for TExpr {
     #[cycle(drops)]
     fn drop(mut self) {
@@ -173,16 +201,43 @@ impl Drop for TExpr {
             match self {
                 TExpr::Lit(_) => return,
                 TExpr::SelfRef => return,
-                TExpr::Read(_, _) => return,
+                TExpr::Read(_, place) => self = place.rest(),
+                TExpr::Len(rows, _) => match rows {
+                    TRows::Opened(_, _) => return,
+                    TRows::Known(place, lengths) => {
+                        drop(lengths);
+                        self = TExpr::Read(TType::Any, Box::into_inner(place));
+                    }
+                    TRows::Row(whole, _, index) => {
+                        drop(index);
+                        self = TExpr::Len(Box::into_inner(whole), 0);
+                    }
+                    TRows::Spread(object, _) => self = Box::into_inner(object),
+                    TRows::Longer(whole, lengths) => {
+                        drop(lengths);
+                        self = TExpr::Len(Box::into_inner(whole), 0);
+                    }
+                },
                 TExpr::CompareTexts(_, _, _) => return,
-                TExpr::Len(_, _) => return,
                 TExpr::LenBehind(_, _) => return,
-                TExpr::Function(_, _) => return,
+                TExpr::Function(callee, arguments) => {
+                    drop(arguments);
+                    match callee {
+                        TCallee::Plain(_, _) => return,
+                        TCallee::Upper(_, _) => return,
+                        TCallee::Dispatched(object, _, _) => self = Box::into_inner(object),
+                        TCallee::Through(value, _) => self = Box::into_inner(value),
+                    }
+                }
                 TExpr::IsRecord(_, _) => return,
+                TExpr::ProcedureOf(_, _) => return,
                 TExpr::Is(operand, _) => self = Box::into_inner(operand),
                 TExpr::Guard(operand, _) => self = Box::into_inner(operand),
-                TExpr::ProcedureOf(_, _) => return,
                 TExpr::MethodOf(operand, _, _) => self = Box::into_inner(operand),
+                TExpr::Unary(_, operand) => self = Box::into_inner(operand),
+                TExpr::Element(operand) => self = Box::into_inner(operand),
+                TExpr::Ord(operand) => self = Box::into_inner(operand),
+                TExpr::Chr(operand) => self = Box::into_inner(operand),
                 TExpr::SameProcedure(left, right) => {
                     drop(right);
                     self = Box::into_inner(left);
@@ -191,10 +246,6 @@ impl Drop for TExpr {
                     drop(right);
                     self = Box::into_inner(left);
                 }
-                TExpr::Unary(_, operand) => self = Box::into_inner(operand),
-                TExpr::Element(operand) => self = Box::into_inner(operand),
-                TExpr::Ord(operand) => self = Box::into_inner(operand),
-                TExpr::Chr(operand) => self = Box::into_inner(operand),
                 TExpr::Binary(_, left, right) => {
                     drop(right);
                     self = Box::into_inner(left);
