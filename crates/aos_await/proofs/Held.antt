@@ -22,6 +22,14 @@ use Rattle.aos_await.proofs.Passes.{as_tested, as_labelled, tested_counted, labe
 pub refilled : {X : Type 0} (v : Vec X Global) (now ws : List X) → now ≡ v.items → length ws ≡ length now → (with_items v ws).items ≡ ws
 refilled v now ws same many = with_items_is v ws (many ∙ ap length same ∙ sym v.ok.0)
 
+-- statements of a body that are numbered where they stand
+pub body_numbered : (n : ℕ) (v : Vec TStat Global) (now ws : List TStat) → now ≡ v.items → length ws ≡ length now → seen_stats ws ≡ stats_renumbered n (seen_stats now) →
+    seen_stats (with_items v ws).items ≡ stats_renumbered n (seen_stats v.items)
+body_numbered n v now ws same many done = ap seen_stats (refilled v now ws same many) ∙ done ∙ ap (λ ss. stats_renumbered n (seen_stats ss)) same
+
+pub body_counted : (n m : ℕ) (v : Vec TStat Global) (now : List TStat) → now ≡ v.items → m ≡ n + length (awaited_in (seen_stats now)) → m ≡ n + length (awaited_in (seen_stats v.items))
+body_counted n m v now same done = done ∙ ap (λ ss. n + length (awaited_in (seen_stats ss))) same
+
 -- one sequence of statements
 module _ (form : Vec TStat Global → TStat) (seen : Stats → Stat) (shown : (b : Vec TStat Global) → seen_stat (form b) ≡ seen (seen_stats b.items)) where
   held_numbered : ((n : ℕ) (ss : Stats) → renumbered n (seen ss) ≡ seen (stats_renumbered n ss)) → (n : ℕ) (s : TStat) (old new : Vec TStat Global) → s ≡ form old →
@@ -86,6 +94,11 @@ pub with_record_counted : (n m : ℕ) (s : TStat) (at : Pos) (p : TPlace) (old :
 with_record_counted n m s at p old is done = held_counted (λ b. view.WithRecord at p b) (λ l. WithRecord at (seen_place p) l) (with_record_seen at p) (λ ss. refl) n m s old is done
 
 -- IF
+pub arms_done : (n k : ℕ) (v : Vec TArm Global) (now ws : List TArm) → now ≡ v.items → length ws ≡ length now →
+    ((l : Stats) → arms_of ws (stats_renumbered k l) ≡ arms_renumbered n (arms_of now l)) → (l : Stats) → arms_of (with_items v ws).items (stats_renumbered k l) ≡ arms_renumbered n (arms_of v.items l)
+arms_done n k v now ws same many done l =
+    ap (λ as'. arms_of as' (stats_renumbered k l)) (refilled v now ws same many) ∙ done l ∙ ap (λ as'. arms_renumbered n (arms_of as' l)) same
+
 module _ (n k m : ℕ) (s : TStat) (at : Pos) (arms : Vec TArm Global) (last : Vec TStat Global) (is : s ≡ view.If at arms last) where
   pub if_numbered : (arms' : Vec TArm Global) (last' : Vec TStat Global) → ((l : Stats) → arms_of arms'.items (stats_renumbered k l) ≡ arms_renumbered n (arms_of arms.items l)) →
       seen_stats last'.items ≡ stats_renumbered k (seen_stats last.items) → seen_stat (view.If at arms' last') ≡ renumbered n (seen_stat s)
@@ -104,6 +117,11 @@ module _ (n k m : ℕ) (s : TStat) (at : Pos) (arms : Vec TArm Global) (last : V
       omega (arith, shown, both, first, behind)
 
 -- CASE
+pub cases_done : (n k : ℕ) (v : Vec TCase Global) (now ws : List TCase) → now ≡ v.items → length ws ≡ length now →
+    ((l : Cases) → cases_of ws (cases_renumbered k l) ≡ cases_renumbered n (cases_of now l)) → (l : Cases) → cases_of (with_items v ws).items (cases_renumbered k l) ≡ cases_renumbered n (cases_of v.items l)
+cases_done n k v now ws same many done l =
+    ap (λ as'. cases_of as' (cases_renumbered k l)) (refilled v now ws same many) ∙ done l ∙ ap (λ as'. cases_renumbered n (cases_of as' l)) same
+
 module _ (n k m : ℕ) (s : TStat) (at : Pos) (e : TExpr) (cases : Vec TCase Global) (otherwise : TElse) (is : s ≡ view.Case at e cases otherwise) where
   pub case_numbered : (cases' : Vec TCase Global) (otherwise' : TElse) → ((l : Cases) → cases_of cases'.items (cases_renumbered k l) ≡ cases_renumbered n (cases_of cases.items l)) →
       seen_else otherwise' ≡ cases_renumbered k (seen_else otherwise) → seen_stat (view.Case at e cases' otherwise') ≡ renumbered n (seen_stat s)

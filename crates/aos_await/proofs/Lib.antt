@@ -1,3 +1,4 @@
 pub mod Each
 pub mod Passes
 pub mod Held
+pub mod Written

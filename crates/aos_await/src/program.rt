@@ -5,7 +5,7 @@ ghost use Rattle.aos_typed.specs.Conditions.{awaits, awaits_in_procedures, await
 ghost use Rattle.aos_typed.specs.Seen.{seen_procedure, seen_method, seen_module, seen_object, seen_program};
 ghost use Rattle.aos_await.specs.Counts.{modules_with_bodies, objects_with_bodies, modules_with_procedures, objects_with_methods};
 
-use crate::statements::number_stats;
+use crate::statements::number_body;
 use aos_typed::{Program, TMethod, TModule, TObject, TProcedure};
 use std::alloc::AllocError;
 
@@ -14,7 +14,7 @@ fn number_procedure(procedure: &mut TProcedure, next: &mut u32) -> Result<(), Al
     ensures numbers { OnOk result (seen_procedure procedure.new ≡ procedure_renumbered next.old (seen_procedure procedure.old)) }
     ensures next { OnOk result (next.new ≡ next.old + awaits (seen_procedure procedure.old).body) }
 {
-    number_stats(procedure.body.as_mut_slice(), next)
+    number_body(&mut procedure.body, next)
 }
 
 /// Those of procedures, one behind the other.
@@ -51,7 +51,7 @@ fn number_modules(modules: &mut [TModule], next: &mut u32) -> Result<(), AllocEr
         next.old + sum_by (λ x. awaits x.body) (map seen_module modules.old)) }
 {
     for place in 0..modules.len() {
-        number_stats(modules[place].body.as_mut_slice(), next)?;
+        number_body(&mut modules[place].body, next)?;
     }
     Ok(())
 }

@@ -1,137 +1,233 @@
 -- Statements that hold others, and loops over them, are numbered as the definitions say.
-use Rattle.std.proofs.Common.{rules, ◌≡◌, ◌+◌, ◌<◌, ◌≤◌, length, map, slice_index_or, slice_set, sym, ap, ◌∙◌, arith}
-use Rattle.std.proofs.lemmas.Int.{to_z-of_z}
-use Rattle.std.specs.Int.{w64}
-use Rattle.std.specs.Int.RustNames.{FitsSigned}
-use Rattle.std.specs.Vec.{with_items}
+use Rattle.std.proofs.Common.{◌≡◌, ◌+◌, ◌<◌, ◌≤◌, length, map, slice_index_or, slice_set, Vec, Global, sym, ap, ◌∙◌, arith}
+use Rattle.std.proofs.lemmas.Result.{on_ok_weaker}
+use borrow.Enum.Known.{ValuesAt}
+use borrow.Enum.Total.{values_d, values_o}
 use Rattle.aos_typed.specs.declared.tree.TElse.TheViews as view
-use Rattle.aos_typed.specs.Seen.{seen_expr, seen_stat, seen_stats}
-use Rattle.aos_typed.specs.declared.tree.TStat.{size-TStat}
+use Rattle.aos_typed.specs.declared.tree.TStat.{TStat}
+use Rattle.aos_typed.specs.contracts.tree.TStat.{enum}
+use Rattle.aos_typed.specs.contracts.tree.TElse.{enum as else_enum}
+use Rattle.std.specs.Vec.{with_items}
+use Rattle.aos_typed.specs.Seen.{seen_expr, seen_stat, seen_stats, seen_else, arms_of, cases_of}
 use Rattle.aos_typed.specs.declared.tree.TArm.{out-TArm, roll-TArm}
 use Rattle.aos_typed.specs.declared.tree.TCase.{out-TCase, roll-TCase}
 use Rattle.aos_typed.specs.Conditions.{awaited_in, renumbered, stats_renumbered, arms_renumbered, cases_renumbered}
-use Rattle.aos_await.specs.Counts.{each_from, seen_arm, seen_case, awaits_behind, renumbered_behind}
+use Rattle.aos_await.specs.Counts.{awaits_of_arms, awaits_of_cases, each_from, seen_arm, seen_case, awaits_behind, renumbered_behind}
 use Rattle.aos_await.proofs.Each.{left, one_more, one_less, all_done, none_left, stay_behind}
 use Rattle.aos_await.proofs.Passes.{count, sequence, tested, labelled, as_sequence, as_tested, as_labelled, sequence_numbered, sequence_counted, tested_numbered, labelled_numbered}
-use Rattle.aos_await.proofs.Held.{refilled, while_numbered, repeat_numbered, loop_numbered, for_numbered, block_numbered, with_numbered, with_record_numbered, while_counted, repeat_counted, loop_counted, for_counted, block_counted, with_counted, with_record_counted, if_numbered, if_counted, case_numbered, case_counted, else_numbered, else_counted}
+use Rattle.aos_await.proofs.Held.{body_numbered, body_counted, arms_done, cases_done, while_numbered, repeat_numbered, loop_numbered, for_numbered, block_numbered, with_numbered, with_record_numbered, while_counted, repeat_counted, loop_counted, for_counted, block_counted, with_counted, with_record_counted, if_numbered, if_counted, case_numbered, case_counted, else_numbered, else_counted}
+use Rattle.aos_await.proofs.Written.{made_of, found, written}
 use Rattle.aos_await.proofs.statements.+numbers.Goals as goal
 
-pub numbered_stat-returns-in_ok-numbered_body-in-While-clause-numbers : goal.numbered_stat-returns-in_ok-numbered_body-in-While-clause-numbers
-numbered_stat-returns-in_ok-numbered_body-in-While-clause-numbers t c =
+pub number_stat-returns-in-While-clause-numbers : goal.number_stat-returns-in-While-clause-numbers
+number_stat-returns-in-While-clause-numbers t c =
     let x = c.in-While in
-    let y = c.in_ok-numbered_body-in-While in
-    while_numbered c.args.next.now c.args.stat x.at x.test x.body y.field-0 x.is y.ensures.numbers
+    let v : ValuesAt enum.parts 5 = (x.field-0, (x.field-1, (x.body, tt))) in
+    let p = values_d enum 5 v c.args.stat.now in
+    let call = c.number_body-in-While in
+    on_ok_weaker call.result
+    (λ e. ap seen_stat (written (λ (b : Vec TStat Global) (q : ValuesAt enum.parts 5). view.While q.0 q.1.0 b) (values_o enum 5 c.args.stat.now) p c.args.stat.now call.new.body (found enum 5 v x.is)) ∙ while_numbered c.args.next.now c.args.stat.now p.0 p.1.0 p.1.1.0 call.new.body (made_of enum 5 v x.is) e)
+    call.ensures.numbers
 
-pub numbered_stat-returns-in_ok-numbered_body-in-While-clause-next : goal.numbered_stat-returns-in_ok-numbered_body-in-While-clause-next
-numbered_stat-returns-in_ok-numbered_body-in-While-clause-next t c =
+pub number_stat-returns-in-While-clause-next : goal.number_stat-returns-in-While-clause-next
+number_stat-returns-in-While-clause-next t c =
     let x = c.in-While in
-    while_counted c.args.next.now c.numbered_body-in-While.new.next c.args.stat x.at x.test x.body x.is c.in_ok-numbered_body-in-While.ensures.next
+    let v : ValuesAt enum.parts 5 = (x.field-0, (x.field-1, (x.body, tt))) in
+    let p = values_d enum 5 v c.args.stat.now in
+    let call = c.number_body-in-While in
+    on_ok_weaker call.result (λ e. while_counted c.args.next.now call.new.next c.args.stat.now p.0 p.1.0 p.1.1.0 (made_of enum 5 v x.is) e) call.ensures.next
 
-pub numbered_stat-returns-in_ok-numbered_body-in-Repeat-clause-numbers : goal.numbered_stat-returns-in_ok-numbered_body-in-Repeat-clause-numbers
-numbered_stat-returns-in_ok-numbered_body-in-Repeat-clause-numbers t c =
+pub number_stat-returns-in-Repeat-clause-numbers : goal.number_stat-returns-in-Repeat-clause-numbers
+number_stat-returns-in-Repeat-clause-numbers t c =
     let x = c.in-Repeat in
-    let y = c.in_ok-numbered_body-in-Repeat in
-    repeat_numbered c.args.next.now c.args.stat x.at x.test x.body y.field-0 x.is y.ensures.numbers
+    let v : ValuesAt enum.parts 6 = (x.field-0, (x.body, (x.field-2, tt))) in
+    let p = values_d enum 6 v c.args.stat.now in
+    let call = c.number_body-in-Repeat in
+    on_ok_weaker call.result
+    (λ e. ap seen_stat (written (λ (b : Vec TStat Global) (q : ValuesAt enum.parts 6). view.Repeat q.0 b q.1.1.0) (values_o enum 6 c.args.stat.now) p c.args.stat.now call.new.body (found enum 6 v x.is)) ∙ repeat_numbered c.args.next.now c.args.stat.now p.0 p.1.1.0 p.1.0 call.new.body (made_of enum 6 v x.is) e)
+    call.ensures.numbers
 
-pub numbered_stat-returns-in_ok-numbered_body-in-Repeat-clause-next : goal.numbered_stat-returns-in_ok-numbered_body-in-Repeat-clause-next
-numbered_stat-returns-in_ok-numbered_body-in-Repeat-clause-next t c =
+pub number_stat-returns-in-Repeat-clause-next : goal.number_stat-returns-in-Repeat-clause-next
+number_stat-returns-in-Repeat-clause-next t c =
     let x = c.in-Repeat in
-    repeat_counted c.args.next.now c.numbered_body-in-Repeat.new.next c.args.stat x.at x.test x.body x.is c.in_ok-numbered_body-in-Repeat.ensures.next
+    let v : ValuesAt enum.parts 6 = (x.field-0, (x.body, (x.field-2, tt))) in
+    let p = values_d enum 6 v c.args.stat.now in
+    let call = c.number_body-in-Repeat in
+    on_ok_weaker call.result (λ e. repeat_counted c.args.next.now call.new.next c.args.stat.now p.0 p.1.1.0 p.1.0 (made_of enum 6 v x.is) e) call.ensures.next
 
-pub numbered_stat-returns-in_ok-numbered_body-in-Loop-clause-numbers : goal.numbered_stat-returns-in_ok-numbered_body-in-Loop-clause-numbers
-numbered_stat-returns-in_ok-numbered_body-in-Loop-clause-numbers t c =
+pub number_stat-returns-in-Loop-clause-numbers : goal.number_stat-returns-in-Loop-clause-numbers
+number_stat-returns-in-Loop-clause-numbers t c =
     let x = c.in-Loop in
-    let y = c.in_ok-numbered_body-in-Loop in
-    loop_numbered c.args.next.now c.args.stat x.at x.body y.field-0 x.is y.ensures.numbers
+    let v : ValuesAt enum.parts 7 = (x.field-0, (x.body, tt)) in
+    let p = values_d enum 7 v c.args.stat.now in
+    let call = c.number_body-in-Loop in
+    on_ok_weaker call.result
+    (λ e. ap seen_stat (written (λ (b : Vec TStat Global) (q : ValuesAt enum.parts 7). view.Loop q.0 b) (values_o enum 7 c.args.stat.now) p c.args.stat.now call.new.body (found enum 7 v x.is)) ∙ loop_numbered c.args.next.now c.args.stat.now p.0 p.1.0 call.new.body (made_of enum 7 v x.is) e)
+    call.ensures.numbers
 
-pub numbered_stat-returns-in_ok-numbered_body-in-Loop-clause-next : goal.numbered_stat-returns-in_ok-numbered_body-in-Loop-clause-next
-numbered_stat-returns-in_ok-numbered_body-in-Loop-clause-next t c =
+pub number_stat-returns-in-Loop-clause-next : goal.number_stat-returns-in-Loop-clause-next
+number_stat-returns-in-Loop-clause-next t c =
     let x = c.in-Loop in
-    loop_counted c.args.next.now c.numbered_body-in-Loop.new.next c.args.stat x.at x.body x.is c.in_ok-numbered_body-in-Loop.ensures.next
+    let v : ValuesAt enum.parts 7 = (x.field-0, (x.body, tt)) in
+    let p = values_d enum 7 v c.args.stat.now in
+    let call = c.number_body-in-Loop in
+    on_ok_weaker call.result (λ e. loop_counted c.args.next.now call.new.next c.args.stat.now p.0 p.1.0 (made_of enum 7 v x.is) e) call.ensures.next
 
-pub numbered_stat-returns-in_ok-body-in-For-clause-numbers : goal.numbered_stat-returns-in_ok-body-in-For-clause-numbers
-numbered_stat-returns-in_ok-body-in-For-clause-numbers t c =
+pub number_stat-returns-in-For-clause-numbers : goal.number_stat-returns-in-For-clause-numbers
+number_stat-returns-in-For-clause-numbers t c =
     let x = c.in-For in
-    let y = c.in_ok-body-in-For in
-    let fits : FitsSigned w64 x.step = search rules in
-    ap (λ z. seen_stat (view.For x.at x.width x.place x.from x.to z y.body)) (to_z-of_z w64 x.step fits)
-    ∙ for_numbered c.args.next.now c.args.stat x.at x.width x.place x.from x.to x.step x.body y.body x.is y.ensures.numbers
+    let v : ValuesAt enum.parts 9 = (x.field-0, (x.field-1, (x.field-2, (x.field-3, (x.field-4, (x.field-5, (x.body, tt))))))) in
+    let p = values_d enum 9 v c.args.stat.now in
+    let call = c.number_body-in-For in
+    on_ok_weaker call.result
+    (λ e. ap seen_stat (written (λ (b : Vec TStat Global) (q : ValuesAt enum.parts 9). view.For q.0 q.1.0 q.1.1.0 q.1.1.1.0 q.1.1.1.1.0 q.1.1.1.1.1.0 b) (values_o enum 9 c.args.stat.now) p c.args.stat.now call.new.body (found enum 9 v x.is)) ∙ for_numbered c.args.next.now c.args.stat.now p.0 p.1.0 p.1.1.0 p.1.1.1.0 p.1.1.1.1.0 p.1.1.1.1.1.0 p.1.1.1.1.1.1.0 call.new.body (made_of enum 9 v x.is) e)
+    call.ensures.numbers
 
-pub numbered_stat-returns-in_ok-body-in-For-clause-next : goal.numbered_stat-returns-in_ok-body-in-For-clause-next
-numbered_stat-returns-in_ok-body-in-For-clause-next t c =
+pub number_stat-returns-in-For-clause-next : goal.number_stat-returns-in-For-clause-next
+number_stat-returns-in-For-clause-next t c =
     let x = c.in-For in
-    for_counted c.args.next.now c.numbered_body-in-For.new.next c.args.stat x.at x.width x.place x.from x.to x.step x.body x.is c.in_ok-body-in-For.ensures.next
+    let v : ValuesAt enum.parts 9 = (x.field-0, (x.field-1, (x.field-2, (x.field-3, (x.field-4, (x.field-5, (x.body, tt))))))) in
+    let p = values_d enum 9 v c.args.stat.now in
+    let call = c.number_body-in-For in
+    on_ok_weaker call.result (λ e. for_counted c.args.next.now call.new.next c.args.stat.now p.0 p.1.0 p.1.1.0 p.1.1.1.0 p.1.1.1.1.0 p.1.1.1.1.1.0 p.1.1.1.1.1.1.0 (made_of enum 9 v x.is) e) call.ensures.next
 
-pub numbered_stat-returns-in_ok-numbered_body-in-Block-clause-numbers : goal.numbered_stat-returns-in_ok-numbered_body-in-Block-clause-numbers
-numbered_stat-returns-in_ok-numbered_body-in-Block-clause-numbers t c =
+pub number_stat-returns-in-Block-clause-numbers : goal.number_stat-returns-in-Block-clause-numbers
+number_stat-returns-in-Block-clause-numbers t c =
     let x = c.in-Block in
-    let y = c.in_ok-numbered_body-in-Block in
-    block_numbered c.args.next.now c.args.stat x.at x.exclusive x.body y.field-0 x.is y.ensures.numbers
+    let v : ValuesAt enum.parts 10 = (x.field-0, (x.field-1, (x.body, tt))) in
+    let p = values_d enum 10 v c.args.stat.now in
+    let call = c.number_body-in-Block in
+    on_ok_weaker call.result
+    (λ e. ap seen_stat (written (λ (b : Vec TStat Global) (q : ValuesAt enum.parts 10). view.Block q.0 q.1.0 b) (values_o enum 10 c.args.stat.now) p c.args.stat.now call.new.body (found enum 10 v x.is)) ∙ block_numbered c.args.next.now c.args.stat.now p.0 p.1.0 p.1.1.0 call.new.body (made_of enum 10 v x.is) e)
+    call.ensures.numbers
 
-pub numbered_stat-returns-in_ok-numbered_body-in-Block-clause-next : goal.numbered_stat-returns-in_ok-numbered_body-in-Block-clause-next
-numbered_stat-returns-in_ok-numbered_body-in-Block-clause-next t c =
+pub number_stat-returns-in-Block-clause-next : goal.number_stat-returns-in-Block-clause-next
+number_stat-returns-in-Block-clause-next t c =
     let x = c.in-Block in
-    block_counted c.args.next.now c.numbered_body-in-Block.new.next c.args.stat x.at x.exclusive x.body x.is c.in_ok-numbered_body-in-Block.ensures.next
+    let v : ValuesAt enum.parts 10 = (x.field-0, (x.field-1, (x.body, tt))) in
+    let p = values_d enum 10 v c.args.stat.now in
+    let call = c.number_body-in-Block in
+    on_ok_weaker call.result (λ e. block_counted c.args.next.now call.new.next c.args.stat.now p.0 p.1.0 p.1.1.0 (made_of enum 10 v x.is) e) call.ensures.next
 
-pub numbered_stat-returns-in_ok-numbered_body-in-With-clause-numbers : goal.numbered_stat-returns-in_ok-numbered_body-in-With-clause-numbers
-numbered_stat-returns-in_ok-numbered_body-in-With-clause-numbers t c =
+pub number_stat-returns-in-With-clause-numbers : goal.number_stat-returns-in-With-clause-numbers
+number_stat-returns-in-With-clause-numbers t c =
     let x = c.in-With in
-    let y = c.in_ok-numbered_body-in-With in
-    with_numbered c.args.next.now c.args.stat x.at x.object x.body y.field-0 x.is y.ensures.numbers
+    let v : ValuesAt enum.parts 19 = (x.field-0, (x.field-1, (x.body, tt))) in
+    let p = values_d enum 19 v c.args.stat.now in
+    let call = c.number_body-in-With in
+    on_ok_weaker call.result
+    (λ e. ap seen_stat (written (λ (b : Vec TStat Global) (q : ValuesAt enum.parts 19). view.With q.0 q.1.0 b) (values_o enum 19 c.args.stat.now) p c.args.stat.now call.new.body (found enum 19 v x.is)) ∙ with_numbered c.args.next.now c.args.stat.now p.0 p.1.0 p.1.1.0 call.new.body (made_of enum 19 v x.is) e)
+    call.ensures.numbers
 
-pub numbered_stat-returns-in_ok-numbered_body-in-With-clause-next : goal.numbered_stat-returns-in_ok-numbered_body-in-With-clause-next
-numbered_stat-returns-in_ok-numbered_body-in-With-clause-next t c =
+pub number_stat-returns-in-With-clause-next : goal.number_stat-returns-in-With-clause-next
+number_stat-returns-in-With-clause-next t c =
     let x = c.in-With in
-    with_counted c.args.next.now c.numbered_body-in-With.new.next c.args.stat x.at x.object x.body x.is c.in_ok-numbered_body-in-With.ensures.next
+    let v : ValuesAt enum.parts 19 = (x.field-0, (x.field-1, (x.body, tt))) in
+    let p = values_d enum 19 v c.args.stat.now in
+    let call = c.number_body-in-With in
+    on_ok_weaker call.result (λ e. with_counted c.args.next.now call.new.next c.args.stat.now p.0 p.1.0 p.1.1.0 (made_of enum 19 v x.is) e) call.ensures.next
 
-pub numbered_stat-returns-in_ok-numbered_body-in-WithRecord-clause-numbers : goal.numbered_stat-returns-in_ok-numbered_body-in-WithRecord-clause-numbers
-numbered_stat-returns-in_ok-numbered_body-in-WithRecord-clause-numbers t c =
+pub number_stat-returns-in-WithRecord-clause-numbers : goal.number_stat-returns-in-WithRecord-clause-numbers
+number_stat-returns-in-WithRecord-clause-numbers t c =
     let x = c.in-WithRecord in
-    let y = c.in_ok-numbered_body-in-WithRecord in
-    with_record_numbered c.args.next.now c.args.stat x.at x.whole x.body y.field-0 x.is y.ensures.numbers
+    let v : ValuesAt enum.parts 20 = (x.field-0, (x.field-1, (x.body, tt))) in
+    let p = values_d enum 20 v c.args.stat.now in
+    let call = c.number_body-in-WithRecord in
+    on_ok_weaker call.result
+    (λ e. ap seen_stat (written (λ (b : Vec TStat Global) (q : ValuesAt enum.parts 20). view.WithRecord q.0 q.1.0 b) (values_o enum 20 c.args.stat.now) p c.args.stat.now call.new.body (found enum 20 v x.is)) ∙ with_record_numbered c.args.next.now c.args.stat.now p.0 p.1.0 p.1.1.0 call.new.body (made_of enum 20 v x.is) e)
+    call.ensures.numbers
 
-pub numbered_stat-returns-in_ok-numbered_body-in-WithRecord-clause-next : goal.numbered_stat-returns-in_ok-numbered_body-in-WithRecord-clause-next
-numbered_stat-returns-in_ok-numbered_body-in-WithRecord-clause-next t c =
+pub number_stat-returns-in-WithRecord-clause-next : goal.number_stat-returns-in-WithRecord-clause-next
+number_stat-returns-in-WithRecord-clause-next t c =
     let x = c.in-WithRecord in
-    with_record_counted c.args.next.now c.numbered_body-in-WithRecord.new.next c.args.stat x.at x.whole x.body x.is c.in_ok-numbered_body-in-WithRecord.ensures.next
+    let v : ValuesAt enum.parts 20 = (x.field-0, (x.field-1, (x.body, tt))) in
+    let p = values_d enum 20 v c.args.stat.now in
+    let call = c.number_body-in-WithRecord in
+    on_ok_weaker call.result (λ e. with_record_counted c.args.next.now call.new.next c.args.stat.now p.0 p.1.0 p.1.1.0 (made_of enum 20 v x.is) e) call.ensures.next
 
-pub numbered_stat-returns-in_ok-numbered_body-in-If-clause-numbers : goal.numbered_stat-returns-in_ok-numbered_body-in-If-clause-numbers
-numbered_stat-returns-in_ok-numbered_body-in-If-clause-numbers t c =
+pub number_stat-returns-in_ok-number_arms-in-If-clause-numbers : goal.number_stat-returns-in_ok-number_arms-in-If-clause-numbers
+number_stat-returns-in_ok-number_arms-in-If-clause-numbers t c =
+    let n = c.args.next.now in
     let x = c.in-If in
-    let first = c.in_ok-arms-in-If in
-    let second = c.in_ok-numbered_body-in-If in
-    if_numbered c.args.next.now c.numbered_arms.new.next c.numbered_body.new.next c.args.stat x.at x.arms x.last x.is first.arms second.field-0 first.ensures.numbers second.ensures.numbers
+    let v : ValuesAt enum.parts 3 = (x.field-0, (x.arms, (x.last, tt))) in
+    let p = values_d enum 3 v c.args.stat.now in
+    let arms = c.as_mut_slice in
+    let k = c.number_arms.new.next in
+    let call = c.number_body in
+    on_ok_weaker call.result
+    (λ e.
+    if_numbered n k call.new.next c.args.stat.now p.0 p.1.0 p.1.1.0 (made_of enum 3 v x.is) (with_items p.1.0 c.number_arms.new.arms) call.new.body
+    (arms_done n k p.1.0 arms.result.now c.number_arms.new.arms arms.ensures.value c.number_arms.auto.arms c.in_ok-number_arms-in-If.ensures.numbers)
+    e)
+    call.ensures.numbers
 
-pub numbered_stat-returns-in_ok-numbered_body-in-If-clause-next : goal.numbered_stat-returns-in_ok-numbered_body-in-If-clause-next
-numbered_stat-returns-in_ok-numbered_body-in-If-clause-next t c =
+pub number_stat-returns-in_ok-number_arms-in-If-clause-next : goal.number_stat-returns-in_ok-number_arms-in-If-clause-next
+number_stat-returns-in_ok-number_arms-in-If-clause-next t c =
+    let n = c.args.next.now in
     let x = c.in-If in
-    if_counted c.args.next.now c.numbered_arms.new.next c.numbered_body.new.next c.args.stat x.at x.arms x.last x.is c.in_ok-arms-in-If.ensures.next c.in_ok-numbered_body-in-If.ensures.next
+    let v : ValuesAt enum.parts 3 = (x.field-0, (x.arms, (x.last, tt))) in
+    let p = values_d enum 3 v c.args.stat.now in
+    let k = c.number_arms.new.next in
+    let call = c.number_body in
+    let first = c.in_ok-number_arms-in-If.ensures.next ∙ ap (λ as'. n + awaits_of_arms as') c.as_mut_slice.ensures.value in
+    on_ok_weaker call.result (λ e. if_counted n k call.new.next c.args.stat.now p.0 p.1.0 p.1.1.0 (made_of enum 3 v x.is) first e) call.ensures.next
 
-pub numbered_stat-returns-in_ok-numbered_else-in-Case-clause-numbers : goal.numbered_stat-returns-in_ok-numbered_else-in-Case-clause-numbers
-numbered_stat-returns-in_ok-numbered_else-in-Case-clause-numbers t c =
+pub number_stat-returns-in_ok-number_cases-in-Case-clause-numbers : goal.number_stat-returns-in_ok-number_cases-in-Case-clause-numbers
+number_stat-returns-in_ok-number_cases-in-Case-clause-numbers t c =
+    let n = c.args.next.now in
     let x = c.in-Case in
-    let first = c.in_ok-cases-in-Case in
-    let second = c.in_ok-numbered_else-in-Case in
-    case_numbered c.args.next.now c.numbered_cases.new.next c.numbered_else.new.next c.args.stat x.at x.value x.cases x.otherwise x.is first.cases second.field-0 first.ensures.numbers second.ensures.numbers
+    let v : ValuesAt enum.parts 4 = (x.field-0, (x.field-1, (x.cases, (x.otherwise, tt)))) in
+    let p = values_d enum 4 v c.args.stat.now in
+    let cases = c.as_mut_slice-in-Case in
+    let k = c.number_cases.new.next in
+    let call = c.number_else in
+    on_ok_weaker call.result
+    (λ e.
+    case_numbered n k call.new.next c.args.stat.now p.0 p.1.0 p.1.1.0 p.1.1.1.0 (made_of enum 4 v x.is) (with_items p.1.1.0 c.number_cases.new.cases) call.new.otherwise
+    (cases_done n k p.1.1.0 cases.result.now c.number_cases.new.cases cases.ensures.value c.number_cases.auto.cases c.in_ok-number_cases-in-Case.ensures.numbers)
+    e)
+    call.ensures.numbers
 
-pub numbered_stat-returns-in_ok-numbered_else-in-Case-clause-next : goal.numbered_stat-returns-in_ok-numbered_else-in-Case-clause-next
-numbered_stat-returns-in_ok-numbered_else-in-Case-clause-next t c =
+pub number_stat-returns-in_ok-number_cases-in-Case-clause-next : goal.number_stat-returns-in_ok-number_cases-in-Case-clause-next
+number_stat-returns-in_ok-number_cases-in-Case-clause-next t c =
+    let n = c.args.next.now in
     let x = c.in-Case in
-    case_counted c.args.next.now c.numbered_cases.new.next c.numbered_else.new.next c.args.stat x.at x.value x.cases x.otherwise x.is c.in_ok-cases-in-Case.ensures.next c.in_ok-numbered_else-in-Case.ensures.next
+    let v : ValuesAt enum.parts 4 = (x.field-0, (x.field-1, (x.cases, (x.otherwise, tt)))) in
+    let p = values_d enum 4 v c.args.stat.now in
+    let k = c.number_cases.new.next in
+    let call = c.number_else in
+    let first = c.in_ok-number_cases-in-Case.ensures.next ∙ ap (λ as'. n + awaits_of_cases as') c.as_mut_slice-in-Case.ensures.value in
+    on_ok_weaker call.result (λ e. case_counted n k call.new.next c.args.stat.now p.0 p.1.0 p.1.1.0 p.1.1.1.0 (made_of enum 4 v x.is) first e) call.ensures.next
 
-pub numbered_else-returns-in_ok-numbered_body-in-Else-clause-numbers : goal.numbered_else-returns-in_ok-numbered_body-in-Else-clause-numbers
-numbered_else-returns-in_ok-numbered_body-in-Else-clause-numbers t c =
+pub number_else-returns-in-Else-clause-numbers : goal.number_else-returns-in-Else-clause-numbers
+number_else-returns-in-Else-clause-numbers t c =
     let x = c.in-Else in
-    let y = c.in_ok-numbered_body-in-Else in
-    else_numbered c.args.next.now c.args.otherwise x.body y.field-0 x.is y.ensures.numbers
+    let v : ValuesAt else_enum.parts 1 = (x.body, tt) in
+    let p = values_d else_enum 1 v c.args.otherwise.now in
+    let call = c.number_body in
+    on_ok_weaker call.result
+    (λ e. ap seen_else (written (λ (b : Vec TStat Global) (q : ValuesAt else_enum.parts 1). view.Else b) (values_o else_enum 1 c.args.otherwise.now) p c.args.otherwise.now call.new.body (found else_enum 1 v x.is)) ∙ else_numbered c.args.next.now c.args.otherwise.now p.0 call.new.body (made_of else_enum 1 v x.is) e)
+    call.ensures.numbers
 
-pub numbered_else-returns-in_ok-numbered_body-in-Else-clause-next : goal.numbered_else-returns-in_ok-numbered_body-in-Else-clause-next
-numbered_else-returns-in_ok-numbered_body-in-Else-clause-next t c =
+pub number_else-returns-in-Else-clause-next : goal.number_else-returns-in-Else-clause-next
+number_else-returns-in-Else-clause-next t c =
     let x = c.in-Else in
-    else_counted c.args.next.now c.numbered_body.new.next c.args.otherwise x.body x.is c.in_ok-numbered_body-in-Else.ensures.next
+    let v : ValuesAt else_enum.parts 1 = (x.body, tt) in
+    let p = values_d else_enum 1 v c.args.otherwise.now in
+    let call = c.number_body in
+    on_ok_weaker call.result (λ e. else_counted c.args.next.now call.new.next c.args.otherwise.now p.0 (made_of else_enum 1 v x.is) e) call.ensures.next
 
-pub number_stat-numbered_stat-requires : goal.number_stat-numbered_stat-requires
-number_stat-numbered_stat-requires t c = let same = ap size-TStat c.take-old.ensures in (omega (arith, same, c.decreases), tt)
+pub number_body-returns-clause-numbers : goal.number_body-returns-clause-numbers
+number_body-returns-clause-numbers t c =
+    let v = c.as_mut_slice in
+    let call = c.number_stats in
+    on_ok_weaker call.result (λ e. body_numbered c.args.next.now c.args.body.now v.result.now call.new.stats v.ensures.value call.auto.stats e) call.ensures.numbers
+
+pub number_body-returns-clause-next : goal.number_body-returns-clause-next
+number_body-returns-clause-next t c =
+    let v = c.as_mut_slice in
+    let call = c.number_stats in
+    on_ok_weaker call.result (λ e. body_counted c.args.next.now call.new.next c.args.body.now v.result.now v.ensures.value e) call.ensures.next
 
 pub number_stats-loop-place-preserved : goal.number_stats-loop-place-preserved
 number_stats-loop-place-preserved t c =
@@ -172,22 +268,18 @@ number_arms-loop-place-preserved t c =
     let l = c.loop-place in
     let d = c.index-arms-place.result in
     let old = out-TArm (slice_index_or l.arms l.place d) in
-    let call = c.number_stats in
-    let new = roll-TArm (record { test = old.test; body = with_items old.body call.new.stats }) in
+    let call = c.number_body in
+    let new = roll-TArm (record { test = old.test; body = call.new.body }) in
     let below : l.place < length l.arms = omega (arith, c.loop-place-test.true, l.auto.arms) in
-    let told = c.in_ok-number_stats.ensures in
-    let value = c.as_mut_slice.ensures.value in
+    let told = c.in_ok-number_body.ensures in
     let less = one_less seen_arm awaits_behind renumbered_behind l.place l.arms d new below in
-    let next = told.next ∙ ap (λ ss. l.next + length (awaited_in (seen_stats ss))) value in
-    let numbers : seen_arm new ≡ renumbered_behind l.next (seen_arm (slice_index_or l.arms l.place d)) =
-    ap (λ ss. (seen_expr old.test, ss)) (ap seen_stats (refilled old.body c.as_mut_slice.result.now call.new.stats value call.auto.stats) ∙ told.numbers ∙ ap (λ ss. stats_renumbered l.next (seen_stats ss)) value) in
     record {
       unvisited = stay_behind l.place l.arms c.args.arms.now new l.invariant.unvisited;
       numbers =
-          ap (λ n. left awaits_behind renumbered_behind (l.place + 1) n (map seen_arm (slice_set l.arms l.place new))) next
-          ∙ one_more seen_arm awaits_behind renumbered_behind l.place l.next l.arms d new below numbers
+          ap (λ n. left awaits_behind renumbered_behind (l.place + 1) n (map seen_arm (slice_set l.arms l.place new))) told.next
+          ∙ one_more seen_arm awaits_behind renumbered_behind l.place l.next l.arms d new below (ap (λ ss. (seen_expr old.test, ss)) told.numbers)
           ∙ l.invariant.numbers;
-      next = omega (arith, next, less, l.invariant.next);
+      next = omega (arith, told.next, less, l.invariant.next);
     }
 
 pub number_arms-returns-clause-numbers : goal.number_arms-returns-clause-numbers
@@ -214,22 +306,18 @@ number_cases-loop-place-preserved t c =
     let l = c.loop-place in
     let d = c.index-cases-place.result in
     let old = out-TCase (slice_index_or l.cases l.place d) in
-    let call = c.number_stats in
-    let new = roll-TCase (record { labels = old.labels; body = with_items old.body call.new.stats }) in
+    let call = c.number_body in
+    let new = roll-TCase (record { labels = old.labels; body = call.new.body }) in
     let below : l.place < length l.cases = omega (arith, c.loop-place-test.true, l.auto.cases) in
-    let told = c.in_ok-number_stats.ensures in
-    let value = c.as_mut_slice.ensures.value in
+    let told = c.in_ok-number_body.ensures in
     let less = one_less seen_case awaits_behind renumbered_behind l.place l.cases d new below in
-    let next = told.next ∙ ap (λ ss. l.next + length (awaited_in (seen_stats ss))) value in
-    let numbers : seen_case new ≡ renumbered_behind l.next (seen_case (slice_index_or l.cases l.place d)) =
-    ap (λ ss. (old.labels.items, ss)) (ap seen_stats (refilled old.body c.as_mut_slice.result.now call.new.stats value call.auto.stats) ∙ told.numbers ∙ ap (λ ss. stats_renumbered l.next (seen_stats ss)) value) in
     record {
       unvisited = stay_behind l.place l.cases c.args.cases.now new l.invariant.unvisited;
       numbers =
-          ap (λ n. left awaits_behind renumbered_behind (l.place + 1) n (map seen_case (slice_set l.cases l.place new))) next
-          ∙ one_more seen_case awaits_behind renumbered_behind l.place l.next l.cases d new below numbers
+          ap (λ n. left awaits_behind renumbered_behind (l.place + 1) n (map seen_case (slice_set l.cases l.place new))) told.next
+          ∙ one_more seen_case awaits_behind renumbered_behind l.place l.next l.cases d new below (ap (λ ss. (old.labels.items, ss)) told.numbers)
           ∙ l.invariant.numbers;
-      next = omega (arith, next, less, l.invariant.next);
+      next = omega (arith, told.next, less, l.invariant.next);
     }
 
 pub number_cases-returns-clause-numbers : goal.number_cases-returns-clause-numbers

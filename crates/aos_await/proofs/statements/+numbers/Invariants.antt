@@ -29,29 +29,20 @@ invariant-number_cases-loop-place l = record {
 }
 
 -- What is passed on is below what held it; or it is the same, and the callee comes before the caller.
-abbrev pub decreases-numbered_stat : goal.decreases-numbered_stat
-decreases-numbered_stat l = 8 * goal.size-numbered_stat l
-
 abbrev pub decreases-number_stat : goal.decreases-number_stat
-decreases-number_stat l = 8 * goal.size-number_stat l + 1
+decreases-number_stat l = 8 * goal.size-number_stat l
 
 abbrev pub decreases-number_stats : goal.decreases-number_stats
 decreases-number_stats l = 8 * goal.size-number_stats l + 2
 
-abbrev pub decreases-numbered_body : goal.decreases-numbered_body
-decreases-numbered_body l = 8 * goal.size-numbered_body l + 3
-
 abbrev pub decreases-number_arms : goal.decreases-number_arms
-decreases-number_arms l = 8 * goal.size-number_arms l
-
-abbrev pub decreases-numbered_arms : goal.decreases-numbered_arms
-decreases-numbered_arms l = 8 * goal.size-numbered_arms l + 1
+decreases-number_arms l = 8 * goal.size-number_arms l + 1
 
 abbrev pub decreases-number_cases : goal.decreases-number_cases
-decreases-number_cases l = 8 * goal.size-number_cases l
+decreases-number_cases l = 8 * goal.size-number_cases l + 1
 
-abbrev pub decreases-numbered_cases : goal.decreases-numbered_cases
-decreases-numbered_cases l = 8 * goal.size-numbered_cases l + 1
+abbrev pub decreases-number_else : goal.decreases-number_else
+decreases-number_else l = 8 * goal.size-number_else l
 
-abbrev pub decreases-numbered_else : goal.decreases-numbered_else
-decreases-numbered_else l = 8 * goal.size-numbered_else l
+abbrev pub decreases-number_body : goal.decreases-number_body
+decreases-number_body l = 8 * goal.size-number_body l + 3
