@@ -1,22 +1,24 @@
 -- A statement that holds others is numbered as these are.
-use Rattle.std.proofs.Common.{◌≡◌, ℕ, ℤ, ◌+◌, Bool, List, length, map, Vec, Global, refl, sym, ap, ◌∙◌, arith}
+use Rattle.std.proofs.Common.{◌≡◌, ℕ, ◌+◌, List, length, map, Vec, Global, refl, sym, ap, ◌∙◌, arith}
 use Rattle.std.specs.Vec.{with_items}
 use Rattle.std.proofs.lemmas.List.{with_items_is}
+use borrow.Enum.Known.{ValuesAt, at}
+use borrow.Enum.Total.{values_d, values_o}
 use Rattle.aos_base.specs.declared.text.Pos.{Pos}
-use Rattle.aos_base.specs.declared.number.Width.{Width}
 use Rattle.aos_typed.specs.declared.tree.TArm.{TArm}
 use Rattle.aos_typed.specs.declared.tree.TCase.{TCase}
 use Rattle.aos_typed.specs.declared.tree.TElse.{TElse}
 use Rattle.aos_typed.specs.declared.tree.TElse.TheViews as view
 use Rattle.aos_typed.specs.declared.tree.TExpr.{TExpr}
-use Rattle.aos_typed.specs.declared.tree.TPlace.{TPlace}
 use Rattle.aos_typed.specs.declared.tree.TStat.{TStat}
+use Rattle.aos_typed.specs.contracts.tree.TStat.{enum}
 use Rattle.aos_typed.specs.Program.{Stat, Stats, If, Case, Cases, While, Repeat, Loop, For, Block, With, WithRecord, Else}
 use Rattle.aos_typed.specs.Seen.{seen_place, seen_expr, seen_stat, seen_stats, seen_else, arms_of, cases_of}
 use Rattle.aos_typed.specs.Conditions.{awaited, awaited_in, awaited_in_arms, awaited_in_cases, renumbered, stats_renumbered, arms_renumbered, cases_renumbered}
 use Rattle.aos_typed.proofs.Seen.{if_seen, case_seen, else_seen, while_seen, repeat_seen, loop_seen, for_seen, block_seen, with_seen, with_record_seen}
 use Rattle.aos_await.specs.Counts.{seen_arm, seen_case, awaits_of_arms, awaits_of_cases}
 use Rattle.aos_await.proofs.Passes.{as_tested, as_labelled, tested_counted, labelled_counted}
+use Rattle.aos_await.proofs.Written.{made_of, found, with_field, written}
 
 -- a vector whose elements are written over
 pub refilled : {X : Type 0} (v : Vec X Global) (now ws : List X) → now ≡ v.items → length ws ≡ length now → (with_items v ws).items ≡ ws
@@ -30,68 +32,120 @@ body_numbered n v now ws same many done = ap seen_stats (refilled v now ws same 
 pub body_counted : (n m : ℕ) (v : Vec TStat Global) (now : List TStat) → now ≡ v.items → m ≡ n + length (awaited_in (seen_stats now)) → m ≡ n + length (awaited_in (seen_stats v.items))
 body_counted n m v now same done = done ∙ ap (λ ss. n + length (awaited_in (seen_stats ss))) same
 
--- one sequence of statements
-module _ (form : Vec TStat Global → TStat) (seen : Stats → Stat) (shown : (b : Vec TStat Global) → seen_stat (form b) ≡ seen (seen_stats b.items)) where
-  held_numbered : ((n : ℕ) (ss : Stats) → renumbered n (seen ss) ≡ seen (stats_renumbered n ss)) → (n : ℕ) (s : TStat) (old new : Vec TStat Global) → s ≡ form old →
-      seen_stats new.items ≡ stats_renumbered n (seen_stats old.items) → seen_stat (form new) ≡ renumbered n (seen_stat s)
-  held_numbered walks n s old new is done =
-      shown new
-      ∙ ap seen done
-      ∙ sym (ap (λ z. renumbered n (seen_stat z)) is ∙ ap (renumbered n) (shown old) ∙ walks n (seen_stats old.items))
+-- A statement that holds one sequence of statements: at which variant it is, how it is made of a sequence and of its values, of which one
+-- is its sequence, and how it is seen.
+pub record Holder : Type 0 where
+  pub variant : ℕ
+  pub make : Vec TStat Global → ValuesAt enum.parts variant → TStat
+  pub body : ValuesAt enum.parts variant → Vec TStat Global
+  pub seen : ValuesAt enum.parts variant → Stats → Stat
+  pub whole : (q : ValuesAt enum.parts variant) → at enum variant q ≡ make (body q) q
+  pub shown : (b : Vec TStat Global) (q : ValuesAt enum.parts variant) → seen_stat (make b q) ≡ seen q (seen_stats b.items)
+  pub walks : (n : ℕ) (q : ValuesAt enum.parts variant) (ss : Stats) → renumbered n (seen q ss) ≡ seen q (stats_renumbered n ss)
+  pub counts : (q : ValuesAt enum.parts variant) (ss : Stats) → awaited (seen q ss) ≡ awaited_in ss
 
-  held_counted : ((ss : Stats) → awaited (seen ss) ≡ awaited_in ss) → (n m : ℕ) (s : TStat) (old : Vec TStat Global) → s ≡ form old →
-      m ≡ n + length (awaited_in (seen_stats old.items)) → m ≡ n + length (awaited (seen_stat s))
-  held_counted walks n m s old is done =
-      done ∙ ap (λ l. n + length l) (sym (ap (λ z. awaited (seen_stat z)) is ∙ ap awaited (shown old) ∙ walks (seen_stats old.items)))
+-- where such a statement stands, its sequence is numbered
+module _ (h : Holder) (n : ℕ) (s : TStat) (v : ValuesAt enum.parts h.variant) (is : s ≡ at enum h.variant v) where
+  abbrev values : ValuesAt enum.parts h.variant
+  values = values_d enum h.variant v s
 
-pub while_numbered : (n : ℕ) (s : TStat) (at : Pos) (e : TExpr) (old new : Vec TStat Global) → s ≡ view.While at e old → seen_stats new.items ≡ stats_renumbered n (seen_stats old.items) →
-    seen_stat (view.While at e new) ≡ renumbered n (seen_stat s)
-while_numbered n s at e old new is done = held_numbered (λ b. view.While at e b) (λ l. While at (seen_expr e) l) (while_seen at e) (λ n ss. refl) n s old new is done
+  seen_whole : seen_stat s ≡ h.seen values (seen_stats (h.body values).items)
+  seen_whole = ap seen_stat (made_of enum h.variant v is ∙ h.whole values) ∙ h.shown (h.body values) values
 
-pub while_counted : (n m : ℕ) (s : TStat) (at : Pos) (e : TExpr) (old : Vec TStat Global) → s ≡ view.While at e old → m ≡ n + length (awaited_in (seen_stats old.items)) → m ≡ n + length (awaited (seen_stat s))
-while_counted n m s at e old is done = held_counted (λ b. view.While at e b) (λ l. While at (seen_expr e) l) (while_seen at e) (λ ss. refl) n m s old is done
+  pub held_numbered : (new : Vec TStat Global) → seen_stats new.items ≡ stats_renumbered n (seen_stats (h.body values).items) →
+      seen_stat (with_field h.make (values_o enum h.variant s) s new) ≡ renumbered n (seen_stat s)
+  held_numbered new done =
+      ap seen_stat (written h.make (values_o enum h.variant s) values s new (found enum h.variant v is))
+      ∙ h.shown new values
+      ∙ ap (h.seen values) done
+      ∙ sym (ap (renumbered n) seen_whole ∙ h.walks n values (seen_stats (h.body values).items))
 
-pub repeat_numbered : (n : ℕ) (s : TStat) (at : Pos) (e : TExpr) (old new : Vec TStat Global) → s ≡ view.Repeat at old e → seen_stats new.items ≡ stats_renumbered n (seen_stats old.items) →
-    seen_stat (view.Repeat at new e) ≡ renumbered n (seen_stat s)
-repeat_numbered n s at e old new is done = held_numbered (λ b. view.Repeat at b e) (λ l. Repeat at l (seen_expr e)) (λ b. repeat_seen at b e) (λ n ss. refl) n s old new is done
+  pub held_counted : (m : ℕ) → m ≡ n + length (awaited_in (seen_stats (h.body values).items)) → m ≡ n + length (awaited (seen_stat s))
+  held_counted m done = done ∙ ap (λ l. n + length l) (sym (ap awaited seen_whole ∙ h.counts values (seen_stats (h.body values).items)))
 
-pub repeat_counted : (n m : ℕ) (s : TStat) (at : Pos) (e : TExpr) (old : Vec TStat Global) → s ≡ view.Repeat at old e → m ≡ n + length (awaited_in (seen_stats old.items)) → m ≡ n + length (awaited (seen_stat s))
-repeat_counted n m s at e old is done = held_counted (λ b. view.Repeat at b e) (λ l. Repeat at l (seen_expr e)) (λ b. repeat_seen at b e) (λ ss. refl) n m s old is done
+abbrev pub in_while : Holder
+in_while = record {
+  variant = 5;
+  make = λ b q. view.While q.0 q.1.0 b;
+  body = λ q. q.1.1.0;
+  seen = λ q l. While q.0 (seen_expr q.1.0) l;
+  whole = λ q. refl;
+  shown = λ b q. while_seen q.0 q.1.0 b;
+  walks = λ n q ss. refl;
+  counts = λ q ss. refl;
+}
 
-pub loop_numbered : (n : ℕ) (s : TStat) (at : Pos) (old new : Vec TStat Global) → s ≡ view.Loop at old → seen_stats new.items ≡ stats_renumbered n (seen_stats old.items) →
-    seen_stat (view.Loop at new) ≡ renumbered n (seen_stat s)
-loop_numbered n s at old new is done = held_numbered (λ b. view.Loop at b) (λ l. Loop at l) (loop_seen at) (λ n ss. refl) n s old new is done
+abbrev pub in_repeat : Holder
+in_repeat = record {
+  variant = 6;
+  make = λ b q. view.Repeat q.0 b q.1.1.0;
+  body = λ q. q.1.0;
+  seen = λ q l. Repeat q.0 l (seen_expr q.1.1.0);
+  whole = λ q. refl;
+  shown = λ b q. repeat_seen q.0 b q.1.1.0;
+  walks = λ n q ss. refl;
+  counts = λ q ss. refl;
+}
 
-pub loop_counted : (n m : ℕ) (s : TStat) (at : Pos) (old : Vec TStat Global) → s ≡ view.Loop at old → m ≡ n + length (awaited_in (seen_stats old.items)) → m ≡ n + length (awaited (seen_stat s))
-loop_counted n m s at old is done = held_counted (λ b. view.Loop at b) (λ l. Loop at l) (loop_seen at) (λ ss. refl) n m s old is done
+abbrev pub in_loop : Holder
+in_loop = record {
+  variant = 7;
+  make = λ b q. view.Loop q.0 b;
+  body = λ q. q.1.0;
+  seen = λ q l. Loop q.0 l;
+  whole = λ q. refl;
+  shown = λ b q. loop_seen q.0 b;
+  walks = λ n q ss. refl;
+  counts = λ q ss. refl;
+}
 
-pub for_numbered : (n : ℕ) (s : TStat) (at : Pos) (w : Width) (p : TPlace) (from to : TExpr) (step : ℤ) (old new : Vec TStat Global) → s ≡ view.For at w p from to step old → seen_stats new.items ≡ stats_renumbered n (seen_stats old.items) →
-    seen_stat (view.For at w p from to step new) ≡ renumbered n (seen_stat s)
-for_numbered n s at w p from to step old new is done = held_numbered (λ b. view.For at w p from to step b) (λ l. For at w (seen_place p) (seen_expr from) (seen_expr to) step l) (for_seen at w p from to step) (λ n ss. refl) n s old new is done
+abbrev pub in_for : Holder
+in_for = record {
+  variant = 9;
+  make = λ b q. view.For q.0 q.1.0 q.1.1.0 q.1.1.1.0 q.1.1.1.1.0 q.1.1.1.1.1.0 b;
+  body = λ q. q.1.1.1.1.1.1.0;
+  seen = λ q l. For q.0 q.1.0 (seen_place q.1.1.0) (seen_expr q.1.1.1.0) (seen_expr q.1.1.1.1.0) q.1.1.1.1.1.0 l;
+  whole = λ q. refl;
+  shown = λ b q. for_seen q.0 q.1.0 q.1.1.0 q.1.1.1.0 q.1.1.1.1.0 q.1.1.1.1.1.0 b;
+  walks = λ n q ss. refl;
+  counts = λ q ss. refl;
+}
 
-pub for_counted : (n m : ℕ) (s : TStat) (at : Pos) (w : Width) (p : TPlace) (from to : TExpr) (step : ℤ) (old : Vec TStat Global) → s ≡ view.For at w p from to step old → m ≡ n + length (awaited_in (seen_stats old.items)) → m ≡ n + length (awaited (seen_stat s))
-for_counted n m s at w p from to step old is done = held_counted (λ b. view.For at w p from to step b) (λ l. For at w (seen_place p) (seen_expr from) (seen_expr to) step l) (for_seen at w p from to step) (λ ss. refl) n m s old is done
+abbrev pub in_block : Holder
+in_block = record {
+  variant = 10;
+  make = λ b q. view.Block q.0 q.1.0 b;
+  body = λ q. q.1.1.0;
+  seen = λ q l. Block q.0 q.1.0 l;
+  whole = λ q. refl;
+  shown = λ b q. block_seen q.0 q.1.0 b;
+  walks = λ n q ss. refl;
+  counts = λ q ss. refl;
+}
 
-pub block_numbered : (n : ℕ) (s : TStat) (at : Pos) (exclusive : Bool) (old new : Vec TStat Global) → s ≡ view.Block at exclusive old → seen_stats new.items ≡ stats_renumbered n (seen_stats old.items) →
-    seen_stat (view.Block at exclusive new) ≡ renumbered n (seen_stat s)
-block_numbered n s at exclusive old new is done = held_numbered (λ b. view.Block at exclusive b) (λ l. Block at exclusive l) (block_seen at exclusive) (λ n ss. refl) n s old new is done
+abbrev pub in_with : Holder
+in_with = record {
+  variant = 19;
+  make = λ b q. view.With q.0 q.1.0 b;
+  body = λ q. q.1.1.0;
+  seen = λ q l. With q.0 (seen_expr q.1.0) l;
+  whole = λ q. refl;
+  shown = λ b q. with_seen q.0 q.1.0 b;
+  walks = λ n q ss. refl;
+  counts = λ q ss. refl;
+}
 
-pub block_counted : (n m : ℕ) (s : TStat) (at : Pos) (exclusive : Bool) (old : Vec TStat Global) → s ≡ view.Block at exclusive old → m ≡ n + length (awaited_in (seen_stats old.items)) → m ≡ n + length (awaited (seen_stat s))
-block_counted n m s at exclusive old is done = held_counted (λ b. view.Block at exclusive b) (λ l. Block at exclusive l) (block_seen at exclusive) (λ ss. refl) n m s old is done
-
-pub with_numbered : (n : ℕ) (s : TStat) (at : Pos) (e : TExpr) (old new : Vec TStat Global) → s ≡ view.With at e old → seen_stats new.items ≡ stats_renumbered n (seen_stats old.items) →
-    seen_stat (view.With at e new) ≡ renumbered n (seen_stat s)
-with_numbered n s at e old new is done = held_numbered (λ b. view.With at e b) (λ l. With at (seen_expr e) l) (with_seen at e) (λ n ss. refl) n s old new is done
-
-pub with_counted : (n m : ℕ) (s : TStat) (at : Pos) (e : TExpr) (old : Vec TStat Global) → s ≡ view.With at e old → m ≡ n + length (awaited_in (seen_stats old.items)) → m ≡ n + length (awaited (seen_stat s))
-with_counted n m s at e old is done = held_counted (λ b. view.With at e b) (λ l. With at (seen_expr e) l) (with_seen at e) (λ ss. refl) n m s old is done
-
-pub with_record_numbered : (n : ℕ) (s : TStat) (at : Pos) (p : TPlace) (old new : Vec TStat Global) → s ≡ view.WithRecord at p old → seen_stats new.items ≡ stats_renumbered n (seen_stats old.items) →
-    seen_stat (view.WithRecord at p new) ≡ renumbered n (seen_stat s)
-with_record_numbered n s at p old new is done = held_numbered (λ b. view.WithRecord at p b) (λ l. WithRecord at (seen_place p) l) (with_record_seen at p) (λ n ss. refl) n s old new is done
-
-pub with_record_counted : (n m : ℕ) (s : TStat) (at : Pos) (p : TPlace) (old : Vec TStat Global) → s ≡ view.WithRecord at p old → m ≡ n + length (awaited_in (seen_stats old.items)) → m ≡ n + length (awaited (seen_stat s))
-with_record_counted n m s at p old is done = held_counted (λ b. view.WithRecord at p b) (λ l. WithRecord at (seen_place p) l) (with_record_seen at p) (λ ss. refl) n m s old is done
+abbrev pub in_with_record : Holder
+in_with_record = record {
+  variant = 20;
+  make = λ b q. view.WithRecord q.0 q.1.0 b;
+  body = λ q. q.1.1.0;
+  seen = λ q l. WithRecord q.0 (seen_place q.1.0) l;
+  whole = λ q. refl;
+  shown = λ b q. with_record_seen q.0 q.1.0 b;
+  walks = λ n q ss. refl;
+  counts = λ q ss. refl;
+}
 
 -- IF
 pub arms_done : (n k : ℕ) (v : Vec TArm Global) (now ws : List TArm) → now ≡ v.items → length ws ≡ length now →

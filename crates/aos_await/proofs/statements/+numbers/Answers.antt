@@ -15,135 +15,79 @@ use Rattle.aos_typed.specs.Conditions.{awaited_in, renumbered, stats_renumbered,
 use Rattle.aos_await.specs.Counts.{awaits_of_arms, awaits_of_cases, each_from, seen_arm, seen_case, awaits_behind, renumbered_behind}
 use Rattle.aos_await.proofs.Each.{left, one_more, one_less, all_done, none_left, stay_behind}
 use Rattle.aos_await.proofs.Passes.{count, sequence, tested, labelled, as_sequence, as_tested, as_labelled, sequence_numbered, sequence_counted, tested_numbered, labelled_numbered}
-use Rattle.aos_await.proofs.Held.{body_numbered, body_counted, arms_done, cases_done, while_numbered, repeat_numbered, loop_numbered, for_numbered, block_numbered, with_numbered, with_record_numbered, while_counted, repeat_counted, loop_counted, for_counted, block_counted, with_counted, with_record_counted, if_numbered, if_counted, case_numbered, case_counted, else_numbered, else_counted}
+use Rattle.aos_await.proofs.Held.{body_numbered, body_counted, held_numbered, held_counted, in_while, in_repeat, in_loop, in_for, in_block, in_with, in_with_record, arms_done, cases_done, if_numbered, if_counted, case_numbered, case_counted, else_numbered, else_counted}
 use Rattle.aos_await.proofs.Written.{made_of, found, written}
 use Rattle.aos_await.proofs.statements.+numbers.Goals as goal
 
 pub number_stat-returns-in-While-clause-numbers : goal.number_stat-returns-in-While-clause-numbers
 number_stat-returns-in-While-clause-numbers t c =
-    let x = c.in-While in
-    let v : ValuesAt enum.parts 5 = (x.field-0, (x.field-1, (x.body, tt))) in
-    let p = values_d enum 5 v c.args.stat.now in
     let call = c.number_body-in-While in
-    on_ok_weaker call.result
-    (λ e. ap seen_stat (written (λ (b : Vec TStat Global) (q : ValuesAt enum.parts 5). view.While q.0 q.1.0 b) (values_o enum 5 c.args.stat.now) p c.args.stat.now call.new.body (found enum 5 v x.is)) ∙ while_numbered c.args.next.now c.args.stat.now p.0 p.1.0 p.1.1.0 call.new.body (made_of enum 5 v x.is) e)
-    call.ensures.numbers
+    on_ok_weaker call.result (held_numbered in_while c.args.next.now c.args.stat.now _ c.in-While.is call.new.body) call.ensures.numbers
 
 pub number_stat-returns-in-While-clause-next : goal.number_stat-returns-in-While-clause-next
 number_stat-returns-in-While-clause-next t c =
-    let x = c.in-While in
-    let v : ValuesAt enum.parts 5 = (x.field-0, (x.field-1, (x.body, tt))) in
-    let p = values_d enum 5 v c.args.stat.now in
     let call = c.number_body-in-While in
-    on_ok_weaker call.result (λ e. while_counted c.args.next.now call.new.next c.args.stat.now p.0 p.1.0 p.1.1.0 (made_of enum 5 v x.is) e) call.ensures.next
+    on_ok_weaker call.result (held_counted in_while c.args.next.now c.args.stat.now _ c.in-While.is call.new.next) call.ensures.next
 
 pub number_stat-returns-in-Repeat-clause-numbers : goal.number_stat-returns-in-Repeat-clause-numbers
 number_stat-returns-in-Repeat-clause-numbers t c =
-    let x = c.in-Repeat in
-    let v : ValuesAt enum.parts 6 = (x.field-0, (x.body, (x.field-2, tt))) in
-    let p = values_d enum 6 v c.args.stat.now in
     let call = c.number_body-in-Repeat in
-    on_ok_weaker call.result
-    (λ e. ap seen_stat (written (λ (b : Vec TStat Global) (q : ValuesAt enum.parts 6). view.Repeat q.0 b q.1.1.0) (values_o enum 6 c.args.stat.now) p c.args.stat.now call.new.body (found enum 6 v x.is)) ∙ repeat_numbered c.args.next.now c.args.stat.now p.0 p.1.1.0 p.1.0 call.new.body (made_of enum 6 v x.is) e)
-    call.ensures.numbers
+    on_ok_weaker call.result (held_numbered in_repeat c.args.next.now c.args.stat.now _ c.in-Repeat.is call.new.body) call.ensures.numbers
 
 pub number_stat-returns-in-Repeat-clause-next : goal.number_stat-returns-in-Repeat-clause-next
 number_stat-returns-in-Repeat-clause-next t c =
-    let x = c.in-Repeat in
-    let v : ValuesAt enum.parts 6 = (x.field-0, (x.body, (x.field-2, tt))) in
-    let p = values_d enum 6 v c.args.stat.now in
     let call = c.number_body-in-Repeat in
-    on_ok_weaker call.result (λ e. repeat_counted c.args.next.now call.new.next c.args.stat.now p.0 p.1.1.0 p.1.0 (made_of enum 6 v x.is) e) call.ensures.next
+    on_ok_weaker call.result (held_counted in_repeat c.args.next.now c.args.stat.now _ c.in-Repeat.is call.new.next) call.ensures.next
 
 pub number_stat-returns-in-Loop-clause-numbers : goal.number_stat-returns-in-Loop-clause-numbers
 number_stat-returns-in-Loop-clause-numbers t c =
-    let x = c.in-Loop in
-    let v : ValuesAt enum.parts 7 = (x.field-0, (x.body, tt)) in
-    let p = values_d enum 7 v c.args.stat.now in
     let call = c.number_body-in-Loop in
-    on_ok_weaker call.result
-    (λ e. ap seen_stat (written (λ (b : Vec TStat Global) (q : ValuesAt enum.parts 7). view.Loop q.0 b) (values_o enum 7 c.args.stat.now) p c.args.stat.now call.new.body (found enum 7 v x.is)) ∙ loop_numbered c.args.next.now c.args.stat.now p.0 p.1.0 call.new.body (made_of enum 7 v x.is) e)
-    call.ensures.numbers
+    on_ok_weaker call.result (held_numbered in_loop c.args.next.now c.args.stat.now _ c.in-Loop.is call.new.body) call.ensures.numbers
 
 pub number_stat-returns-in-Loop-clause-next : goal.number_stat-returns-in-Loop-clause-next
 number_stat-returns-in-Loop-clause-next t c =
-    let x = c.in-Loop in
-    let v : ValuesAt enum.parts 7 = (x.field-0, (x.body, tt)) in
-    let p = values_d enum 7 v c.args.stat.now in
     let call = c.number_body-in-Loop in
-    on_ok_weaker call.result (λ e. loop_counted c.args.next.now call.new.next c.args.stat.now p.0 p.1.0 (made_of enum 7 v x.is) e) call.ensures.next
+    on_ok_weaker call.result (held_counted in_loop c.args.next.now c.args.stat.now _ c.in-Loop.is call.new.next) call.ensures.next
 
 pub number_stat-returns-in-For-clause-numbers : goal.number_stat-returns-in-For-clause-numbers
 number_stat-returns-in-For-clause-numbers t c =
-    let x = c.in-For in
-    let v : ValuesAt enum.parts 9 = (x.field-0, (x.field-1, (x.field-2, (x.field-3, (x.field-4, (x.field-5, (x.body, tt))))))) in
-    let p = values_d enum 9 v c.args.stat.now in
     let call = c.number_body-in-For in
-    on_ok_weaker call.result
-    (λ e. ap seen_stat (written (λ (b : Vec TStat Global) (q : ValuesAt enum.parts 9). view.For q.0 q.1.0 q.1.1.0 q.1.1.1.0 q.1.1.1.1.0 q.1.1.1.1.1.0 b) (values_o enum 9 c.args.stat.now) p c.args.stat.now call.new.body (found enum 9 v x.is)) ∙ for_numbered c.args.next.now c.args.stat.now p.0 p.1.0 p.1.1.0 p.1.1.1.0 p.1.1.1.1.0 p.1.1.1.1.1.0 p.1.1.1.1.1.1.0 call.new.body (made_of enum 9 v x.is) e)
-    call.ensures.numbers
+    on_ok_weaker call.result (held_numbered in_for c.args.next.now c.args.stat.now _ c.in-For.is call.new.body) call.ensures.numbers
 
 pub number_stat-returns-in-For-clause-next : goal.number_stat-returns-in-For-clause-next
 number_stat-returns-in-For-clause-next t c =
-    let x = c.in-For in
-    let v : ValuesAt enum.parts 9 = (x.field-0, (x.field-1, (x.field-2, (x.field-3, (x.field-4, (x.field-5, (x.body, tt))))))) in
-    let p = values_d enum 9 v c.args.stat.now in
     let call = c.number_body-in-For in
-    on_ok_weaker call.result (λ e. for_counted c.args.next.now call.new.next c.args.stat.now p.0 p.1.0 p.1.1.0 p.1.1.1.0 p.1.1.1.1.0 p.1.1.1.1.1.0 p.1.1.1.1.1.1.0 (made_of enum 9 v x.is) e) call.ensures.next
+    on_ok_weaker call.result (held_counted in_for c.args.next.now c.args.stat.now _ c.in-For.is call.new.next) call.ensures.next
 
 pub number_stat-returns-in-Block-clause-numbers : goal.number_stat-returns-in-Block-clause-numbers
 number_stat-returns-in-Block-clause-numbers t c =
-    let x = c.in-Block in
-    let v : ValuesAt enum.parts 10 = (x.field-0, (x.field-1, (x.body, tt))) in
-    let p = values_d enum 10 v c.args.stat.now in
     let call = c.number_body-in-Block in
-    on_ok_weaker call.result
-    (λ e. ap seen_stat (written (λ (b : Vec TStat Global) (q : ValuesAt enum.parts 10). view.Block q.0 q.1.0 b) (values_o enum 10 c.args.stat.now) p c.args.stat.now call.new.body (found enum 10 v x.is)) ∙ block_numbered c.args.next.now c.args.stat.now p.0 p.1.0 p.1.1.0 call.new.body (made_of enum 10 v x.is) e)
-    call.ensures.numbers
+    on_ok_weaker call.result (held_numbered in_block c.args.next.now c.args.stat.now _ c.in-Block.is call.new.body) call.ensures.numbers
 
 pub number_stat-returns-in-Block-clause-next : goal.number_stat-returns-in-Block-clause-next
 number_stat-returns-in-Block-clause-next t c =
-    let x = c.in-Block in
-    let v : ValuesAt enum.parts 10 = (x.field-0, (x.field-1, (x.body, tt))) in
-    let p = values_d enum 10 v c.args.stat.now in
     let call = c.number_body-in-Block in
-    on_ok_weaker call.result (λ e. block_counted c.args.next.now call.new.next c.args.stat.now p.0 p.1.0 p.1.1.0 (made_of enum 10 v x.is) e) call.ensures.next
+    on_ok_weaker call.result (held_counted in_block c.args.next.now c.args.stat.now _ c.in-Block.is call.new.next) call.ensures.next
 
 pub number_stat-returns-in-With-clause-numbers : goal.number_stat-returns-in-With-clause-numbers
 number_stat-returns-in-With-clause-numbers t c =
-    let x = c.in-With in
-    let v : ValuesAt enum.parts 19 = (x.field-0, (x.field-1, (x.body, tt))) in
-    let p = values_d enum 19 v c.args.stat.now in
     let call = c.number_body-in-With in
-    on_ok_weaker call.result
-    (λ e. ap seen_stat (written (λ (b : Vec TStat Global) (q : ValuesAt enum.parts 19). view.With q.0 q.1.0 b) (values_o enum 19 c.args.stat.now) p c.args.stat.now call.new.body (found enum 19 v x.is)) ∙ with_numbered c.args.next.now c.args.stat.now p.0 p.1.0 p.1.1.0 call.new.body (made_of enum 19 v x.is) e)
-    call.ensures.numbers
+    on_ok_weaker call.result (held_numbered in_with c.args.next.now c.args.stat.now _ c.in-With.is call.new.body) call.ensures.numbers
 
 pub number_stat-returns-in-With-clause-next : goal.number_stat-returns-in-With-clause-next
 number_stat-returns-in-With-clause-next t c =
-    let x = c.in-With in
-    let v : ValuesAt enum.parts 19 = (x.field-0, (x.field-1, (x.body, tt))) in
-    let p = values_d enum 19 v c.args.stat.now in
     let call = c.number_body-in-With in
-    on_ok_weaker call.result (λ e. with_counted c.args.next.now call.new.next c.args.stat.now p.0 p.1.0 p.1.1.0 (made_of enum 19 v x.is) e) call.ensures.next
+    on_ok_weaker call.result (held_counted in_with c.args.next.now c.args.stat.now _ c.in-With.is call.new.next) call.ensures.next
 
 pub number_stat-returns-in-WithRecord-clause-numbers : goal.number_stat-returns-in-WithRecord-clause-numbers
 number_stat-returns-in-WithRecord-clause-numbers t c =
-    let x = c.in-WithRecord in
-    let v : ValuesAt enum.parts 20 = (x.field-0, (x.field-1, (x.body, tt))) in
-    let p = values_d enum 20 v c.args.stat.now in
     let call = c.number_body-in-WithRecord in
-    on_ok_weaker call.result
-    (λ e. ap seen_stat (written (λ (b : Vec TStat Global) (q : ValuesAt enum.parts 20). view.WithRecord q.0 q.1.0 b) (values_o enum 20 c.args.stat.now) p c.args.stat.now call.new.body (found enum 20 v x.is)) ∙ with_record_numbered c.args.next.now c.args.stat.now p.0 p.1.0 p.1.1.0 call.new.body (made_of enum 20 v x.is) e)
-    call.ensures.numbers
+    on_ok_weaker call.result (held_numbered in_with_record c.args.next.now c.args.stat.now _ c.in-WithRecord.is call.new.body) call.ensures.numbers
 
 pub number_stat-returns-in-WithRecord-clause-next : goal.number_stat-returns-in-WithRecord-clause-next
 number_stat-returns-in-WithRecord-clause-next t c =
-    let x = c.in-WithRecord in
-    let v : ValuesAt enum.parts 20 = (x.field-0, (x.field-1, (x.body, tt))) in
-    let p = values_d enum 20 v c.args.stat.now in
     let call = c.number_body-in-WithRecord in
-    on_ok_weaker call.result (λ e. with_record_counted c.args.next.now call.new.next c.args.stat.now p.0 p.1.0 p.1.1.0 (made_of enum 20 v x.is) e) call.ensures.next
+    on_ok_weaker call.result (held_counted in_with_record c.args.next.now c.args.stat.now _ c.in-WithRecord.is call.new.next) call.ensures.next
 
 pub number_stat-returns-in_ok-number_arms-in-If-clause-numbers : goal.number_stat-returns-in_ok-number_arms-in-If-clause-numbers
 number_stat-returns-in_ok-number_arms-in-If-clause-numbers t c =
