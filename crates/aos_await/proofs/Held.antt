@@ -12,6 +12,7 @@ use Rattle.aos_typed.specs.declared.tree.TElse.TheViews as view
 use Rattle.aos_typed.specs.declared.tree.TExpr.{TExpr}
 use Rattle.aos_typed.specs.declared.tree.TStat.{TStat}
 use Rattle.aos_typed.specs.contracts.tree.TStat.{enum}
+use Rattle.aos_typed.specs.contracts.tree.TElse.{enum as else_enum}
 use Rattle.aos_typed.specs.Program.{Stat, Stats, If, Case, Cases, While, Repeat, Loop, For, Block, With, WithRecord, Else}
 use Rattle.aos_typed.specs.Seen.{seen_place, seen_expr, seen_stat, seen_stats, seen_else, arms_of, cases_of}
 use Rattle.aos_typed.specs.Conditions.{awaited, awaited_in, awaited_in_arms, awaited_in_cases, renumbered, stats_renumbered, arms_renumbered, cases_renumbered}
@@ -194,11 +195,20 @@ module _ (n k m : ℕ) (s : TStat) (at : Pos) (e : TExpr) (cases : Vec TCase Glo
       omega (arith, shown, both, first, behind)
 
 -- ELSE of CASE
-pub else_numbered : (n : ℕ) (o : TElse) (old new : Vec TStat Global) → o ≡ view.Else old → seen_stats new.items ≡ stats_renumbered n (seen_stats old.items) →
-    seen_else (view.Else new) ≡ cases_renumbered n (seen_else o)
-else_numbered n o old new is done =
-    else_seen new ∙ ap (λ l. Else l) done ∙ sym (ap (λ z. cases_renumbered n (seen_else z)) is ∙ ap (cases_renumbered n) (else_seen old))
+module _ (n : ℕ) (o : TElse) (v : ValuesAt else_enum.parts 1) (is : o ≡ at else_enum 1 v) where
+  abbrev else_values : ValuesAt else_enum.parts 1
+  else_values = values_d else_enum 1 v o
 
-pub else_counted : (n m : ℕ) (o : TElse) (old : Vec TStat Global) → o ≡ view.Else old → m ≡ n + length (awaited_in (seen_stats old.items)) → m ≡ n + length (awaited_in_cases (seen_else o))
-else_counted n m o old is done =
-    done ∙ ap (λ l. n + length l) (sym (ap (λ z. awaited_in_cases (seen_else z)) is ∙ ap awaited_in_cases (else_seen old)))
+  else_whole : seen_else o ≡ Else (seen_stats else_values.0.items)
+  else_whole = ap seen_else (made_of else_enum 1 v is) ∙ else_seen else_values.0
+
+  pub else_numbered : (new : Vec TStat Global) → seen_stats new.items ≡ stats_renumbered n (seen_stats else_values.0.items) →
+      seen_else (with_field (λ (b : Vec TStat Global) (q : ValuesAt else_enum.parts 1). view.Else b) (values_o else_enum 1 o) o new) ≡ cases_renumbered n (seen_else o)
+  else_numbered new done =
+      ap seen_else (written (λ (b : Vec TStat Global) (q : ValuesAt else_enum.parts 1). view.Else b) (values_o else_enum 1 o) else_values o new (found else_enum 1 v is))
+      ∙ else_seen new
+      ∙ ap (λ l. Else l) done
+      ∙ sym (ap (cases_renumbered n) else_whole)
+
+  pub else_counted : (m : ℕ) → m ≡ n + length (awaited_in (seen_stats else_values.0.items)) → m ≡ n + length (awaited_in_cases (seen_else o))
+  else_counted m done = done ∙ ap (λ l. n + length l) (sym (ap awaited_in_cases else_whole))

@@ -1,14 +1,11 @@
 -- Statements that hold others, and loops over them, are numbered as the definitions say.
-use Rattle.std.proofs.Common.{◌≡◌, ◌+◌, ◌<◌, ◌≤◌, length, map, slice_index_or, slice_set, Vec, Global, sym, ap, ◌∙◌, arith}
+use Rattle.std.proofs.Common.{◌+◌, ◌<◌, ◌≤◌, length, map, slice_index_or, slice_set, sym, ap, ◌∙◌, arith}
 use Rattle.std.proofs.lemmas.Result.{on_ok_weaker}
 use borrow.Enum.Known.{ValuesAt}
-use borrow.Enum.Total.{values_d, values_o}
-use Rattle.aos_typed.specs.declared.tree.TElse.TheViews as view
-use Rattle.aos_typed.specs.declared.tree.TStat.{TStat}
+use borrow.Enum.Total.{values_d}
 use Rattle.aos_typed.specs.contracts.tree.TStat.{enum}
-use Rattle.aos_typed.specs.contracts.tree.TElse.{enum as else_enum}
 use Rattle.std.specs.Vec.{with_items}
-use Rattle.aos_typed.specs.Seen.{seen_expr, seen_stat, seen_stats, seen_else, arms_of, cases_of}
+use Rattle.aos_typed.specs.Seen.{seen_expr, seen_stat}
 use Rattle.aos_typed.specs.declared.tree.TArm.{out-TArm, roll-TArm}
 use Rattle.aos_typed.specs.declared.tree.TCase.{out-TCase, roll-TCase}
 use Rattle.aos_typed.specs.Conditions.{awaited_in, renumbered, stats_renumbered, arms_renumbered, cases_renumbered}
@@ -16,7 +13,7 @@ use Rattle.aos_await.specs.Counts.{awaits_of_arms, awaits_of_cases, each_from, s
 use Rattle.aos_await.proofs.Each.{left, one_more, one_less, all_done, none_left, stay_behind}
 use Rattle.aos_await.proofs.Passes.{count, sequence, tested, labelled, as_sequence, as_tested, as_labelled, sequence_numbered, sequence_counted, tested_numbered, labelled_numbered}
 use Rattle.aos_await.proofs.Held.{body_numbered, body_counted, held_numbered, held_counted, in_while, in_repeat, in_loop, in_for, in_block, in_with, in_with_record, arms_done, cases_done, if_numbered, if_counted, case_numbered, case_counted, else_numbered, else_counted}
-use Rattle.aos_await.proofs.Written.{made_of, found, written}
+use Rattle.aos_await.proofs.Written.{made_of}
 use Rattle.aos_await.proofs.statements.+numbers.Goals as goal
 
 pub number_stat-returns-in-While-clause-numbers : goal.number_stat-returns-in-While-clause-numbers
@@ -145,21 +142,13 @@ number_stat-returns-in_ok-number_cases-in-Case-clause-next t c =
 
 pub number_else-returns-in-Else-clause-numbers : goal.number_else-returns-in-Else-clause-numbers
 number_else-returns-in-Else-clause-numbers t c =
-    let x = c.in-Else in
-    let v : ValuesAt else_enum.parts 1 = (x.body, tt) in
-    let p = values_d else_enum 1 v c.args.otherwise.now in
     let call = c.number_body in
-    on_ok_weaker call.result
-    (λ e. ap seen_else (written (λ (b : Vec TStat Global) (q : ValuesAt else_enum.parts 1). view.Else b) (values_o else_enum 1 c.args.otherwise.now) p c.args.otherwise.now call.new.body (found else_enum 1 v x.is)) ∙ else_numbered c.args.next.now c.args.otherwise.now p.0 call.new.body (made_of else_enum 1 v x.is) e)
-    call.ensures.numbers
+    on_ok_weaker call.result (else_numbered c.args.next.now c.args.otherwise.now _ c.in-Else.is call.new.body) call.ensures.numbers
 
 pub number_else-returns-in-Else-clause-next : goal.number_else-returns-in-Else-clause-next
 number_else-returns-in-Else-clause-next t c =
-    let x = c.in-Else in
-    let v : ValuesAt else_enum.parts 1 = (x.body, tt) in
-    let p = values_d else_enum 1 v c.args.otherwise.now in
     let call = c.number_body in
-    on_ok_weaker call.result (λ e. else_counted c.args.next.now call.new.next c.args.otherwise.now p.0 (made_of else_enum 1 v x.is) e) call.ensures.next
+    on_ok_weaker call.result (else_counted c.args.next.now c.args.otherwise.now _ c.in-Else.is call.new.next) call.ensures.next
 
 pub number_body-returns-clause-numbers : goal.number_body-returns-clause-numbers
 number_body-returns-clause-numbers t c =
