@@ -6,6 +6,8 @@
 set -euo pipefail
 top=$(cd "$(dirname "${BASH_SOURCE[0]}")/.." && pwd)
 program=${1:-$top/crates/aos_main/out/aos_main}
+# makes the private turns: `rt run -- turns 1` in its crate's folder builds it
+measure=$top/crates/aos_bench/out/aos_bench
 # 500,000 rounds with 4 turns each, but for the store of the last one
 turns=1999999
 # 200,000 rounds with 14 turns and 4 statements each, and what stands round them
@@ -20,7 +22,7 @@ fi
 private_runs() {
     local TIMEFORMAT='%3R %3U %3S'
     for _ in 1 2 3 4 5; do
-        { time "$top/crates/aos_turn_bench/out/aos_turn_bench" "$turns" >/dev/null; } 2>&1
+        { time "$measure" turns "$turns" >/dev/null; } 2>&1
     done | awk '{ print $1, $2 + $3 }'
 }
 
@@ -101,6 +103,6 @@ beside_python() {
 
 beside_python loop Forever 5 "$turns"
 beside_python mixed Mixed 0 "$mixed_turns"
-if [ -x "$top/crates/aos_turn_bench/out/aos_turn_bench" ]; then
+if [ -x "$measure" ]; then
     compare private "$turns" "private turns, over a local variable" "$(private_runs | least)" "$(python_runs loop | least)"
 fi

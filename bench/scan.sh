@@ -76,20 +76,22 @@ printf '%*s' $((size - $(stat -c %s "$folder/text"))) '' >>"$folder/text"
 
 gcc -O2 -o "$folder/by_hand" "$top/bench/scan.c"
 proved=$top/crates/aos_bench/out/aos_bench
-if ! (cd "$top/crates/aos_bench" && rt run -- data/T.Mod 1 >"$folder/log" 2>&1); then
+if ! (cd "$top/crates/aos_bench" && rt run -- scan data/T.Mod 1 >"$folder/log" 2>&1); then
     cat "$folder/log" >&2
     exit 1
 fi
 
-# Runs a program once, and writes its total and its milliseconds into files beside it.
+# Runs a command once over the text, and writes its total and its milliseconds into files of that name.
 run() {
+    local name=$1
+    shift
     TIMEFORMAT='%3U %3S'
-    { time "$2" "$folder/text" "$times" >"$folder/$1.total"; } 2>"$folder/$1.time"
-    awk '{ printf "%d\n", ($1 + $2) * 1000 + 0.5 }' "$folder/$1.time" >>"$folder/$1.all"
+    { time "$@" "$folder/text" "$times" >"$folder/$name.total"; } 2>"$folder/$name.time"
+    awk '{ printf "%d\n", ($1 + $2) * 1000 + 0.5 }' "$folder/$name.time" >>"$folder/$name.all"
 }
 
 for _ in 1 2 3 4 5; do
-    run proved "$proved"
+    run proved "$proved" scan
     run by_hand "$folder/by_hand"
 done
 cmp "$folder/proved.total" "$folder/by_hand.total"

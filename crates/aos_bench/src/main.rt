@@ -1,39 +1,86 @@
-//! Measures how fast a text is scanned: scans a file's text so many times, and prints how many tokens it found in all.
+//! Measures parts of the program by themselves. The words say what is measured and how much of it, and may say so several times,
+//! one behind another; a line on `out` tells what each came to.
+//!
+//! - `scan FILE TIMES` scans a file's text so many times: how many tokens that found in all.
+//! - `lock locks WAITING TIMES`: so many times the owner of a lock leaves it and asks for it again, while so many others wait; and
+//!   `lock deque WAITING TIMES` does the same with a `VecDeque`. Who comes last.
+//! - `kernel WAITING STEPS` makes so many steps of a kernel in which one lock passes from activity to activity, while so many
+//!   others, 1,000 at most, wait to enter: how many wait then.
+//! - `turns TIMES` makes so many turns of an activity on its own frames: how many were made.
 #![tactic(auto)]
 
-ghost use Rattle.std.specs.Prelude.{◌≤◌, ◌^◌, length};
+mod image;
+mod kernel;
+mod lock;
+mod scan;
+mod stop;
+mod turns;
+mod words;
 
-use aos_dev::{FileShelf, Got, Shelf};
-use aos_scan::scan;
+use crate::stop::Stop;
+use aos_dev::{FileShelf, Shelf};
 use std::alloc::Global;
+use std::process::ExitCode;
+use std::rt::{Env, Files};
+use std::slice::Iter;
 use std::{env, io};
 
-// How many tokens the scans found in all, or None where one of them failed.
-fn count_tokens(alloc: Global, text: &[u8], times: u32) -> Option<u64>
-    requires size { length text.now ≤ 2 ^ 20 }
-{
-    let mut total = 0u64;
-    for _ in 0..times {
-        let tokens = scan(alloc, text).ok()?;
-        total = total.saturating_add(tokens.len() as u64);
+// What is measured under a name, by the words behind it.
+fn measured<S: Shelf>(
+    alloc: Global,
+    shelf: &mut S,
+    name: &str,
+    words: &mut Iter<String>,
+) -> Result<u64, Stop> {
+    match name {
+        "scan" => scan::measured(alloc, shelf, words),
+        "lock" => lock::measured(alloc, words),
+        "kernel" => kernel::measured(alloc, words),
+        "turns" => turns::measured(alloc, words),
+        _ => Err(Stop::Usage),
     }
-    Some(total)
 }
 
-fn main(rt: HostRuntime) -> io::Result<()> {
-    let mut words = env::args(&rt)?.skip(1);
-    let (Some(file), Some(times)) = (words.next(), words.next()) else {
-        return Err(io::Error::from(io::ErrorKind::InvalidInput));
-    };
-    let Ok(times) = times.parse::<u32>() else {
-        return Err(io::Error::from(io::ErrorKind::InvalidInput));
-    };
-    let mut text = Vec::new(rt.alloc());
-    if FileShelf::new(&rt).fetch(file.as_str(), 1_048_576, &mut text) != Got::Text {
-        return Err(io::Error::from(io::ErrorKind::NotFound));
+// Measures what these words say, one behind another.
+fn measure_each<R: Print + AllocGlobal, S: Shelf>(
+    rt: &R,
+    shelf: &mut S,
+    words: &[String],
+) -> Result<(), Stop> {
+    let mut words = words.iter();
+    let mut name = words.next().ok_or(Stop::Usage)?;
+    for _ in 0..u64::MAX {
+        let count = measured(rt.alloc(), shelf, name.as_str(), &mut words)?;
+        println!(rt; "{count}")?;
+        let Some(next) = words.next() else {
+            break;
+        };
+        name = next;
     }
-    let Some(total) = count_tokens(rt.alloc(), &text, times) else {
-        return Err(io::Error::from(io::ErrorKind::InvalidData));
-    };
-    println!(rt; "{total}")
+    Ok(())
+}
+
+// The words after the program's name.
+fn given_words<R: Env + AllocGlobal>(rt: &R) -> io::Result<Vec<String>> {
+    Ok(env::args(rt)?.skip(1).collect(rt.alloc())?)
+}
+
+// Measures what the words say that the program is given.
+fn measure<R: Env + Files + Print + AllocGlobal>(rt: &R) -> Result<(), Stop> {
+    let words = given_words(rt)?;
+    measure_each(rt, &mut FileShelf::new(rt), words.as_slice())
+}
+
+// Tells why nothing more is measured, and says what the status is.
+fn stopped<R: Eprint>(rt: &R, stop: Stop) -> u8 {
+    let (status, why) = stop.told();
+    let _written = eprintln!(rt; "{why}");
+    status
+}
+
+fn main(rt: HostRuntime) -> ExitCode {
+    match measure(&rt) {
+        Ok(()) => ExitCode::from(0),
+        Err(stop) => ExitCode::from(stopped(&rt, stop)),
+    }
 }

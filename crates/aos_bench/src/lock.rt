@@ -1,19 +1,20 @@
-//! Measures how fast a lock passes from one to the next: so many times its owner leaves it and asks for it again, while so
-//! many others wait. Beside it a `VecDeque` does the same. Prints who comes last.
-#![tactic(auto)]
+// How fast a lock passes from one to the next: so many times its owner leaves it and asks for it again, while so many others wait.
+// Beside it a `VecDeque` does the same.
 
 ghost use Rattle.std.specs.Prelude.{◌≡◌, ◌+◌, ◌-◌, ◌^◌, ◌<◌, ◌≤◌};
 ghost use Rattle.aos_queue.specs.Lists.{room_of};
-ghost use Rattle.aos_lock_bench.specs.Holder.{Holds, IdleFrom};
+ghost use Rattle.aos_bench.specs.Holder.{Holds, IdleFrom};
 
+use crate::stop::Stop;
+use crate::words::{next_number, next_word};
 use aos_base::{NoMemory, Verdict};
 use aos_lock::{Locks, Test};
 use aos_queue::Links;
 use std::alloc::{AllocError, Global};
 use std::collections::VecDeque;
-use std::{env, io};
+use std::slice::Iter;
 
-/// Nobody awaits a condition.
+// Nobody awaits a condition.
 #[derive(Clone, Copy)]
 struct Never;
 
@@ -31,7 +32,7 @@ impl Test for Never {
     }
 }
 
-/// The owner leaves the lock and asks for it again. Answers who owns it then.
+// The owner leaves the lock and asks for it again. Answers who owns it then.
 fn pass_on(links: &mut Links, locks: &mut Locks, lock: u32, owner: u32) -> u32
     requires { Holds links.old locks.old lock owner }
     ensures { Holds links.new locks.new lock result }
@@ -41,7 +42,7 @@ fn pass_on(links: &mut Links, locks: &mut Locks, lock: u32, owner: u32) -> u32
     heir.unwrap_or(owner)
 }
 
-/// The activities from 1 on ask for the lock, which 0 owns.
+// The activities from 1 on ask for the lock, which 0 owns.
 fn join(links: &mut Links, locks: &mut Locks, lock: u32, waiting: u32)
     requires holds { Holds links.old locks.old lock 0 }
     requires idle { IdleFrom links.old locks.old 1 }
@@ -85,24 +86,17 @@ fn with_deque(alloc: Global, waiting: u32, times: u32) -> Result<u32, AllocError
     Ok(owner)
 }
 
-fn main(rt: HostRuntime) -> io::Result<()> {
-    let mut words = env::args(&rt)?.skip(1);
-    let (Some(kind), Some(waiting), Some(times)) = (words.next(), words.next(), words.next()) else {
-        return Err(io::Error::from(io::ErrorKind::InvalidInput));
-    };
-    let (Ok(waiting), Ok(times)) = (waiting.parse::<u32>(), times.parse::<u32>()) else {
-        return Err(io::Error::from(io::ErrorKind::InvalidInput));
-    };
+/// `locks WAITING TIMES`, or `deque WAITING TIMES`: who owns the lock, or what was taken from the deque, at last.
+pub fn measured(alloc: Global, words: &mut Iter<String>) -> Result<u64, Stop> {
+    let kind = next_word(words)?;
+    let waiting = next_number(words)?;
+    let times = next_number(words)?;
     if waiting == u32::MAX {
-        return Err(io::Error::from(io::ErrorKind::InvalidInput));
+        return Err(Stop::Usage);
     }
-    let last = if kind.as_str() == "locks" {
-        with_locks(rt.alloc(), waiting, times).ok()
-    } else {
-        with_deque(rt.alloc(), waiting, times).ok()
-    };
-    match last {
-        Some(last) => println!(rt; "{last}"),
-        None => Err(io::Error::from(io::ErrorKind::OutOfMemory)),
+    match kind {
+        "locks" => Ok(u64::from(with_locks(alloc, waiting, times)?)),
+        "deque" => Ok(u64::from(with_deque(alloc, waiting, times)?)),
+        _ => Err(Stop::Usage),
     }
 }

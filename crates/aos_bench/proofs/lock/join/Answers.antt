@@ -5,8 +5,8 @@ use Rattle.aos_lock.specs.declared.lock.Entered.TheVariants.{Taken}
 use Rattle.aos_lock.specs.Heirs.{entered_owner}
 use Rattle.aos_lock.specs.Waits.{count_of, owner_of}
 use Rattle.aos_lock.proofs.Idle.{idle_entered}
-use Rattle.aos_lock_bench.proofs.Holders.{owner_again}
-use Rattle.aos_lock_bench.proofs.join.Goals as goal
+use Rattle.aos_bench.proofs.Holders.{owner_again}
+use Rattle.aos_bench.proofs.lock.join.Goals as goal
 
 pub loop-activity-preserved : goal.loop-activity-preserved
 loop-activity-preserved c =

@@ -13,7 +13,7 @@ use Rattle.aos_lock.specs.Heirs.{entered_owner, entered_list}
 use Rattle.aos_lock.specs.Waits.{numbers, lock_at, count_of, owner_of, waiting_in, Belong, WaitsNowhere, KeepsLocks}
 use Rattle.aos_lock.proofs.Changes.{numbers_waiting}
 use Rattle.aos_lock.proofs.Idle.{idle_kept, idle_entered}
-use Rattle.aos_lock_bench.specs.Holder.{Holds}
+use Rattle.aos_bench.specs.Holder.{Holds}
 
 pub reserved_waiting : (links : Links) (locks : Locks) (lock n : ℕ) → Belong links locks → Contains (numbers (waiting_in links locks lock)) n → n < room_of links
 reserved_waiting links locks lock n h i =

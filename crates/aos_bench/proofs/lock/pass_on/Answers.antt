@@ -7,9 +7,9 @@ use Rattle.aos_lock.specs.Waits.{count_of, waiting_in, numbers, WaitsNowhere}
 use Rattle.aos_lock.proofs.Rows.{left_within}
 use Rattle.aos_lock.proofs.Walks.{chosen}
 use Rattle.aos_lock.proofs.Idle.{idle_kept, heir_idle, apart_waiting}
-use Rattle.aos_lock_bench.specs.Holder.{Holds}
-use Rattle.aos_lock_bench.proofs.Holders.{holds_again, reserved_waiting}
-use Rattle.aos_lock_bench.proofs.pass_on.Goals as goal
+use Rattle.aos_bench.specs.Holder.{Holds}
+use Rattle.aos_bench.proofs.Holders.{holds_again, reserved_waiting}
+use Rattle.aos_bench.proofs.lock.pass_on.Goals as goal
 
 pub enter-requires-clause-elsewhere : goal.enter-requires-clause-elsewhere
 enter-requires-clause-elsewhere c =

@@ -1,7 +1,7 @@
 use Rattle.std.proofs.Common.{◌≡◌, ◌+◌}
 use Rattle.aos_queue.specs.Lists.{room_of}
-use Rattle.aos_lock_bench.specs.Holder.{Holds, IdleFrom}
-use Rattle.aos_lock_bench.proofs.join.Given as goal
+use Rattle.aos_bench.specs.Holder.{Holds, IdleFrom}
+use Rattle.aos_bench.proofs.lock.join.Given as goal
 
 abbrev pub invariant-loop-activity : goal.invariant-loop-activity
 invariant-loop-activity l = record {
