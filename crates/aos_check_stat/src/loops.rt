@@ -10,22 +10,28 @@ use aos_base::Pos;
 use aos_check_expr::{
     Class, access, expr, fits, is_number, place_of_variable, refuse_written, type_of_literal,
 };
-use aos_made::Typed;
+use aos_made::{MadePlace, Typed};
 use aos_symbols::{
     Breach, Env, Lookup, Meaning, NOT_BUILT, NOT_EXPORTED, Symbol, UNKNOWN, WRONG_FOR, note,
 };
 use aos_tree::{Expr, Name};
-use aos_typed::{Literal, TPlace};
+use aos_typed::Literal;
 use aos_types::TypeId;
 use std::alloc::{AllocError, Global};
 
 /// What breaks a rule is no variable.
-fn lost(found: &mut Option<Breach>, rule: u16, at: Pos) -> (TPlace, Option<TypeId>)
-    ensures noted { found.new ≡ first_after found.old (judge.lost rule at).breaches }
-    ensures answer { (seen_place result.0, result.1) ≡ (judge.lost rule at).answer }
+fn lost(
+    alloc: Global,
+    found: &mut Option<Breach>,
+    rule: u16,
+    at: Pos,
+) -> Result<(MadePlace, Option<TypeId>), AllocError>
+    ensures noted { OnOk result (found.new ≡ first_after found.old (judge.lost rule at).breaches) }
+    ensures answer { IfOk result (λ r. (seen_place r.0, r.1) ≡ (judge.lost rule at).answer) }
 {
     note(found, rule, at);
-    (TPlace::ModuleVar(0, 0), None)
+    let none = MadePlace::module_variable(alloc, 0, 0)?;
+    Ok((none, None))
 }
 
 /// A variable, which must be of an integer type and may be written; a part of another one isn't built.
@@ -34,9 +40,9 @@ fn control_variable(
     found: &mut Option<Breach>,
     class: Class,
     at: Pos,
-    place: TPlace,
+    place: MadePlace,
     of: Option<TypeId>,
-) -> (TPlace, Option<TypeId>)
+) -> (MadePlace, Option<TypeId>)
     ensures noted { found.new ≡
         first_after found.old (judge.control_variable class at (seen_place place) of).breaches }
     ensures answer { (seen_place result.0, result.1) ≡
@@ -45,7 +51,7 @@ fn control_variable(
     refuse_written(found, class, at);
     if !is_number(of) {
         note(found, WRONG_FOR, at);
-    } else if !is_variable(&place) {
+    } else if !is_variable(place.look()) {
         note(found, NOT_BUILT, at);
     }
     (place, of)
@@ -57,7 +63,7 @@ fn control_meant(
     env: &Env<'_>,
     at: Pos,
     symbol: Symbol,
-) -> Result<(TPlace, Option<TypeId>), AllocError>
+) -> Result<(MadePlace, Option<TypeId>), AllocError>
     ensures noted { OnOk result (found.new ≡ first_after found.old
         (judge.control_meant env.now at symbol symbol.means).breaches) }
     ensures answer { IfOk result (λ r. (seen_place r.0, r.1) ≡
@@ -66,11 +72,11 @@ fn control_meant(
     match symbol.means {
         Meaning::Variable(number) => {
             let of = env.variable_type(symbol.at, number);
-            let place = place_of_variable(alloc, env, symbol, number)?.take();
+            let place = place_of_variable(alloc, env, symbol, number)?;
             let class = access(symbol.at.home == env.number, symbol.mark);
             Ok(control_variable(found, class, at, place, of))
         },
-        _ => Ok(lost(found, WRONG_FOR, at)),
+        _ => lost(alloc, found, WRONG_FOR, at),
     }
 }
 
@@ -80,15 +86,15 @@ pub fn control(
     found: &mut Option<Breach>,
     env: &Env<'_>,
     name: Name,
-) -> Result<(TPlace, Option<TypeId>), AllocError>
+) -> Result<(MadePlace, Option<TypeId>), AllocError>
     ensures noted { OnOk result (found.new ≡
         first_after found.old (judge.control env.now name).breaches) }
     ensures answer { IfOk result (λ r.
         (seen_place r.0, r.1) ≡ (judge.control env.now name).answer) }
 {
     match env.lookup(name) {
-        Lookup::Unknown => Ok(lost(found, UNKNOWN, name.pos)),
-        Lookup::NotExported => Ok(lost(found, NOT_EXPORTED, name.pos)),
+        Lookup::Unknown => lost(alloc, found, UNKNOWN, name.pos),
+        Lookup::NotExported => lost(alloc, found, NOT_EXPORTED, name.pos),
         Lookup::Found(symbol) => control_meant(alloc, found, env, name.pos, symbol),
     }
 }

@@ -14,9 +14,10 @@ use aos_check_expr::{
     Class, Spot, arguments_for, desig_alone, designator, expr, is_number, is_object_type,
     is_pointer_type, made_number, place_of, target_of,
 };
+use aos_made::MadeArguments;
 use aos_symbols::{ARGUMENT_COUNT, Breach, Env, Method, NOT_BUILT, READ_ONLY, WRONG_NEW, note};
 use aos_tree::{Desig, Expr};
-use aos_typed::{TArgument, TExpr, TStat, open_array};
+use aos_typed::{TExpr, TStat, open_array};
 use aos_types::{Signature, TypeId};
 use std::alloc::{AllocError, Global};
 
@@ -157,8 +158,8 @@ fn new_lengths(
 {
     let of = spot.known.of;
     refuse_count(found, env, at, of, lengths.len());
-    let lengths = lengths_of(alloc, found, env, at, of, lengths)?;
     let made = made_type(env, of)?;
+    let lengths = lengths_of(alloc, found, env, at, of, lengths)?;
     Ok(Some(TStat::Make(at, place_of(spot.held), made, lengths)))
 }
 
@@ -171,21 +172,21 @@ fn initialized_by(
     at: Pos,
     signature: Option<&Signature>,
     arguments: &[Expr],
-) -> Result<Vec<TArgument>, AllocError>
+) -> Result<MadeArguments, AllocError>
     ensures noted { OnOk result (found.new ≡ first_after found.old
         (judge.initialized_by env.now at (option_copied signature.entry) arguments.now).breaches) }
-    ensures answer { IfOk result (λ more. seen_list more.items ≡
+    ensures answer { IfOk result (λ more. seen_list more ≡
         (judge.initialized_by env.now at (option_copied signature.entry) arguments.now).answer) }
 {
     match signature {
         Some(signature) => {
             let parameters = signature.parameters.as_slice();
             let handing = arguments_for(alloc, found, env, at, parameters, arguments)?;
-            Ok(handing.given.take())
+            Ok(handing.given)
         },
         None => {
             note(found, NOT_BUILT, at);
-            Ok(Vec::new(alloc))
+            Ok(MadeArguments::new(alloc))
         },
     }
 }
@@ -198,10 +199,10 @@ fn initialized(
     at: Pos,
     initializer: Option<Method>,
     arguments: &[Expr],
-) -> Result<Vec<TArgument>, AllocError>
+) -> Result<MadeArguments, AllocError>
     ensures noted { OnOk result (found.new ≡ first_after found.old
         (judge.initialized env.now at initializer arguments.now).breaches) }
-    ensures answer { IfOk result (λ more. seen_list more.items ≡
+    ensures answer { IfOk result (λ more. seen_list more ≡
         (judge.initialized env.now at initializer arguments.now).answer) }
 {
     match initializer {
@@ -213,7 +214,7 @@ fn initialized(
             if !arguments.is_empty() {
                 note(found, ARGUMENT_COUNT, at);
             }
-            Ok(Vec::new(alloc))
+            Ok(MadeArguments::new(alloc))
         },
     }
 }
@@ -255,9 +256,9 @@ fn new_object(
 {
     let of = spot.known.of;
     let initializer = initializer_of(env, of)?;
-    let given = initialized(alloc, found, env, at, initializer, arguments)?;
     let made = made_type(env, of)?;
-    Ok(Some(TStat::New(at, place_of(spot.held), made, given)))
+    let given = initialized(alloc, found, env, at, initializer, arguments)?;
+    Ok(Some(TStat::New(at, place_of(spot.held), made, given.take())))
 }
 
 /// NEW of a designator that begins at `first`, with these arguments, in a call that begins at a place.

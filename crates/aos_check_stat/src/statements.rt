@@ -395,9 +395,10 @@ fn for_of(
     let to = fitting(alloc, found, env, of, WRONG_FOR, name.pos, to)?;
     let step = step_of(alloc, found, env, name.pos, of, by)?;
     let body = stats_in(alloc, found, env, in_loop, body.stats.as_slice())?;
+    let variable = place.take();
     let first = from.take();
     let last = to.take();
-    Ok(Some(TStat::For(at, width_of(of), place, first, last, step, body)))
+    Ok(Some(TStat::For(at, width_of(of), variable, first, last, step, body)))
 }
 
 /// WITH, whose `:` stands at the second place.

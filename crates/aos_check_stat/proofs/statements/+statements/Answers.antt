@@ -5,7 +5,7 @@ use Rattle.std.proofs.lemmas.Int.{to_z-of_z}
 use Rattle.std.specs.Int.{w64, cast_unsigned as of_z, cast_signed as to_z}
 use Rattle.std.specs.Int.RustNames.{FitsSigned}
 use Rattle.aos_typed.specs.Program.{While, Repeat, Loop, For, Block}
-use Rattle.aos_typed.specs.Seen.{seen_expr, seen_stat, cases_of}
+use Rattle.aos_typed.specs.Seen.{seen_expr, seen_place, seen_stat, cases_of}
 use Rattle.aos_typed.proofs.Seen.{while_seen, repeat_seen, loop_seen, for_seen, block_seen}
 use Rattle.aos_symbols.specs.Breaches.{first_after}
 use Rattle.aos_symbols.proofs.Keeping.{after_more}
@@ -90,13 +90,14 @@ for_of-returns-clause-answer t c =
     let body = c.in_ok-body.ensures.answer ∙ ap (λ l. (parts.listed_in e c.args.in_loop l).answer) c.as_slice.ensures in
     let k = c.in_ok-place.ensures.answer in
     let of = ap (λ z. z.1) k in
+    let variable = ap seen_place c.take-variable.ensures ∙ ap (λ z. z.0) k in
     let from = ap seen_expr c.take-first.ensures ∙ c.in_ok-from.ensures.answer ∙ ap (λ z. (judge.fitting e z 31 c.args.assigned c.args.from.now).answer) of in
     let to = ap seen_expr c.take-last.ensures ∙ c.in_ok-to.ensures.answer ∙ ap (λ z. (judge.fitting e z 48 n.pos c.args.to.now).answer) of in
     let step = c.in_ok-step.ensures.answer ∙ ap (λ z. (judge.step_of e n.pos z c.args.by.now).answer) of in
     let width = c.width_of.ensures ∙ ap width_of of in
     let fits : FitsSigned w64 c.in_ok-step.step = search rules in
-    ap (λ s. Some s) (for_seen c.args.at c.width_of.result c.in_ok-place.place c.take-first.result c.take-last.result (to_z w64 (of_z w64 c.in_ok-step.step)) b
-    ∙ (λ i. For c.args.at (width i) (k i).0 (from i) (to i) ((to_z-of_z w64 c.in_ok-step.step fits ∙ step) i) ((stats_seen b.items ∙ ap listed body) i)))
+    ap (λ s. Some s) (for_seen c.args.at c.width_of.result c.take-variable.result c.take-first.result c.take-last.result (to_z w64 (of_z w64 c.in_ok-step.step)) b
+    ∙ (λ i. For c.args.at (width i) (variable i) (from i) (to i) ((to_z-of_z w64 c.in_ok-step.step fits ∙ step) i) ((stats_seen b.items ∙ ap listed body) i)))
 
 pub loop_of-returns-clause-answer : goal.loop_of-returns-clause-answer
 loop_of-returns-clause-answer t c =
