@@ -7,8 +7,8 @@ use Rattle.std.proofs.lemmas.List.{drop_more, drop_all}
 use Rattle.std.proofs.lemmas.Option.{slice_get_read}
 use Rattle.aos_typed.specs.Program.{Program}
 use Rattle.aos_guard.specs.declared.marks.Edge.{Edge}
-use Rattle.aos_guard.specs.declared.uses.Use.{Use}
-use Rattle.aos_guard.specs.declared.uses.Use.TheVariants.{Raises}
+use Rattle.aos_uses.specs.declared.uses.Use.{Use}
+use Rattle.aos_uses.specs.declared.uses.Use.TheVariants.{Raises}
 use Rattle.aos_guard.specs.Edges.{HasBelow, InTexts, LeadsFrom}
 use Rattle.aos_guard.specs.Guarded.{Each, IsNamed, Keeps, method_of, raised}
 use Rattle.aos_guard.specs.Marks.{IsClosed, IsWithin, marked}

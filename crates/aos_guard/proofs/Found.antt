@@ -5,7 +5,7 @@ use Rattle.std.specs.declared.vec.Vec.{Vec}
 use Rattle.std.specs.declared.alloc.Global.{Global}
 use Rattle.aos_typed.specs.Program.{Program}
 use Rattle.aos_guard.specs.declared.marks.Edge.{Edge}
-use Rattle.aos_guard.specs.declared.uses.Use.{Use}
+use Rattle.aos_uses.specs.declared.uses.Use.{Use}
 use Rattle.aos_guard.specs.Edges.{AreMarks, AreTexts, InTexts}
 use Rattle.aos_guard.specs.Guarded.{IsQuiet, Keeps, is_initial}
 use Rattle.aos_guard.specs.Marks.{IsClosed, IsLeft, IsWithin, marked}

@@ -1,10 +1,10 @@
 -- The quiet initializers are themselves such a set: the largest.
 use Rattle.std.proofs.Common.{ℕ, List, [], ◌∷◌, Bool, IsTrue}
 use Rattle.aos_typed.specs.Program.{Program}
-use Rattle.aos_guard.specs.declared.uses.Use.{Use}
-use Rattle.aos_guard.specs.declared.uses.Use.TheVariants.{Writes, Reads, Varies, Follows, SelfValue, Calls, Raises, Finds, Binds, Makes}
+use Rattle.aos_uses.specs.declared.uses.Use.{Use}
+use Rattle.aos_uses.specs.declared.uses.Use.TheVariants.{Writes, Reads, Varies, Follows, SelfValue, Calls, Raises, Finds, Binds, Makes}
 use Rattle.aos_guard.specs.Guarded.{Each, Keeps, AreQuiet, IsQuiet}
-use Rattle.aos_guard.specs.Uses.{routine_uses}
+use Rattle.aos_uses.specs.Uses.{routine_uses}
 
 module _ (p : Program) where
   -- of each such set

@@ -1,5 +1,3 @@
-pub mod Sizes
-pub mod Said
 pub mod Each
 pub mod Tests
 pub mod Largest
@@ -7,6 +5,5 @@ pub mod Texts
 pub mod Edges
 pub mod Adds
 pub mod Initial
-pub mod Handed
 pub mod Found
 pub mod Tellings

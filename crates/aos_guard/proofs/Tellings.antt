@@ -11,10 +11,10 @@ use Rattle.aos_laid.specs.Routines.{seen_routine, seen_routines}
 use Rattle.aos_laid.specs.declared.awaits.Await.{Await}
 use Rattle.aos_laid.specs.Awaits.{seen_await}
 use Rattle.aos_guard.specs.declared.conditions.Told.{Told}
-use Rattle.aos_guard.specs.declared.uses.Use.{Use}
+use Rattle.aos_uses.specs.declared.uses.Use.{Use}
 use Rattle.aos_guard.specs.Awaits.{AreTold, Tells}
 use Rattle.aos_guard.specs.Guarded.{Each, Lets}
-use Rattle.aos_guard.specs.Uses.{expr_uses}
+use Rattle.aos_uses.specs.Uses.{expr_uses}
 
 -- a condition of this module or procedure, as the code found it
 abbrev pub found_in : (home : ℕ) → Option Procedure → Await → Condition

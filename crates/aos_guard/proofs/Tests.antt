@@ -1,9 +1,12 @@
 -- Answers of tests put together.
-use Rattle.std.proofs.Common.{◌≡◌, ℕ, List, Bool, true, false, IsTrue, ◌⊎◌, inl, inr, refl, ◌∙◌, sym}
-use Rattle.std.specs.Prelude.{◌↔◌, ◌&&◌, ◌||◌, ◌==◌, not}
+use Rattle.std.proofs.Common.{◌≡◌, ℕ, List, length, map, Bool, true, false, IsTrue, ◌⊎◌, inl, inr, refl, ◌∙◌, sym, ap}
+use Rattle.std.specs.Prelude.{◌↔◌, ◌&&◌, ◌||◌, ◌==◌, nat_lt, not}
 use Rattle.std.proofs.lemmas.Bool.{eq-eqb}
 use Rattle.std.proofs.lemmas.Bool.Decides.{eqb_tells}
+use Rattle.std.proofs.lemmas.List.{length-map}
+use Rattle.aos_typed.specs.declared.tree.TVariable.{TVariable}
 use Rattle.aos_typed.specs.Program.{Program}
+use Rattle.aos_typed.specs.Seen.{seen_variable}
 use Rattle.aos_guard.specs.Edges.{AreMarks}
 use Rattle.aos_guard.specs.Guarded.{IsQuiet}
 use Rattle.aos_guard.specs.Marks.{marked}
@@ -61,3 +64,7 @@ field_written p quiet self x m n are is = first_holds self (x || m) (either x m 
     either : (x m : Bool) → m ≡ marked quiet n → IsTrue (x || m) ↔ (IsTrue x ⊎ IsQuiet p n)
     either true m is = (λ holds. inl refl, λ k. refl)
     either false m is = (λ holds. inr ((are n).0 (sym is ∙ holds)), λ k. elim k [ inl fails ↦ absurd (cc fails) | inr q ↦ is ∙ (are n).1 q ])
+
+-- a variable of a module is there
+pub variable_there : (vs : List TVariable) (k n : ℕ) (b : Bool) → n ≡ length vs → b ≡ nat_lt k n → b ≡ nat_lt k (length (map seen_variable vs))
+variable_there vs k n b long is = is ∙ ap (nat_lt k) (long ∙ sym (length-map vs seen_variable))

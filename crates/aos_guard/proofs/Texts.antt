@@ -11,10 +11,10 @@ use Rattle.aos_typed.specs.Program.{Program}
 use Rattle.aos_typed.specs.Routines.{Routine, routines}
 use Rattle.aos_laid.specs.declared.routines.Routine.{Routine as CodeRoutine}
 use Rattle.aos_laid.specs.Routines.{seen_routine, seen_routines}
-use Rattle.aos_guard.specs.declared.uses.Use.{Use}
+use Rattle.aos_uses.specs.declared.uses.Use.{Use}
 use Rattle.aos_guard.specs.Guarded.{Each, InEach}
 use Rattle.aos_guard.specs.Edges.{AreTexts, InTexts}
-use Rattle.aos_guard.specs.Uses.{routine_uses}
+use Rattle.aos_uses.specs.Uses.{routine_uses}
 
 pub some_of : {A : Type 0} {x y : A} → Some x ≡ Some y → x ≡ y
 some_of e = cc e

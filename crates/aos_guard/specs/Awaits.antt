@@ -5,7 +5,7 @@ use Rattle.aos_typed.specs.Conditions.{Condition, conditions}
 use Rattle.aos_typed.specs.Program.{Program}
 use Rattle.aos_guard.specs.declared.conditions.Told.{Told}
 use Rattle.aos_guard.specs.Guarded.{Each, Lets}
-use Rattle.aos_guard.specs.Uses.{expr_uses}
+use Rattle.aos_uses.specs.Uses.{expr_uses}
 
 module _ (p : Program) where
   -- a condition is local: it reads only locals, parameters by value, and guarded variables of the lock under which it is awaited

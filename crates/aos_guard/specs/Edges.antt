@@ -7,10 +7,10 @@ use Rattle.aos_typed.specs.declared.tree.TType.TheVariants.{Named}
 use Rattle.aos_typed.specs.Numbers.{id_of}
 use Rattle.aos_typed.specs.Program.{Program}
 use Rattle.aos_typed.specs.Routines.{routines}
-use Rattle.aos_guard.specs.declared.uses.Use.{Use}
+use Rattle.aos_uses.specs.declared.uses.Use.{Use}
 use Rattle.aos_guard.specs.Guarded.{Each, method_of, IsQuiet}
 use Rattle.aos_guard.specs.Marks.{marked}
-use Rattle.aos_guard.specs.Uses.{routine_uses}
+use Rattle.aos_uses.specs.Uses.{routine_uses}
 
 module _ (p : Program) where
   -- a base of a type, or the type itself, has in a slot what is named

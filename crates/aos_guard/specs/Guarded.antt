@@ -11,11 +11,11 @@ use Rattle.aos_typed.specs.Methods.{own_numbers, slots}
 use Rattle.aos_typed.specs.Numbers.{id_of, procedure_number}
 use Rattle.aos_typed.specs.Program.{Module, Procedure, Program}
 use Rattle.aos_typed.specs.Routines.{Routine, has_self, parameters_of, routines}
-use Rattle.aos_guard.specs.declared.uses.Variable.{Variable}
-use Rattle.aos_guard.specs.declared.uses.Variable.TheVariants as variable
-use Rattle.aos_guard.specs.declared.uses.Use.{Use}
-use Rattle.aos_guard.specs.declared.uses.Use.TheVariants.{Writes, Reads, Varies, Follows, SelfValue, Calls, Raises, Finds, Binds, Makes}
-use Rattle.aos_guard.specs.Uses.{routine_uses}
+use Rattle.aos_uses.specs.declared.uses.Variable.{Variable}
+use Rattle.aos_uses.specs.declared.uses.Variable.TheVariants as variable
+use Rattle.aos_uses.specs.declared.uses.Use.{Use}
+use Rattle.aos_uses.specs.declared.uses.Use.TheVariants.{Writes, Reads, Varies, Follows, SelfValue, Calls, Raises, Finds, Binds, Makes}
+use Rattle.aos_uses.specs.Uses.{routine_uses}
 
 abbrev pub Each : (R : Use → Type 0) → List Use → Type 0
 Each R [] = Unit {0}

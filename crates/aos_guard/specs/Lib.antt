@@ -1,6 +1,4 @@
-pub mod Uses
 pub mod Marks
 pub mod Edges
-pub mod Sizes
 pub mod Guarded
 pub mod Awaits

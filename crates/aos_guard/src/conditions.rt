@@ -9,15 +9,14 @@ ghost use Rattle.aos_laid.specs.Routines.{seen_routine};
 ghost use Rattle.aos_guard.specs.Awaits.{AreInOrder, AreTold, Tells, TellsEach, place_of};
 ghost use Rattle.aos_guard.specs.Edges.{AreMarks, AreTexts};
 
-use crate::exprs::value_uses;
 use crate::guarded::home_of;
 use crate::local::is_local;
 use crate::quiet::quiet_of;
-use crate::stats::texts_of;
-use crate::uses::Use;
 use aos_base::{NoMemory, Pos};
 use aos_laid::{Await, Laid, Routine, awaits_of};
 use aos_typed::Program;
+use aos_uses::uses::Use;
+use aos_uses::{texts_of, value_uses};
 use std::alloc::{AllocError, Global};
 
 /// A condition, by the number of its module in load order and the place of its AWAIT, and whether it is local.

@@ -8,9 +8,9 @@ ghost use Rattle.aos_guard.specs.Edges.{AreMarks, AreTexts};
 ghost use Rattle.aos_guard.specs.Guarded.{Each, InEach, IsDeclared, IsGuarded, IsQuiet, MayWrite, Spares, has_variable, is_of_module};
 
 use crate::marks::has_mark;
-use crate::uses::{Target, Use, Variable};
 use aos_laid::{Laid, Routine, after};
 use aos_typed::TModule;
+use aos_uses::uses::{Target, Use, Variable};
 use std::alloc::AllocError;
 
 /// The number of the module whose text a routine is.
@@ -34,7 +34,7 @@ pub fn has_self(routine: &Routine<'_>) -> bool
 }
 
 // Whether a module has a variable of this number.
-#[tactic(auto, using(crate::proofs::Handed::variable_there))]
+#[tactic(auto, using(crate::proofs::Tests::variable_there))]
 fn has_variable(module: &TModule, number: u32) -> bool
     ensures { result ≡ has_variable (Some (seen_module module.now)) number }
 {

@@ -2,16 +2,11 @@
 #![tactic(auto)]
 
 mod conditions;
-mod exprs;
-mod fronts;
 mod guarded;
 mod laws;
 mod local;
 mod marks;
 mod quiet;
-mod stats;
-mod target;
-pub mod uses;
 
 pub use conditions::{Told, locals};
 pub use laws::law_of_quiet;

@@ -9,9 +9,9 @@ ghost use Rattle.aos_guard.specs.Edges.{AreMarks, AreTexts};
 ghost use Rattle.aos_guard.specs.Guarded.{Each, IsGuarded, Lets, MayRead, is_by_value, is_of_module};
 
 use crate::guarded::{has_self, home_of, is_guarded, is_of_module};
-use crate::uses::{Target, Use, Variable};
 use aos_laid::{Laid, Routine};
 use aos_typed::TParameter;
+use aos_uses::uses::{Target, Use, Variable};
 use std::alloc::AllocError;
 
 // Whether one of these parameters is one by value.

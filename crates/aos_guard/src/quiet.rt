@@ -11,8 +11,8 @@ ghost use Rattle.aos_guard.specs.Guarded.{Each, IsNamed, Keeps, is_initial, is_m
 ghost use Rattle.aos_guard.specs.Marks.{IsClosed, IsWithin, marked};
 
 use crate::marks::{Edge, has_mark, take_back};
-use crate::uses::Use;
 use aos_laid::{Laid, Routine, after};
+use aos_uses::uses::Use;
 use std::alloc::{AllocError, Global};
 
 // What a type has in a slot, as the number of a routine.

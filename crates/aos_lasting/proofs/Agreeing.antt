@@ -25,8 +25,8 @@ use Rattle.aos_typed.specs.Source.{Frame, Turned, all_rooted, answered, done, fr
 use Rattle.aos_places.specs.Shows.{AllShown}
 use Rattle.aos_sim.proofs.Does.{HasTypes}
 use Rattle.aos_guard.specs.Guarded.{IsGuarded, IsQuiet, Spares}
-use Rattle.aos_guard.specs.declared.uses.Use.{Use}
-use Rattle.aos_guard.specs.declared.uses.Variable.{Variable}
+use Rattle.aos_uses.specs.declared.uses.Use.{Use}
+use Rattle.aos_uses.specs.declared.uses.Variable.{Variable}
 use Rattle.aos_handover.specs.Kinds.{IsAsking, IsStored, OneScalar, OneWhole, OneText, Kind, Settled, Stopped, Left, Popped, Told, Written, Stored, Created, Called, Stands}
 use Rattle.aos_naming.specs.Items.{has_mark}
 use Rattle.aos_naming.specs.Naming.{AreOf, IsOf, SelvesOther}

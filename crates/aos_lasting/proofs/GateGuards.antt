@@ -5,10 +5,10 @@ use Rattle.std.proofs.lemmas.Bool.{eqb-true, ltb-true}
 use Rattle.aos_base.specs.Rooted.{by_number}
 use Rattle.aos_typed.specs.Methods.{own_numbers, slots}
 use Rattle.aos_typed.specs.Routines.{Routine, routines}
-use Rattle.aos_guard.specs.declared.uses.Variable.TheVariants as variable
+use Rattle.aos_uses.specs.declared.uses.Variable.TheVariants as variable
 use Rattle.aos_guard.specs.Awaits.{IsLocal}
 use Rattle.aos_guard.specs.Guarded.{Each, IsGuarded, IsNamed, IsQuiet, Keeps, Spares, is_initial, method_of}
-use Rattle.aos_guard.specs.Uses.{routine_uses}
+use Rattle.aos_uses.specs.Uses.{routine_uses}
 use Rattle.aos_lasting.specs.Example.{condition, gates}
 
 -- it holds of these routines, which have the numbers from 0 on

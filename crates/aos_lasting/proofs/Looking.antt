@@ -32,11 +32,11 @@ use Rattle.aos_sim.proofs.Runs as runs
 use Rattle.aos_sim.proofs.States.{shapes_of, top_shape, world_of}
 use Rattle.aos_places.specs.Shows.{Shown}
 use Rattle.aos_guard.specs.Guarded.{IsGuarded, Lets, MayRead, Spares, is_by_value, is_of_module}
-use Rattle.aos_guard.specs.declared.uses.Target.{Target}
-use Rattle.aos_guard.specs.declared.uses.Use.{Use}
-use Rattle.aos_guard.specs.declared.uses.Use.TheVariants as used
-use Rattle.aos_guard.specs.declared.uses.Variable.{Variable}
-use Rattle.aos_guard.specs.declared.uses.Variable.TheVariants as variable
+use Rattle.aos_uses.specs.declared.uses.Target.{Target}
+use Rattle.aos_uses.specs.declared.uses.Use.{Use}
+use Rattle.aos_uses.specs.declared.uses.Use.TheVariants as used
+use Rattle.aos_uses.specs.declared.uses.Variable.{Variable}
+use Rattle.aos_uses.specs.declared.uses.Variable.TheVariants as variable
 use Rattle.aos_naming.specs.Naming.{StoreIs, VariablesAre}
 use Rattle.aos_naming.proofs.Values.{known_is, length_is, value_is}
 use Rattle.aos_lasting.specs.Agree.{AgreeOn, AreSame, IsSame}

@@ -17,10 +17,10 @@ use Rattle.aos_typed.specs.Store.{Store, made_in, store_with}
 use Rattle.aos_typed.specs.Value.{Value}
 use Rattle.aos_typed.specs.Meaning.{Item, Do, Rounds, Round, Until, Region, End, Gives}
 use Rattle.aos_typed.specs.Source.{Frame, lock_of, locks_in, own_lock, regions_of}
-use Rattle.aos_guard.specs.declared.uses.Target.{Target}
-use Rattle.aos_guard.specs.declared.uses.Use.TheVariants as used
-use Rattle.aos_guard.specs.declared.uses.Variable.{Variable}
-use Rattle.aos_guard.specs.declared.uses.Variable.TheVariants as variable
+use Rattle.aos_uses.specs.declared.uses.Target.{Target}
+use Rattle.aos_uses.specs.declared.uses.Use.TheVariants as used
+use Rattle.aos_uses.specs.declared.uses.Variable.{Variable}
+use Rattle.aos_uses.specs.declared.uses.Variable.TheVariants as variable
 use Rattle.aos_guard.specs.Guarded.{IsGuarded, IsQuiet, MayWrite, Spares, is_of_module}
 use Rattle.aos_naming.specs.Items.{has_mark}
 use Rattle.aos_naming.proofs.Building.{SameTexts, NoFrames, OneMore}

@@ -21,9 +21,9 @@ use Rattle.aos_typed.specs.Meaning.{Here, Question, Doing, Item, Do, Rounds, Rou
 use Rattle.aos_typed.specs.Source.{Frame, all_rooted, answered, arguments_in, called_frame, here_of, local_part, noted, self_of, told}
 use Rattle.aos_sim.proofs.Does.{HasTypes, Given, Handles, IsCalledOn, IsSelf, self_grows}
 use Rattle.aos_guard.specs.Guarded.{IsGuarded, Spares}
-use Rattle.aos_guard.specs.declared.uses.Use.{Use}
-use Rattle.aos_guard.specs.declared.uses.Variable.{Variable as GuardedVariable}
-use Rattle.aos_guard.specs.Uses.{expr_uses, stats_uses}
+use Rattle.aos_uses.specs.declared.uses.Use.{Use}
+use Rattle.aos_uses.specs.declared.uses.Variable.{Variable as GuardedVariable}
+use Rattle.aos_uses.specs.Uses.{expr_uses, stats_uses}
 use Rattle.aos_handover.specs.Kinds.{answer_in, follow, so_far, IsAsking, IsNext, Stood, Followed, AnotherRound, Repeated, Behind, HasHad, Rests, Begins, GoesOn, Tested, IsLeft, AtEnd, AtResult, Nowhere, Stands}
 use Rattle.aos_naming.specs.Items.{has_mark, item_uses, ItemsFine}
 use Rattle.aos_naming.specs.Naming.{AllAre, ContentIs, IsOf, StoreIs, VariablesAre}

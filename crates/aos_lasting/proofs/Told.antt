@@ -20,8 +20,8 @@ use Rattle.aos_typed.specs.Meaning.{Here, Question, Doing, Item, Do, Rounds, Rou
 use Rattle.aos_typed.specs.Source.{known, length_in, object_place, has_type_in, noted, type_in}
 use Rattle.aos_sim.proofs.Does.{HasTypes, IsSelf, bind_val}
 use Rattle.aos_guard.specs.Guarded.{IsGuarded, Spares}
-use Rattle.aos_guard.specs.declared.uses.Use.{Use}
-use Rattle.aos_guard.specs.declared.uses.Variable.{Variable}
+use Rattle.aos_uses.specs.declared.uses.Use.{Use}
+use Rattle.aos_uses.specs.declared.uses.Variable.{Variable}
 use Rattle.aos_naming.specs.Naming.{ContentIs}
 use Rattle.aos_naming.proofs.Values.{Simply, known_is, length_is}
 use Rattle.aos_lasting.specs.Spots.{IsFree, IsFreeAt, IsMadeFor, IsTold, AreTold, Serves, StandsFor}

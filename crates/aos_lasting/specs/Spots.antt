@@ -20,9 +20,9 @@ use Rattle.aos_typed.specs.Value.{Value, Int, Flag, Char, Set, Object, Callable,
 use Rattle.aos_typed.specs.Meaning.{Question, Doing, instance_in, object_in, on_instance, place_in, procedure_in}
 use Rattle.aos_typed.specs.Source.{arguments_in, object_place}
 use Rattle.aos_typed.specs.WellTyped.{is_reference, target}
-use Rattle.aos_guard.specs.declared.uses.Target.{Target}
-use Rattle.aos_guard.specs.declared.uses.Variable.{Variable}
-use Rattle.aos_guard.specs.declared.uses.Variable.TheVariants as variable
+use Rattle.aos_uses.specs.declared.uses.Target.{Target}
+use Rattle.aos_uses.specs.declared.uses.Variable.{Variable}
+use Rattle.aos_uses.specs.declared.uses.Variable.TheVariants as variable
 use Rattle.aos_guard.specs.Guarded.{IsGuarded, is_by_value}
 
 abbrev pub InFrame : Root → Type 0

@@ -21,10 +21,10 @@ use Rattle.aos_typed.specs.WellTyped.{IsPlaceOf, IsOf, AreRows, IsInitialized, I
 use Rattle.aos_typed.specs.Meaning.{Here, Question, Doing, Item, Do, Rounds, Round, Until, Region, End, Gives, After, Into, Exits, Returns, items_of, block_items, is_in, place_of, rows_of, value_of, values_of, arguments_of, called, changed, case_of, arms_of, out_of, stat_of, item_of, initialized, carried_out, until, next_value}
 use Rattle.aos_typed.specs.Source.{Frame, here_of}
 use Rattle.aos_sim.proofs.Changes.{includes_itself}
-use Rattle.aos_guard.specs.declared.uses.Use.{Use}
-use Rattle.aos_guard.specs.declared.uses.Use.TheVariants as used
+use Rattle.aos_uses.specs.declared.uses.Use.{Use}
+use Rattle.aos_uses.specs.declared.uses.Use.TheVariants as used
 use Rattle.aos_guard.specs.Guarded.{Each, IsQuiet, Keeps}
-use Rattle.aos_guard.specs.Uses.{arms_uses, arguments_uses, cases_uses, expr_uses, initial_number, is_begun, makes, out_uses, place_uses, rows_target, rows_uses, stat_uses, stats_uses, target, values_uses, written}
+use Rattle.aos_uses.specs.Uses.{arms_uses, arguments_uses, cases_uses, expr_uses, initial_number, is_begun, makes, out_uses, place_uses, rows_target, rows_uses, stat_uses, stats_uses, target, values_uses, written}
 use Rattle.aos_handover.specs.Kinds.{IsAsking}
 use Rattle.aos_naming.specs.Items.{has_mark, item_uses, IsText, AreFine, ItemsFine}
 use Rattle.aos_naming.specs.Naming.{AllAre, AnswersAre, ResultIs, ItemsAre, FrameIs}

@@ -7,10 +7,10 @@ use Rattle.aos_typed.specs.Program.{Program}
 use Rattle.aos_typed.specs.Routines.{Routine}
 use Rattle.aos_typed.specs.WellTyped.{IsPlaceOf, IsOf, IsStatement, AreStatements}
 use Rattle.aos_typed.specs.Meaning.{Item, Do, Rounds, Round, Until, Region, End, Gives}
-use Rattle.aos_guard.specs.declared.uses.Use.{Use}
-use Rattle.aos_guard.specs.declared.uses.Variable.{Variable}
+use Rattle.aos_uses.specs.declared.uses.Use.{Use}
+use Rattle.aos_uses.specs.declared.uses.Variable.{Variable}
 use Rattle.aos_guard.specs.Guarded.{Each, IsGuarded, IsQuiet, Keeps, Spares}
-use Rattle.aos_guard.specs.Uses.{expr_uses, stat_uses, stats_uses, written}
+use Rattle.aos_uses.specs.Uses.{expr_uses, stat_uses, stats_uses, written}
 
 -- a region is open around the items: its mark stands among them
 abbrev pub has_mark : List Item → Bool

@@ -1,18 +1,17 @@
 -- What is handed over, one argument behind the other, and the parameters of what is called.
 use Rattle.std.proofs.Common.{◌≡◌, ◌<◌, ◌≤◌, ◌+◌, ℕ, suc, List, ◌∷◌, ◌++◌, length, drop, get_or, sym, ap, ◌∙◌, arith}
-use Rattle.std.proofs.lemmas.List.{drop_more, length-map}
+use Rattle.std.proofs.lemmas.List.{drop_more}
 use Rattle.std.proofs.lemmas.Option.{slice_get-map}
-use Rattle.std.specs.Prelude.{nat_lt, map, Bool, false, Option, Some, None, slice_get, option_map, option_and_then, ◌-◌}
+use Rattle.std.specs.Prelude.{Bool, false, Option, Some, None, slice_get, option_map, option_and_then, ◌-◌}
 use Rattle.std.specs.Option.{unwrap_or}
 use Rattle.aos_typed.specs.Routines.{Routine, parameters_of, routines}
 use Rattle.aos_laid.specs.declared.routines.Routine.{Routine as CodeRoutine}
 use Rattle.aos_laid.specs.Routines.{seen_routine, seen_routines}
 use Rattle.aos_typed.specs.declared.tree.TArgument.{TArgument}
 use Rattle.aos_typed.specs.Program.{Arguments, Program}
-use Rattle.aos_typed.specs.declared.tree.TVariable.{TVariable}
-use Rattle.aos_typed.specs.Seen.{seen_argument, seen_list, seen_variable}
-use Rattle.aos_guard.specs.declared.uses.Use.{Use}
-use Rattle.aos_guard.specs.Uses.{arguments_uses, is_variable}
+use Rattle.aos_typed.specs.Seen.{seen_argument, seen_list}
+use Rattle.aos_uses.specs.declared.uses.Use.{Use}
+use Rattle.aos_uses.specs.Uses.{arguments_uses, is_variable}
 
 module _ (p : Program) (n : ℕ) (as' : List TArgument) (i : ℕ) where
   pub arguments_next : (a : TArgument) (old new all : List Use) → i < length as' → a ≡ get_or as' i a → ((more : Arguments) → new ++ arguments_uses p n (suc i) more ≡ old ++ arguments_uses p n i (seen_argument a more)) → old ++ arguments_uses p n i (seen_list (drop i as')) ≡ all → new ++ arguments_uses p n (i + 1) (seen_list (drop (i + 1) as')) ≡ all
@@ -42,7 +41,3 @@ module _ (p : Program) (rs : List CodeRoutine) (are : seen_routines rs ≡ routi
   reference_none some at =
       let e : n ≡ suc (n - 1) = omega (arith, some) in
       sym (numbered (n - 1) e ∙ ap (λ o. of_own (option_map seen_routine o)) at)
-
--- A variable of a module is there.
-pub variable_there : (vs : List TVariable) (k n : ℕ) (b : Bool) → n ≡ length vs → b ≡ nat_lt k n → b ≡ nat_lt k (length (map seen_variable vs))
-variable_there vs k n b long is = is ∙ ap (nat_lt k) (long ∙ sym (length-map vs seen_variable))

@@ -3,10 +3,10 @@ use Rattle.std.specs.Prelude.{◌||◌}
 use Rattle.std.proofs.lemmas.Result.{on_ok_weaker}
 use Rattle.aos_typed.specs.Seen.{seen_expr, seen_place, seen_program, seen_stat, seen_stats, seen_else, arms_of, cases_of}
 use Rattle.aos_typed.proofs.Seen.{if_seen, case_seen, while_seen, repeat_seen, loop_seen, for_seen, block_seen, with_seen, with_record_seen}
-use Rattle.aos_guard.proofs.Said.{said, said_behind}
+use Rattle.aos_uses.proofs.Said.{said, said_behind}
 use Rattle.aos_laid.proofs.Heights.{within, arms_within, cases_within}
-use Rattle.aos_guard.specs.Uses.{arms_uses, cases_uses, expr_uses, place_uses, stats_uses, written}
-use Rattle.aos_guard.proofs.stats.+stat_uses.Goals as goal
+use Rattle.aos_uses.specs.Uses.{arms_uses, cases_uses, expr_uses, place_uses, stats_uses, written}
+use Rattle.aos_uses.proofs.stats.+stat_uses.Goals as goal
 
 pub stat_uses-arms_uses-requires : goal.stat_uses-arms_uses-requires
 stat_uses-arms_uses-requires t c =

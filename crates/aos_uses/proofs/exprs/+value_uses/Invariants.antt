@@ -2,9 +2,9 @@
 use Rattle.std.proofs.Common.{◌≡◌, ◌≤◌, ◌+◌, ◌*◌, ◌++◌, suc, drop}
 use Rattle.aos_typed.specs.Program.{NoMore}
 use Rattle.aos_typed.specs.Seen.{seen_place, seen_rows, seen_argument, seen_list, seen_callee, seen_expr, seen_program}
-use Rattle.aos_guard.specs.Sizes.{place_size, rows_size, arguments_size, callee_size, value_size, front_size, rest_size, front_uses, rest_uses}
-use Rattle.aos_guard.specs.Uses.{arguments_uses}
-use Rattle.aos_guard.proofs.exprs.+value_uses.Given as goal
+use Rattle.aos_uses.specs.Sizes.{place_size, rows_size, arguments_size, callee_size, value_size, front_size, rest_size, front_uses, rest_uses}
+use Rattle.aos_uses.specs.Uses.{arguments_uses}
+use Rattle.aos_uses.proofs.exprs.+value_uses.Given as goal
 
 -- the uses so far and those of what is left are those of all, and what is left is no more
 abbrev pub invariant-front_uses-loop-rest : goal.invariant-front_uses-loop-rest

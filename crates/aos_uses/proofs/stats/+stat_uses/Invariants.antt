@@ -2,8 +2,8 @@
 use Rattle.std.proofs.Common.{◌≡◌, ◌+◌, ◌*◌, ◌++◌, drop}
 use Rattle.aos_typed.specs.Seen.{seen_stat, seen_stats, seen_else, seen_program, arms_of, cases_of}
 use Rattle.aos_laid.proofs.Heights.{height, heights, arms_height, cases_height}
-use Rattle.aos_guard.specs.Uses.{arms_uses, cases_uses, stats_uses}
-use Rattle.aos_guard.proofs.stats.+stat_uses.Given as goal
+use Rattle.aos_uses.specs.Uses.{arms_uses, cases_uses, stats_uses}
+use Rattle.aos_uses.proofs.stats.+stat_uses.Given as goal
 
 -- the uses so far and those of the rest are those of all
 abbrev pub invariant-stats_uses-loop-statement : goal.invariant-stats_uses-loop-statement

@@ -3,8 +3,8 @@
 ghost use Rattle.std.specs.Prelude.{◌≡◌, ◌≤◌, IfOk};
 ghost use Rattle.aos_typed.specs.Program.{Field};
 ghost use Rattle.aos_typed.specs.Seen.{seen_expr, seen_place, seen_program, seen_rows};
-ghost use Rattle.aos_guard.specs.Sizes.{front_size, front_target, place_size, rest_size, rest_target, rows_size};
-ghost use Rattle.aos_guard.specs.Uses.{is_own, is_self, plainly, rows_target, target};
+ghost use Rattle.aos_uses.specs.Sizes.{front_size, front_target, place_size, rest_size, rest_target, rows_size};
+ghost use Rattle.aos_uses.specs.Uses.{is_own, is_self, plainly, rows_target, target};
 
 use crate::fronts::Front;
 use crate::uses::{Target, Variable};

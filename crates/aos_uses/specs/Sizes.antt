@@ -2,12 +2,12 @@
 use Rattle.std.specs.Prelude.{ℕ, suc, ◌+◌, Option, Some, None, List, []}
 use Rattle.aos_typed.specs.Program.{Place, ModuleVar, Local, Passed, Field, Index, Of, Deref, Typed, Guarded, Rows, Known, Opened, Row, Spread, Longer, Arguments, NoMore, Scalar, Whole, Opening, Callee, Plain, Dispatched, Upper, Through, Expr, Lit, SelfRef, Read, Unary, Binary, And, Or, Element, Ord, Chr, CompareTexts, Len, LenBehind, Function, Same, Is, IsRecord, Guard, ProcedureOf, MethodOf, SameProcedure, Had, Program}
 use Rattle.aos_typed.specs.Seen.{seen_place, seen_rows, seen_expr}
-use Rattle.aos_guard.specs.declared.fronts.Front.{Front}
-use Rattle.aos_guard.specs.declared.fronts.Front.TheVariants.{Value, Place as Located, Rows as Spanned}
-use Rattle.aos_guard.specs.declared.uses.Target.{Target}
-use Rattle.aos_guard.specs.declared.uses.Use.{Use}
-use Rattle.aos_guard.specs.declared.uses.Variable.TheVariants.{Heap}
-use Rattle.aos_guard.specs.Uses.{plainly, target, rows_target, place_uses, rows_uses, expr_uses}
+use Rattle.aos_uses.specs.declared.fronts.Front.{Front}
+use Rattle.aos_uses.specs.declared.fronts.Front.TheVariants.{Value, Place as Located, Rows as Spanned}
+use Rattle.aos_uses.specs.declared.uses.Target.{Target}
+use Rattle.aos_uses.specs.declared.uses.Use.{Use}
+use Rattle.aos_uses.specs.declared.uses.Variable.TheVariants.{Heap}
+use Rattle.aos_uses.specs.Uses.{plainly, target, rows_target, place_uses, rows_uses, expr_uses}
 
 abbrev mutual
   pub place_size : Place → ℕ

@@ -1,8 +1,8 @@
 -- What a statement uses, by what it is seen as.
 use Rattle.std.proofs.Common.{◌≡◌, List, ◌++◌, Bool, sym, ap, ◌∙◌, append_assoc}
 use Rattle.aos_typed.specs.Program.{Program, Stat}
-use Rattle.aos_guard.specs.declared.uses.Use.{Use}
-use Rattle.aos_guard.specs.Uses.{stat_uses}
+use Rattle.aos_uses.specs.declared.uses.Use.{Use}
+use Rattle.aos_uses.specs.Uses.{stat_uses}
 
 module _ (p : Program) (x : Bool) (base : List Use) where
   pub said : (new part : List Use) (s t : Stat) → part ≡ stat_uses p x t → s ≡ t → new ≡ base ++ part → new ≡ base ++ stat_uses p x s

@@ -3,8 +3,8 @@ use Rattle.std.proofs.Common.{◌≡◌, ◌++◌, drop, map}
 use Rattle.aos_typed.specs.Routines.{routines}
 use Rattle.aos_typed.specs.Seen.{seen_program}
 use Rattle.aos_laid.specs.Routines.{seen_routines}
-use Rattle.aos_guard.specs.Uses.{routine_uses}
-use Rattle.aos_guard.proofs.stats.texts_of.Given as goal
+use Rattle.aos_uses.specs.Uses.{routine_uses}
+use Rattle.aos_uses.proofs.stats.texts_of.Given as goal
 
 -- the texts so far and those of the rest are all
 abbrev pub invariant-loop-routine : goal.invariant-loop-routine

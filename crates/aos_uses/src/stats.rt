@@ -5,7 +5,7 @@ ghost use Rattle.aos_typed.specs.Methods.{initializer};
 ghost use Rattle.aos_typed.specs.Routines.{routines};
 ghost use Rattle.aos_typed.specs.Seen.{seen_place, seen_rows, seen_list, seen_expr, seen_call, seen_stat, seen_stats, seen_else, seen_program, arms_of, cases_of};
 ghost use Rattle.aos_laid.specs.Routines.{seen_routine};
-ghost use Rattle.aos_guard.specs.Uses.{arguments_uses, arms_uses, cases_uses, expr_uses, initial_number, makes, out_uses, place_uses, result_uses, routine_uses, rows_target, rows_uses, stat_uses, stats_uses, target, values_uses, written};
+ghost use Rattle.aos_uses.specs.Uses.{arguments_uses, arms_uses, cases_uses, expr_uses, initial_number, makes, out_uses, place_uses, result_uses, routine_uses, rows_target, rows_uses, stat_uses, stats_uses, target, values_uses, written};
 
 use crate::exprs::{arguments_uses, array_read, call_uses, place_uses, put, rows_uses, value_uses};
 use crate::target::{array_target, place_target};

@@ -8,11 +8,11 @@ use Rattle.aos_typed.specs.Methods.{body_type, initializer, method_number}
 use Rattle.aos_typed.specs.Numbers.{id_of, body_number, procedure_number}
 use Rattle.aos_typed.specs.Program.{Place, ModuleVar, Local, Passed, Field, Index, Of, Deref, Typed, Guarded, Rows, Known, Opened, Row, Spread, Longer, Arguments, NoMore, Scalar, Whole, Opening, Callee, Plain, Dispatched, Upper, Through, Expr, Lit, SelfRef, Read, Unary, Binary, And, Or, Element, Ord, Chr, CompareTexts, Len, LenBehind, Function, Same, Is, IsRecord, Guard, ProcedureOf, MethodOf, SameProcedure, Had, Call, Open, Char, Int, String, Ln, Stat, Assign, Copy, PutText, If, Case, While, Repeat, Loop, Exit, For, Block, Await, Assert, Halt, Change, Perform, Return, New, Make, With, WithRecord, Out, Stats, Nothing, Then, Arms, Otherwise, Arm, Cases, NoElse, Else, OfLabels, Program}
 use Rattle.aos_typed.specs.Routines.{Routine, parameters_at}
-use Rattle.aos_guard.specs.declared.uses.Variable.{Variable}
-use Rattle.aos_guard.specs.declared.uses.Variable.TheVariants as variable
-use Rattle.aos_guard.specs.declared.uses.Target.{Target}
-use Rattle.aos_guard.specs.declared.uses.Use.{Use}
-use Rattle.aos_guard.specs.declared.uses.Use.TheVariants.{Writes, Reads, Varies, Follows, SelfValue, Calls, Raises, Finds, Binds, Makes}
+use Rattle.aos_uses.specs.declared.uses.Variable.{Variable}
+use Rattle.aos_uses.specs.declared.uses.Variable.TheVariants as variable
+use Rattle.aos_uses.specs.declared.uses.Target.{Target}
+use Rattle.aos_uses.specs.declared.uses.Use.{Use}
+use Rattle.aos_uses.specs.declared.uses.Use.TheVariants.{Writes, Reads, Varies, Follows, SelfValue, Calls, Raises, Finds, Binds, Makes}
 
 -- SELF, and the object whose method or body it is with its fields
 abbrev pub is_self : Expr → Bool

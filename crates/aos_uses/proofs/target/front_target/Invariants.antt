@@ -1,8 +1,8 @@
 -- What the loop of front_target keeps.
 use Rattle.std.proofs.Common.{◌≡◌, ◌≤◌, suc}
 use Rattle.aos_typed.specs.Seen.{seen_program}
-use Rattle.aos_guard.specs.Sizes.{front_size, front_target, rest_size, rest_target}
-use Rattle.aos_guard.proofs.target.front_target.Given as goal
+use Rattle.aos_uses.specs.Sizes.{front_size, front_target, rest_size, rest_target}
+use Rattle.aos_uses.proofs.target.front_target.Given as goal
 
 -- what is left names the same variable, and is no more
 abbrev pub invariant-loop-rest : goal.invariant-loop-rest

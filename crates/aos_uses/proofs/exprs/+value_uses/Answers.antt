@@ -2,9 +2,9 @@ use Rattle.std.proofs.Common.{◌++◌, sym, ap, ◌∙◌, rules}
 use Rattle.std.proofs.lemmas.Result.{IfOk-weaker}
 use Rattle.aos_typed.specs.Seen.{seen_list, seen_callee, seen_expr, seen_program}
 use Rattle.aos_typed.proofs.Seen.{function_seen}
-use Rattle.aos_guard.specs.Uses.{call_uses, expr_uses}
-use Rattle.aos_guard.proofs.Sizes.{call_within}
-use Rattle.aos_guard.proofs.exprs.+value_uses.Goals as goal
+use Rattle.aos_uses.specs.Uses.{call_uses, expr_uses}
+use Rattle.aos_uses.proofs.Sizes.{call_within}
+use Rattle.aos_uses.proofs.exprs.+value_uses.Goals as goal
 
 pub value_end-call_end-requires : goal.value_end-call_end-requires
 value_end-call_end-requires t c =

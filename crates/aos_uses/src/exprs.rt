@@ -6,8 +6,8 @@ ghost use Rattle.aos_typed.specs.Program.{Arguments, MethodOf, Program};
 ghost use Rattle.aos_typed.specs.Routines.{parameters_of};
 ghost use Rattle.aos_laid.specs.Routines.{seen_routine};
 ghost use Rattle.aos_typed.specs.Seen.{seen_argument, seen_callee, seen_expr, seen_list, seen_parameter, seen_place, seen_program, seen_rows};
-ghost use Rattle.aos_guard.specs.Sizes.{callee_size, front_size, front_uses, place_size, rest_size, rest_uses, rows_size, value_size};
-ghost use Rattle.aos_guard.specs.Uses.{arguments_uses, call_uses, called, callee_number, expr_uses, follows, is_variable, place_uses, receiver_uses, rows_target, rows_uses, target, varies};
+ghost use Rattle.aos_uses.specs.Sizes.{callee_size, front_size, front_uses, place_size, rest_size, rest_uses, rows_size, value_size};
+ghost use Rattle.aos_uses.specs.Uses.{arguments_uses, call_uses, called, callee_number, expr_uses, follows, is_variable, place_uses, receiver_uses, rows_target, rows_uses, target, varies};
 
 use crate::fronts::Front;
 use crate::target::{array_target, is_own, is_self, place_target};

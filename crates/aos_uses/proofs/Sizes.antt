@@ -4,7 +4,7 @@ use Rattle.aos_typed.specs.declared.tree.TArgument.{TArgument}
 use Rattle.aos_typed.specs.declared.tree.TArgument.TheVariants as argument
 use Rattle.aos_typed.specs.declared.tree.TExpr.{TExpr}
 use Rattle.aos_typed.specs.Program.{Arguments, NoMore, Callee, Function}
-use Rattle.aos_guard.specs.Sizes.{arguments_size, callee_size, value_size}
+use Rattle.aos_uses.specs.Sizes.{arguments_size, callee_size, value_size}
 use Rattle.aos_typed.specs.Seen.{seen_argument, seen_list, seen_expr}
 
 -- an argument alone is no more than it is before others, and what is behind it is less
