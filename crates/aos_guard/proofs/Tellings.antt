@@ -5,7 +5,7 @@ use Rattle.std.specs.List.{flat_map}
 use Rattle.std.proofs.lemmas.List.{drop_more, drop_all}
 use Rattle.aos_typed.specs.Conditions.{Awaited, Condition, condition_in, conditions, conditions_of}
 use Rattle.aos_typed.specs.Program.{Procedure, Program}
-use Rattle.aos_typed.specs.Routines.{Routine, routines}
+use Rattle.aos_typed.specs.Routines.{routines}
 use Rattle.aos_laid.specs.declared.routines.Routine.{Routine as CodeRoutine}
 use Rattle.aos_laid.specs.Routines.{seen_routine, seen_routines}
 use Rattle.aos_laid.specs.declared.awaits.Await.{Await}
