@@ -1,5 +1,5 @@
 -- Types and fields as they are written, form by form.
-use Rattle.std.proofs.Common.{◌≡◌, suc, List, [], ◌∷◌, ◌++◌, length, Option, None, Bool, true, false, ◌&&◌, ◌==◌, refl, ap, ◌∙◌, arith, append-nil}
+use Rattle.std.proofs.Common.{◌≡◌, suc, List, [], ◌∷◌, ◌++◌, length, Option, None, Bool, true, false, ◌&&◌, ◌==◌, refl, ap, ◌∙◌, arith}
 use Rattle.std.proofs.lemmas.Bool.Decides.{nat_tests}
 use denote.Hole.Carrier.{hidden}
 use Rattle.aos_base.specs.declared.text.Pos.{Pos}
@@ -15,7 +15,6 @@ use Rattle.aos_tree.specs.declared.decl.Decl.TheBlock.{hidden-the_row-VarDef-1, 
 use Rattle.aos_tree.specs.declared.decl.TypeExpr.{TypeExpr, Row_of-Fields, end_of-Fields, more_of-Fields, items-the_row-Fields, items_hidden-the_row-Fields-4}
 use Rattle.aos_tree.specs.declared.decl.TypeExpr.TheVariants as type
 use Rattle.aos_types.specs.declared.row.TypeId.{TypeId}
-use Rattle.aos_symbols.specs.declared.breach.Breach.{Breach}
 use Rattle.aos_symbols.specs.declared.env.Env.{Env}
 use Rattle.aos_symbols.specs.Scope.{empty}
 use Rattle.aos_symbols.specs.Judged.{Judged, judged, kept, bind, walk}
@@ -54,30 +53,23 @@ led slot e p t = refl
 
 -- an array with at least one length
 pub array_met : (may_be_open : Bool) (slot : Option TypeId) (e : Env) (t : TypeExpr) (p : Pos) (ls : List Expr) (element : TypeExpr) → t ≡ type.Array p ls element → (length ls == 0) ≡ false →
-    type_in may_be_open slot e t
-    ≡ judged ((lengths_of e ls).breaches ++ (type_in false None e element).breaches) (arrays slot p (lengths_of e ls).answer (type_in false None e element).answer)
+    type_in may_be_open slot e t ≡ bind (lengths_of e ls) (λ ns. bind (type_in false None e element) (λ m. kept (arrays slot p ns m)))
 array_met may_be_open slot e t p ls element is some = ap (type_in may_be_open slot e) is ∙ ap (λ j. array_in may_be_open slot e p ls j) (held (may_be_open && is_empty ls) e element) ∙ by may_be_open ls some
   where
-    lengths : (may_be_open : Bool) (l : Expr) (ls : List Expr) → array_in may_be_open slot e p (l ∷ ls) (type_in false None e element)
-        ≡ judged ((lengths_of e (l ∷ ls)).breaches ++ (type_in false None e element).breaches) (arrays slot p (lengths_of e (l ∷ ls)).answer (type_in false None e element).answer)
-    lengths may_be_open l ls =
-        ap (λ (bs : List Breach). judged ((lengths_of e (l ∷ ls)).breaches ++ bs) (arrays slot p (lengths_of e (l ∷ ls)).answer (type_in false None e element).answer))
-        (append-nil (type_in false None e element).breaches)
-
     by : (may_be_open : Bool) (ls : List Expr) → (length ls == 0) ≡ false → array_in may_be_open slot e p ls (type_in (may_be_open && is_empty ls) None e element)
-        ≡ judged ((lengths_of e ls).breaches ++ (type_in false None e element).breaches) (arrays slot p (lengths_of e ls).answer (type_in false None e element).answer)
+        ≡ bind (lengths_of e ls) (λ ns. bind (type_in false None e element) (λ m. kept (arrays slot p ns m)))
     by may_be_open [] none = absurd (cc)
-    by true (l ∷ ls) some = lengths true l ls
-    by false (l ∷ ls) some = lengths false l ls
+    by true (l ∷ ls) some = refl
+    by false (l ∷ ls) some = refl
 
 -- an open array, where one may stand
 pub open_met : (slot : Option TypeId) (e : Env) (t : TypeExpr) (p : Pos) (ls : List Expr) (element : TypeExpr) → t ≡ type.Array p ls element → (length ls == 0) ≡ true →
-    type_in true slot e t ≡ judged (type_in true None e element).breaches (open_of slot p (type_in true None e element).answer)
+    type_in true slot e t ≡ bind (type_in true None e element) (λ m. kept (open_of slot p m))
 open_met slot e t p ls element is none = ap (type_in true slot e) is ∙ ap (λ j. array_in true slot e p ls j) (held (is_empty ls) e element) ∙ by ls none
   where
     by : (ls : List Expr) → (length ls == 0) ≡ true → array_in true slot e p ls (type_in (is_empty ls) None e element)
-        ≡ judged (type_in true None e element).breaches (open_of slot p (type_in true None e element).answer)
-    by [] none = ap (λ (bs : List Breach). judged bs (open_of slot p (type_in true None e element).answer)) (append-nil (type_in true None e element).breaches)
+        ≡ bind (type_in true None e element) (λ m. kept (open_of slot p m))
+    by [] none = refl
     by (l ∷ ls) none = let e : (suc (length ls) == 0) ≡ true = none in absurd (grind (arith, nat_tests))
 
 -- a record, whose fields are a list
@@ -90,10 +82,8 @@ record_met may_be_open slot e t p base fs is =
 
 -- a pointer, which is met behind what it leads to
 pub pointer_met : (may_be_open : Bool) (slot : Option TypeId) (e : Env) (t : TypeExpr) (p : Pos) (to : TypeExpr) → t ≡ type.Pointer p to →
-    type_in may_be_open slot e t ≡ judged (target_breaches to ++ (type_in true None e to).breaches) (pointer_to slot p to (type_in true None e to).answer)
-pointer_met may_be_open slot e t p to is =
-    ap (type_in may_be_open slot e) is ∙ led slot e p to
-    ∙ ap (λ (bs : List Breach). judged bs (pointer_to slot p to (type_in true None e to).answer)) (append-nil (target_breaches to ++ (type_in true None e to).breaches))
+    type_in may_be_open slot e t ≡ bind (bind (judged (target_breaches to) e) (λ e. type_in true None e to)) (λ m. kept (pointer_to slot p to m))
+pointer_met may_be_open slot e t p to is = ap (type_in may_be_open slot e) is ∙ led slot e p to
 
 -- an object type, whose declarations are a list
 pub object_written : (may_be_open : Bool) (slot : Option TypeId) (e : Env) (t : TypeExpr) (p : Pos) (base : Option Qualident) (ds : List Decl) (body : Option Block) (end : Option Name) →

@@ -30,7 +30,8 @@ pub mod Forms
 pub mod Parameters
 pub mod Scalars
 pub mod Judging
-pub mod Binds
+pub mod Telling
 pub mod Numbers
+pub mod Counted
 pub mod Starts
 mod Headed

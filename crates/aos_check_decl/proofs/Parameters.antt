@@ -14,7 +14,8 @@ use Rattle.aos_symbols.specs.Home.{changed, add_signature}
 use Rattle.aos_symbols.specs.Env.{innermost, within, back_at}
 use Rattle.aos_symbols.proofs.Paths.{past}
 use Rattle.aos_check_decl.specs.Headings.{with_variable, with_parameters, with_signature, heading_met, declared, locals_in}
-use Rattle.aos_check_decl.proofs.Binds.{IsBound, bound}
+use Rattle.aos_check_decl.specs.Told.{Told}
+use Rattle.aos_check_decl.proofs.Telling.{bound}
 
 -- one more parameter
 pub parameters_step : (e : Env) (ps : List Parameter) (i : ℕ) (d : Parameter) → i < length ps →
@@ -49,7 +50,7 @@ signature_behind e k s ps = sym (all_beside (within e k) s ps)
 -- a procedure's declarations behind its parameters
 pub locals_bound : (k : ℕ) (e : Env) (s : Signature) (ds : List Decl) {before behind : Option Breach} {start done : Env} →
     start ≡ with_signature (with_parameters (within e k) s.parameters) s → behind ≡ first_after before (walk declared start ds).breaches →
-    done ≡ (walk declared start ds).answer → IsBound (locals_in k (heading_met e s) ds) before behind (back_at e.path done)
+    done ≡ (walk declared start ds).answer → Told (locals_in k (heading_met e s) ds) before behind (back_at e.path done)
 locals_bound k e s ds {before = before} begins noted is =
     let begun = begins ∙ signature_behind e k s s.parameters in
     bound (walk declared (with_parameters (within (with_signature e s) k) s.parameters) ds) (λ z. kept (back_at e.path z))

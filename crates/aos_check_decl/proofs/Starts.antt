@@ -15,7 +15,8 @@ use Rattle.aos_check_decl.specs.Aliases.{targets, numbers, first_rows}
 use Rattle.aos_check_decl.specs.Headings.{headings}
 use Rattle.aos_check_decl.specs.Limits.{limits}
 use Rattle.aos_check_decl.specs.Pass.{own_numbers, entered, begun, declare}
-use Rattle.aos_check_decl.proofs.Binds.{IsBound, bound}
+use Rattle.aos_check_decl.specs.Told.{Told}
+use Rattle.aos_check_decl.proofs.Telling.{bound}
 
 module _ (number : ℕ) (before : List Home) (types : List TypeRow) (text : List ℕ) (m : Module) where
   -- with the numbers that names stand for, and the rows of the definitions
@@ -35,7 +36,7 @@ module _ (number : ℕ) (before : List Home) (types : List TypeRow) (text : List
   pub begun_bound : (ts : List Target) {env : Env} {found behind : Option Breach} →
       env ≡ entered number before types text m (own_numbers (length types) (length (all_type_defs m.decls))) →
       behind ≡ first_after found (targets env m.decls).breaches → ts ≡ (targets env m.decls).answer →
-      IsBound (begun number before types text m) found behind (entered number before (types ++ first_rows (length types) ts) text m (numbers (length types) ts))
+      Told (begun number before types text m) found behind (entered number before (types ++ first_rows (length types) ts) text m (numbers (length types) ts))
   begun_bound ts {found = found} env_is noted is =
       bound (targets (entered number before types text m (own_numbers (length types) (length (all_type_defs m.decls)))) m.decls)
       (λ us. kept (entered number before (types ++ first_rows (length types) us) text m (numbers (length types) us)))
@@ -46,7 +47,7 @@ module _ (number : ℕ) (before : List Home) (types : List TypeRow) (text : List
       begun_found ≡ first_after found (begun number before types text m).breaches → start ≡ (begun number before types text m).answer →
       headings_found ≡ first_after begun_found (headings start m.decls).breaches → met ≡ (headings start m.decls).answer →
       behind ≡ first_after headings_found (limits met (length types) m.decls).breaches → done ≡ (limits met (length types) m.decls).answer →
-      IsBound (declare number before types text m) found behind done
+      Told (declare number before types text m) found behind done
   declare_bound {start = start} n1 a1 n2 a2 n3 a3 =
       let behind_headings = bound (headings start m.decls) (λ e. limits e (length types) m.decls) n2 a2 n3 a3 in
       bound (begun number before types text m) (λ e. bind (headings e m.decls) (λ e. limits e (length types) m.decls)) n1 a1 behind_headings.noted behind_headings.is

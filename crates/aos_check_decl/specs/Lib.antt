@@ -1,5 +1,6 @@
 pub mod Variables
 pub mod Met
+pub mod Told
 pub mod Formals
 pub mod Types
 pub mod Aliases

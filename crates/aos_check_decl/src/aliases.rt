@@ -6,6 +6,7 @@ ghost use Rattle.aos_symbols.specs.Breaches.{first as first_of, first_after};
 ghost use Rattle.aos_symbols.specs.Declarations.{seen_procedures, type_defs, types_in};
 ghost use Rattle.aos_symbols.specs.Judged.{walk};
 ghost use Rattle.aos_symbols.specs.Env as env_of;
+ghost use Rattle.aos_check_decl.specs.Told.{Told, Tells};
 ghost use Rattle.aos_check_decl.specs.Aliases as judge;
 ghost use Rattle.aos_check_decl.specs.Ahead as far;
 ghost use Rattle.aos_check_decl.specs.Types as types;
@@ -46,8 +47,7 @@ fn type_so_far(found: &mut Option<Breach>, env: &Env<'_>, name: Qualident) -> Op
 
 /// What a definition's number leads to.
 fn leads_to(found: &mut Option<Breach>, env: &Env<'_>, of: &TypeExpr) -> Target
-    ensures noted { found.new ≡ first_after found.old (judge.led_by env.now of.now).breaches }
-    ensures answer { result ≡ (judge.led_by env.now of.now).answer }
+    ensures { Told (judge.led_by env.now of.now) found.old found.new result }
 {
     match of {
         TypeExpr::Named(name) => match type_so_far(found, env, *name) {
@@ -66,10 +66,8 @@ fn add_targets(
     targets: &mut Vec<Target>,
     defs: &[TypeDef],
 ) -> Result<(), AllocError>
-    ensures noted { OnOk result (found.new ≡ first_after found.old
-        (walk (judge.with_target env.now) targets.old.items defs.now).breaches) }
-    ensures answer { OnOk result (targets.new.items ≡
-        (walk (judge.with_target env.now) targets.old.items defs.now).answer) }
+    ensures { Tells result found.old found.new (λ _. targets.new.items)
+        (walk (judge.with_target env.now) targets.old.items defs.now) }
 {
     for def in defs {
         targets.push(leads_to(found, env, &def.value))?;
@@ -84,10 +82,8 @@ fn add_targets_of(
     targets: &mut Vec<Target>,
     decl: &Decl,
 ) -> Result<(), AllocError>
-    ensures noted { OnOk result (found.new ≡ first_after found.old
-        (walk (judge.with_target env.now) targets.old.items (types_in decl.now)).breaches) }
-    ensures answer { OnOk result (targets.new.items ≡
-        (walk (judge.with_target env.now) targets.old.items (types_in decl.now)).answer) }
+    ensures { Tells result found.old found.new (λ _. targets.new.items)
+        (walk (judge.with_target env.now) targets.old.items (types_in decl.now)) }
 {
     match decl {
         Decl::Types(_, defs) => add_targets(found, env, targets, defs.as_slice()),
@@ -103,10 +99,8 @@ fn add_targets_in(
     targets: &mut Vec<Target>,
     decls: &[Decl],
 ) -> Result<(), AllocError>
-    ensures noted { OnOk result (found.new ≡ first_after found.old
-        (walk (judge.with_target env.now) targets.old.items (type_defs decls.now)).breaches) }
-    ensures answer { OnOk result (targets.new.items ≡
-        (walk (judge.with_target env.now) targets.old.items (type_defs decls.now)).answer) }
+    ensures { Tells result found.old found.new (λ _. targets.new.items)
+        (walk (judge.with_target env.now) targets.old.items (type_defs decls.now)) }
 {
     for decl in decls {
         add_targets_of(found, env, targets, decl)?;
@@ -123,12 +117,9 @@ fn add_targets_within(
     targets: &mut Vec<Target>,
     decls: &[Decl],
 ) -> Result<(), AllocError>
-    ensures noted { OnOk result (found.new ≡ first_after found.old
+    ensures told { Tells result found.old found.new (λ _. targets.new.items)
         (walk (judge.with_target (env_of.within env.old scope)) targets.old.items
-        (type_defs decls.now)).breaches) }
-    ensures answer { OnOk result (targets.new.items ≡
-        (walk (judge.with_target (env_of.within env.old scope)) targets.old.items
-        (type_defs decls.now)).answer) }
+        (type_defs decls.now)) }
     ensures env { OnOk result (env.new ≡ env.old) }
 {
     let outer = env.enter(alloc, scope)?;
@@ -147,11 +138,8 @@ fn add_targets_of_procedures(
     targets: &mut Vec<Target>,
     procs: &[&Proc],
 ) -> Result<(), NoMemory>
-    ensures noted { OnOk result (found.new ≡ first_after found.old
-        (judge.local_targets env.old first targets.old.items
-        (seen_procedures procs.now)).breaches) }
-    ensures answer { OnOk result (targets.new.items ≡
-        (judge.local_targets env.old first targets.old.items (seen_procedures procs.now)).answer) }
+    ensures told { Tells result found.old found.new (λ _. targets.new.items)
+        (judge.local_targets env.old first targets.old.items (seen_procedures procs.now)) }
     ensures env { OnOk result (env.new ≡ env.old) }
 {
     let mut scope = first;
@@ -173,9 +161,8 @@ pub(crate) fn targets_of(
     env: &mut Env<'_>,
     decls: &[Decl],
 ) -> Result<Vec<Target>, NoMemory>
-    ensures noted { OnOk result (found.new ≡ first_after found.old
-        (judge.targets env.old decls.now).breaches) }
-    ensures answer { IfOk result (λ ts. ts.items ≡ (judge.targets env.old decls.now).answer) }
+    ensures told { Tells result found.old found.new (λ ts. ts.items)
+        (judge.targets env.old decls.now) }
     ensures env { OnOk result (env.new ≡ env.old) }
 {
     let Some(first) = count_types(decls)?.checked_add(1) else {

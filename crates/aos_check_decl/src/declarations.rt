@@ -1,8 +1,8 @@
 // Constants, types and variables, and the environment behind them.
 
 ghost use Rattle.std.specs.Prelude.{◌≡◌, OnOk};
-ghost use Rattle.aos_symbols.specs.Breaches.{first_after};
 ghost use Rattle.aos_symbols.specs.Judged.{walk};
+ghost use Rattle.aos_check_decl.specs.Told.{Tells};
 ghost use Rattle.aos_check_decl.specs.Types as types;
 ghost use Rattle.aos_check_decl.specs.Headings as judge;
 
@@ -24,9 +24,7 @@ fn constant_def(
     env: &mut Env<'_>,
     def: &ConstDef,
 ) -> Result<(), NoMemory>
-    ensures noted { OnOk result (found.new ≡
-        first_after found.old (judge.constant_def env.old def.now).breaches) }
-    ensures env { OnOk result (env.new ≡ (judge.constant_def env.old def.now).answer) }
+    ensures { Tells result found.old found.new (λ _. env.new) (judge.constant_def env.old def.now) }
 {
     let value = constant(alloc, found, env, &def.value)?;
     let at = def.def.name.pos;
@@ -35,16 +33,14 @@ fn constant_def(
     Ok(())
 }
 
-#[tactic(auto, using(aos_symbols::proofs::Keeping::after_more, aos_symbols::proofs::Steps::walk_step, aos_symbols::proofs::Steps::walk_end))]
 pub(crate) fn constant_defs(
     alloc: Global,
     found: &mut Option<Breach>,
     env: &mut Env<'_>,
     defs: &[ConstDef],
 ) -> Result<(), NoMemory>
-    ensures noted { OnOk result (found.new ≡
-        first_after found.old (walk judge.constant_def env.old defs.now).breaches) }
-    ensures env { OnOk result (env.new ≡ (walk judge.constant_def env.old defs.now).answer) }
+    ensures { Tells result found.old found.new (λ _. env.new)
+        (walk judge.constant_def env.old defs.now) }
 {
     for def in defs {
         constant_def(alloc, found, env, def)?;
@@ -71,9 +67,7 @@ fn type_def(
     env: &mut Env<'_>,
     def: &TypeDef,
 ) -> Result<(), NoMemory>
-    ensures noted { OnOk result
-        (found.new ≡ first_after found.old (judge.type_def env.old def.now).breaches) }
-    ensures env { OnOk result (env.new ≡ (judge.type_def env.old def.now).answer) }
+    ensures { Tells result found.old found.new (λ _. env.new) (judge.type_def env.old def.now) }
 {
     if let TypeExpr::Named(name) = &def.value {
         named_type(found, env, *name);
@@ -85,16 +79,14 @@ fn type_def(
     Ok(())
 }
 
-#[tactic(auto, using(aos_symbols::proofs::Keeping::after_more, aos_symbols::proofs::Steps::walk_step, aos_symbols::proofs::Steps::walk_end))]
 fn type_defs(
     alloc: Global,
     found: &mut Option<Breach>,
     env: &mut Env<'_>,
     defs: &[TypeDef],
 ) -> Result<(), NoMemory>
-    ensures noted { OnOk result (found.new ≡
-        first_after found.old (walk judge.type_def env.old defs.now).breaches) }
-    ensures env { OnOk result (env.new ≡ (walk judge.type_def env.old defs.now).answer) }
+    ensures { Tells result found.old found.new (λ _. env.new)
+        (walk judge.type_def env.old defs.now) }
 {
     for def in defs {
         type_def(alloc, found, env, def)?;
@@ -128,25 +120,21 @@ fn variable_def(
     env: &mut Env<'_>,
     def: &VarDef,
 ) -> Result<(), NoMemory>
-    ensures noted { OnOk result (found.new ≡
-        first_after found.old (judge.variable_def env.old def.now).breaches) }
-    ensures env { OnOk result (env.new ≡ (judge.variable_def env.old def.now).answer) }
+    ensures { Tells result found.old found.new (λ _. env.new) (judge.variable_def env.old def.now) }
 {
     let of = type_in(alloc, found, env, false, None, &def.of)?;
     add_variables(env, def.defs.len(), of)?;
     Ok(())
 }
 
-#[tactic(auto, using(aos_symbols::proofs::Keeping::after_more, aos_symbols::proofs::Steps::walk_step, aos_symbols::proofs::Steps::walk_end))]
 fn variable_defs(
     alloc: Global,
     found: &mut Option<Breach>,
     env: &mut Env<'_>,
     defs: &[VarDef],
 ) -> Result<(), NoMemory>
-    ensures noted { OnOk result (found.new ≡
-        first_after found.old (walk judge.variable_def env.old defs.now).breaches) }
-    ensures env { OnOk result (env.new ≡ (walk judge.variable_def env.old defs.now).answer) }
+    ensures { Tells result found.old found.new (λ _. env.new)
+        (walk judge.variable_def env.old defs.now) }
 {
     for def in defs {
         variable_def(alloc, found, env, def)?;
@@ -162,9 +150,7 @@ fn declare(
     env: &mut Env<'_>,
     decl: &Decl,
 ) -> Result<(), NoMemory>
-    ensures noted { OnOk result (found.new ≡
-        first_after found.old (judge.declared env.old decl.now).breaches) }
-    ensures env { OnOk result (env.new ≡ (judge.declared env.old decl.now).answer) }
+    ensures { Tells result found.old found.new (λ _. env.new) (judge.declared env.old decl.now) }
 {
     match decl {
         Decl::Consts(_, defs) => constant_defs(alloc, found, env, defs.as_slice()),
@@ -175,16 +161,14 @@ fn declare(
 }
 
 /// The environment behind declarations, those of procedures left out.
-#[tactic(auto, using(aos_symbols::proofs::Keeping::after_more, aos_symbols::proofs::Steps::walk_step, aos_symbols::proofs::Steps::walk_end))]
 pub(crate) fn declare_all(
     alloc: Global,
     found: &mut Option<Breach>,
     env: &mut Env<'_>,
     decls: &[Decl],
 ) -> Result<(), NoMemory>
-    ensures noted { OnOk result (found.new ≡
-        first_after found.old (walk judge.declared env.old decls.now).breaches) }
-    ensures env { OnOk result (env.new ≡ (walk judge.declared env.old decls.now).answer) }
+    ensures { Tells result found.old found.new (λ _. env.new)
+        (walk judge.declared env.old decls.now) }
 {
     for decl in decls {
         declare(alloc, found, env, decl)?;

@@ -4,6 +4,7 @@ ghost use Rattle.std.specs.Prelude.{◌≡◌, ◌++◌, ◌∷◌, [], OnOk, If
 ghost use Rattle.aos_symbols.specs.Breaches.{first_after};
 ghost use Rattle.aos_symbols.specs.Judged.{walk};
 ghost use Rattle.aos_check_decl.specs.Met.{met, claiming};
+ghost use Rattle.aos_check_decl.specs.Told.{Told, Tells};
 ghost use Rattle.aos_check_decl.specs.Formals as judge;
 
 use crate::types::{claim, place_row};
@@ -20,10 +21,8 @@ fn place_one_open(
     at: Pos,
     of: Option<TypeId>,
 ) -> Result<Option<TypeId>, NoMemory>
-    ensures env { OnOk result
-        (env.new ≡ (judge.opened (at ∷ []) (met env.old of)).env) }
-    ensures of { IfOk result
-        (λ of'. of' ≡ (judge.opened (at ∷ []) (met env.old of)).of) }
+    ensures { IfOk result
+        (λ of'. met env.new of' ≡ judge.opened (at ∷ []) (met env.old of)) }
 {
     let Some(element) = of else {
         return Ok(None);
@@ -37,9 +36,8 @@ fn place_open(
     places: &[Pos],
     of: Option<TypeId>,
 ) -> Result<Option<TypeId>, NoMemory>
-    ensures env { OnOk result (env.new ≡ (judge.opened places.now (met env.old of)).env) }
-    ensures of { IfOk result
-        (λ of'. of' ≡ (judge.opened places.now (met env.old of)).of) }
+    ensures { IfOk result
+        (λ of'. met env.new of' ≡ judge.opened places.now (met env.old of)) }
 {
     let mut met = of;
     let mut left = places.len();
@@ -72,13 +70,8 @@ fn section_in(
     parameters: &mut Items<Parameter>,
     section: &Section,
 ) -> Result<(), NoMemory>
-    ensures noted { OnOk result (found.new ≡ first_after found.old
-        (judge.with_section (judge.formals_met env.old parameters.old) section.now).breaches) }
-    ensures env { OnOk result (env.new ≡
-        (judge.with_section (judge.formals_met env.old parameters.old) section.now).answer.env) }
-    ensures parameters { OnOk result (parameters.new ≡
-        (judge.with_section (judge.formals_met env.old parameters.old)
-        section.now).answer.parameters) }
+    ensures { Tells result found.old found.new (λ _. judge.formals_met env.new parameters.new)
+        (judge.with_section (judge.formals_met env.old parameters.old) section.now) }
 {
     let of = named_type(found, env, section.of);
     let of = place_open(env, section.arrays.as_slice(), of)?;
@@ -92,21 +85,14 @@ fn section_in(
 }
 
 /// The parameters of sections behind those before them.
-#[tactic(auto, using(aos_symbols::proofs::Keeping::after_more, aos_symbols::proofs::Steps::walk_step, aos_symbols::proofs::Steps::walk_end))]
 fn sections_in(
     found: &mut Option<Breach>,
     env: &mut Env<'_>,
     parameters: &mut Items<Parameter>,
     sections: &[Section],
 ) -> Result<(), NoMemory>
-    ensures noted { OnOk result (found.new ≡ first_after found.old
-        (walk judge.with_section (judge.formals_met env.old parameters.old) sections.now).breaches) }
-    ensures env { OnOk result (env.new ≡
-        (walk judge.with_section (judge.formals_met env.old parameters.old)
-        sections.now).answer.env) }
-    ensures parameters { OnOk result (parameters.new ≡
-        (walk judge.with_section (judge.formals_met env.old parameters.old)
-        sections.now).answer.parameters) }
+    ensures { Tells result found.old found.new (λ _. judge.formals_met env.new parameters.new)
+        (walk judge.with_section (judge.formals_met env.old parameters.old) sections.now) }
 {
     for section in sections {
         section_in(found, env, parameters, section)?;
@@ -116,8 +102,7 @@ fn sections_in(
 
 /// What a procedure gives.
 fn given(found: &mut Option<Breach>, env: &Env<'_>, of: Option<Qualident>) -> Gives
-    ensures noted { found.new ≡ first_after found.old (judge.given env.now of).breaches }
-    ensures answer { result ≡ (judge.given env.now of).answer }
+    ensures { Told (judge.given env.now of) found.old found.new result }
 {
     match of {
         None => Gives::Nothing,
@@ -133,11 +118,8 @@ pub(crate) fn formals_in(
     env: &mut Env<'_>,
     formals: &Option<Formals>,
 ) -> Result<Signature, NoMemory>
-    ensures noted { OnOk result (found.new ≡ first_after found.old
-        (judge.formals_in env.old formals.now).breaches) }
-    ensures env { OnOk result (env.new ≡ (judge.formals_in env.old formals.now).answer.env) }
-    ensures signature { IfOk result (λ s. s ≡
-        (judge.formals_in env.old formals.now).answer.signature) }
+    ensures { Tells result found.old found.new (λ s. judge.heading_met env.new s)
+        (judge.formals_in env.old formals.now) }
 {
     let mut parameters = Items::new(alloc);
     let Some(formals) = formals else {
@@ -228,8 +210,7 @@ fn place_known(
     at: Pos,
     row: Option<TypeRow>,
 ) -> Result<Option<TypeId>, NoMemory>
-    ensures env { OnOk result (env.new ≡ (judge.placed_row slot at row env.old).env) }
-    ensures of { IfOk result (λ of. of ≡ (judge.placed_row slot at row env.old).of) }
+    ensures { IfOk result (λ of. met env.new of ≡ judge.placed_row slot at row env.old) }
 {
     match row {
         Some(row) => place_row(env, slot, at, row),
@@ -256,12 +237,8 @@ fn with_formals(
     at: Pos,
     formals: &Option<Formals>,
 ) -> Result<Option<TypeId>, NoMemory>
-    ensures noted { OnOk result (found.new ≡ first_after found.old
-        (judge.with_formals slot env.old at formals.now).breaches) }
-    ensures env { OnOk result
-        (env.new ≡ (judge.with_formals slot env.old at formals.now).answer.env) }
-    ensures of { IfOk result
-        (λ t. t ≡ (judge.with_formals slot env.old at formals.now).answer.of) }
+    ensures { Tells result found.old found.new (λ of. met env.new of)
+        (judge.with_formals slot env.old at formals.now) }
 {
     let signature = formals_in(alloc, found, env, formals)?;
     claim_result(env, result_in(formals), signature.gives)?;
@@ -279,12 +256,8 @@ pub(crate) fn procedure_type(
     flag: Option<Name>,
     formals: &Option<Formals>,
 ) -> Result<Option<TypeId>, NoMemory>
-    ensures noted { OnOk result (found.new ≡ first_after found.old
-        (judge.procedure_in slot env.old at flag formals.now).breaches) }
-    ensures env { OnOk result
-        (env.new ≡ (judge.procedure_in slot env.old at flag formals.now).answer.env) }
-    ensures of { IfOk result
-        (λ t. t ≡ (judge.procedure_in slot env.old at flag formals.now).answer.of) }
+    ensures { Tells result found.old found.new (λ of. met env.new of)
+        (judge.procedure_in slot env.old at flag formals.now) }
 {
     if let Some(flag) = flag {
         if !is_word(env.here.text(), "DELEGATE", flag) {

@@ -8,6 +8,7 @@ ghost use Rattle.aos_types.specs.Limit.{is_past, is_first_past};
 ghost use Rattle.aos_types.specs.Table.{row_of};
 ghost use Rattle.aos_symbols.specs.Breaches.{breach_unless, first_after};
 ghost use Rattle.aos_symbols.specs.Declarations.{all_procedures, local_types, seen_procedures, single_variables, type_defs};
+ghost use Rattle.aos_check_decl.specs.Told.{Tells};
 ghost use Rattle.aos_check_decl.specs.Limits as judge;
 
 use crate::claims::{drop_bases, note_claims};
@@ -420,9 +421,8 @@ fn cut_off(
     first: u32,
     decls: &[Decl],
 ) -> Result<(), NoMemory>
-    ensures noted { OnOk result (found.new ≡
-        first_after found.old (judge.cut_off env.old first decls.now).breaches) }
-    ensures env { OnOk result (env.new ≡ (judge.cut_off env.old first decls.now).answer) }
+    ensures { Tells result found.old found.new (λ _. env.new)
+        (judge.cut_off env.old first decls.now) }
 {
     let flags = env.types.cut_circles(alloc)?;
     let procs = all_procedures(alloc, decls)?;
@@ -435,7 +435,6 @@ fn cut_off(
 }
 
 /// What is judged of a module's types together, of which the first has this number.
-#[tactic(auto, using(aos_symbols::proofs::Keeping::after_more))]
 pub(crate) fn limits(
     alloc: Global,
     found: &mut Option<Breach>,
@@ -443,9 +442,8 @@ pub(crate) fn limits(
     first: u32,
     decls: &[Decl],
 ) -> Result<(), NoMemory>
-    ensures noted { OnOk result (found.new ≡
-        first_after found.old (judge.limits env.old first decls.now).breaches) }
-    ensures env { OnOk result (env.new ≡ (judge.limits env.old first decls.now).answer) }
+    ensures { Tells result found.old found.new (λ _. env.new)
+        (judge.limits env.old first decls.now) }
 {
     note_claims(found, env)?;
     drop_bases(alloc, &mut env.types, env.claims.as_slice());

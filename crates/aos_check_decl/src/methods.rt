@@ -6,6 +6,7 @@ ghost use Rattle.aos_types.specs.declared.row.TypeId.{TypeId};
 ghost use Rattle.std.specs.Option.{option_copied};
 ghost use Rattle.aos_symbols.specs.Breaches.{first_after};
 ghost use Rattle.aos_symbols.specs.Declarations.{procedures, seen_types};
+ghost use Rattle.aos_check_decl.specs.Told.{Tells};
 ghost use Rattle.aos_check_decl.specs.Methods as judge;
 
 use aos_base::NoMemory;
@@ -147,10 +148,8 @@ pub(crate) fn overriding(
     env: &mut Env<'_>,
     defs: &[&TypeDef],
 ) -> Result<(), NoMemory>
-    ensures noted { OnOk result (found.new ≡ first_after found.old
-        (judge.overriding env.old (seen_types defs.now)).breaches) }
-    ensures env { OnOk result (env.new ≡
-        (judge.overriding env.old (seen_types defs.now)).answer) }
+    ensures { Tells result found.old found.new (λ _. env.new)
+        (judge.overriding env.old (seen_types defs.now)) }
 {
     let slots = slots_of(alloc, env, defs)?;
     env.here.set_slots(slots);

@@ -93,9 +93,8 @@ pub(crate) fn place_object(
     types: Items<TypeId>,
     decls: &[Decl],
 ) -> Result<Option<TypeId>, NoMemory>
-    ensures env { OnOk result (env.new ≡
-        (judge.object_met of at name decls.now base types env.old).env) }
-    ensures of { IfOk result (λ t. t ≡ Some of) }
+    ensures { IfOk result (λ t. judge.met env.new t ≡
+        judge.object_met of at name decls.now base types env.old) }
 {
     place_row(env, Some(of), at, TypeRow::Object(base, types))?;
     claim_object(env, name, decls, base, of)?;

@@ -3,6 +3,7 @@
 ghost use Rattle.std.specs.Prelude.{◌≡◌, ◌+◌, ◌≤◌, ◌^◌, length, OnOk, IfOk, IsTrue};
 ghost use Rattle.aos_symbols.specs.Breaches.{first_after};
 ghost use Rattle.aos_symbols.specs.Declarations.{all_type_defs};
+ghost use Rattle.aos_check_decl.specs.Told.{Tells};
 ghost use Rattle.aos_check_decl.specs.Pass as judge;
 
 use crate::aliases::{add_rows, numbers_of, targets_of};
@@ -94,10 +95,8 @@ fn begin<'a>(
     tree: &Module,
 ) -> Result<Env<'a>, NoMemory>
     requires { length before ≤ 64 }
-    ensures noted { OnOk result (found.new ≡ first_after found.old
-        (judge.begun (length before.entry) before.entry types text.now tree.now).breaches) }
-    ensures answer { IfOk result (λ e. e ≡
-        (judge.begun (length before.entry) before.entry types text.now tree.now).answer) }
+    ensures { Tells result found.old found.new (λ e. e)
+        (judge.begun (length before.entry) before.entry types text.now tree.now) }
 {
     let Ok(first) = u32::try_from(types.len()) else {
         return Err(NoMemory);

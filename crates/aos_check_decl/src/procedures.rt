@@ -4,6 +4,7 @@ ghost use Rattle.std.specs.Prelude.{◌≡◌, ◌+◌, ◌&&◌, true, false, O
 ghost use Rattle.std.specs.Option.{is_none};
 ghost use Rattle.aos_symbols.specs.Breaches.{first_after};
 ghost use Rattle.aos_symbols.specs.Declarations.{procedures, seen_types, type_defs};
+ghost use Rattle.aos_check_decl.specs.Told.{Tells};
 ghost use Rattle.aos_check_decl.specs.Headings as judge;
 
 use crate::declarations::{add_variable, declare_all};
@@ -36,10 +37,8 @@ fn locals_in(
     signature: Signature,
     decls: &[Decl],
 ) -> Result<(), NoMemory>
-    ensures noted { OnOk result (found.new ≡ first_after found.old
-        (judge.locals_in scope (judge.heading_met env.old signature) decls.now).breaches) }
-    ensures env { OnOk result (env.new ≡
-        (judge.locals_in scope (judge.heading_met env.old signature) decls.now).answer) }
+    ensures { Tells result found.old found.new (λ _. env.new)
+        (judge.locals_in scope (judge.heading_met env.old signature) decls.now) }
 {
     let outer = env.enter(alloc, scope)?;
     declare_parameters(env, signature.parameters.as_slice())?;
@@ -79,10 +78,8 @@ fn procedure_in(
     formals: &Option<Formals>,
     decls: &[Decl],
 ) -> Result<(), NoMemory>
-    ensures noted { OnOk result (found.new ≡ first_after found.old
-        (judge.procedure may_stand env.old scope initializer formals.now decls.now).breaches) }
-    ensures env { OnOk result (env.new ≡
-        (judge.procedure may_stand env.old scope initializer formals.now decls.now).answer) }
+    ensures { Tells result found.old found.new (λ _. env.new)
+        (judge.procedure may_stand env.old scope initializer formals.now decls.now) }
 {
     note_initializer(found, may_stand, initializer, formals);
     let mut signature = formals_in(alloc, found, env, formals)?;
@@ -117,10 +114,8 @@ fn procedures_in(
     first: u32,
     decls: &[Decl],
 ) -> Result<(), NoMemory>
-    ensures noted { OnOk result (found.new ≡ first_after found.old
-        (judge.procedures_from may_stand env.old first (procedures decls.now)).breaches) }
-    ensures env { OnOk result (env.new ≡
-        (judge.procedures_from may_stand env.old first (procedures decls.now)).answer) }
+    ensures { Tells result found.old found.new (λ _. env.new)
+        (judge.procedures_from may_stand env.old first (procedures decls.now)) }
 {
     let mut scope = first;
     let mut may_stand = may_stand;
@@ -211,9 +206,8 @@ fn type_methods(
     scope: u32,
     def: &TypeDef,
 ) -> Result<(), NoMemory>
-    ensures noted { OnOk result (found.new ≡ first_after found.old
-        (judge.type_methods env.old scope def.now).breaches) }
-    ensures env { OnOk result (env.new ≡ (judge.type_methods env.old scope def.now).answer) }
+    ensures { Tells result found.old found.new (λ _. env.new)
+        (judge.type_methods env.old scope def.now) }
 {
     let outer = enter_type(alloc, env, defined_type(env, def))?;
     procedures_in(alloc, found, env, true, scope, inner_decls(&def.value))?;
@@ -230,10 +224,8 @@ fn methods_of(
     first: u32,
     defs: &[&TypeDef],
 ) -> Result<(), NoMemory>
-    ensures noted { OnOk result (found.new ≡ first_after found.old
-        (judge.methods_from env.old first (seen_types defs.now)).breaches) }
-    ensures env { OnOk result (env.new ≡
-        (judge.methods_from env.old first (seen_types defs.now)).answer) }
+    ensures { Tells result found.old found.new (λ _. env.new)
+        (judge.methods_from env.old first (seen_types defs.now)) }
 {
     let mut scope = first;
     for def in defs {
@@ -251,9 +243,7 @@ pub(crate) fn headings(
     env: &mut Env<'_>,
     decls: &[Decl],
 ) -> Result<(), NoMemory>
-    ensures noted { OnOk result (found.new ≡
-        first_after found.old (judge.headings env.old decls.now).breaches) }
-    ensures env { OnOk result (env.new ≡ (judge.headings env.old decls.now).answer) }
+    ensures { Tells result found.old found.new (λ _. env.new) (judge.headings env.old decls.now) }
 {
     declare_all(alloc, found, env, decls)?;
     let first = next(count_types(decls)?)?;

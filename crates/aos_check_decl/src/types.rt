@@ -5,6 +5,7 @@ ghost use Rattle.aos_symbols.specs.Breaches.{first_after};
 ghost use Rattle.aos_symbols.specs.Judged.{walk};
 ghost use Rattle.aos_types.specs.declared.row.TypeRow.TheVariants as kind;
 ghost use Rattle.aos_symbols.specs.declared.env.Claim.TheVariants as claims;
+ghost use Rattle.aos_check_decl.specs.Told.{Told, Tells};
 ghost use Rattle.aos_check_decl.specs.Types as judge;
 
 use crate::declarations::constant_defs;
@@ -26,8 +27,7 @@ const MOST_TYPES: usize = 4_294_967_295;
 
 /// A rule that a type breaks; nothing of it is known.
 fn refuse_type(found: &mut Option<Breach>, rule: u16, at: Pos) -> Option<TypeId>
-    ensures noted { found.new ≡ first_after found.old (judge.no_type rule at).breaches }
-    ensures answer { result ≡ (judge.no_type rule at).answer }
+    ensures { Told (judge.no_type rule at) found.old found.new result }
 {
     no_type(found, rule, at)
 }
@@ -39,8 +39,7 @@ pub(crate) fn place_row(
     at: Pos,
     row: TypeRow,
 ) -> Result<Option<TypeId>, NoMemory>
-    ensures env { OnOk result (env.new ≡ (judge.placed slot at row env.old).env) }
-    ensures of { IfOk result (λ of. of ≡ (judge.placed slot at row env.old).of) }
+    ensures { IfOk result (λ of. judge.met env.new of ≡ judge.placed slot at row env.old) }
 {
     if let Some(slot) = slot {
         if (slot.0 as usize) < env.types.len() {
@@ -58,8 +57,7 @@ pub(crate) fn place_row(
 
 /// An array's length, where it is a constant integer that may be one.
 fn length_given(found: &mut Option<Breach>, value: Option<Literal>, at: Pos) -> Option<u32>
-    ensures noted { found.new ≡ first_after found.old (judge.length_given value at).breaches }
-    ensures answer { result ≡ (judge.length_given value at).answer }
+    ensures { Told (judge.length_given value at) found.old found.new result }
 {
     match value {
         None => None,
@@ -79,9 +77,7 @@ fn length_of(
     env: &Env<'_>,
     part: &Expr,
 ) -> Result<Option<u32>, AllocError>
-    ensures noted { OnOk result
-        (found.new ≡ first_after found.old (judge.length_of env.now part.now).breaches) }
-    ensures answer { IfOk result (λ n. n ≡ (judge.length_of env.now part.now).answer) }
+    ensures { Tells result found.old found.new (λ n. n) (judge.length_of env.now part.now) }
 {
     let value = constant(alloc, found, env, part)?;
     Ok(length_given(found, value, part.pos))
@@ -105,16 +101,13 @@ fn one_more(
 }
 
 /// All lengths of an array, or none where one of them breaks a rule.
-#[tactic(auto, using(aos_symbols::proofs::Keeping::after_more, aos_symbols::proofs::Steps::walk_step, aos_symbols::proofs::Steps::walk_end))]
 fn lengths_of(
     alloc: Global,
     found: &mut Option<Breach>,
     env: &Env<'_>,
     parts: &[Expr],
 ) -> Result<Option<Items<u32>>, AllocError>
-    ensures noted { OnOk result
-        (found.new ≡ first_after found.old (judge.lengths_of env.now parts.now).breaches) }
-    ensures answer { IfOk result (λ ns. ns ≡ (judge.lengths_of env.now parts.now).answer) }
+    ensures { Tells result found.old found.new (λ ns. ns) (judge.lengths_of env.now parts.now) }
 {
     let mut lengths = Some(Items::new(alloc));
     for part in parts {
@@ -132,10 +125,8 @@ fn place_array(
     length: u32,
     of: Option<TypeId>,
 ) -> Result<Option<TypeId>, NoMemory>
-    ensures env { OnOk result
-        (env.new ≡ (judge.array_of slot at length (judge.met env.old of)).env) }
-    ensures of { IfOk result
-        (λ of'. of' ≡ (judge.array_of slot at length (judge.met env.old of)).of) }
+    ensures { IfOk result
+        (λ of'. judge.met env.new of' ≡ judge.array_of slot at length (judge.met env.old of)) }
 {
     let Some(element) = of else {
         return Ok(None);
@@ -151,10 +142,8 @@ fn place_arrays(
     lengths: Option<Items<u32>>,
     of: Option<TypeId>,
 ) -> Result<Option<TypeId>, NoMemory>
-    ensures env { OnOk result
-        (env.new ≡ (judge.arrays slot at lengths (judge.met env.old of)).env) }
-    ensures of { IfOk result
-        (λ of'. of' ≡ (judge.arrays slot at lengths (judge.met env.old of)).of) }
+    ensures { IfOk result
+        (λ of'. judge.met env.new of' ≡ judge.arrays slot at lengths (judge.met env.old of)) }
 {
     let Some(lengths) = lengths else {
         return Ok(None);
@@ -272,10 +261,8 @@ fn place_record<'a>(
     types: Items<TypeId>,
     scope: Scope<'a>,
 ) -> Result<Option<TypeId>, NoMemory>
-    ensures env { OnOk result (env.new ≡ (judge.with_record scope.entry
-        (judge.placed slot at (kind.Record base types) env.old)).env) }
-    ensures of { IfOk result (λ of. of ≡ (judge.with_record scope.entry
-        (judge.placed slot at (kind.Record base types) env.old)).of) }
+    ensures { IfOk result (λ of. judge.met env.new of ≡ judge.with_record scope.entry
+        (judge.placed slot at (kind.Record base types) env.old)) }
 {
     let of = place_row(env, slot, at, TypeRow::Record(base, types))?;
     add_record(env, of, scope)?;
@@ -284,8 +271,7 @@ fn place_record<'a>(
 
 /// The base of a record, where one is written.
 fn base_in(found: &mut Option<Breach>, env: &Env<'_>, base: Option<Qualident>) -> Option<TypeId>
-    ensures noted { found.new ≡ first_after found.old (judge.base_in env.now base).breaches }
-    ensures answer { result ≡ (judge.base_in env.now base).answer }
+    ensures { Told (judge.base_in env.now base) found.old found.new result }
 {
     match base {
         Some(name) => named_type(found, env, name),
@@ -325,10 +311,8 @@ fn place_pointer(
     to: &TypeExpr,
     of: Option<TypeId>,
 ) -> Result<Option<TypeId>, NoMemory>
-    ensures env { OnOk result
-        (env.new ≡ (judge.pointer_to slot at to.now (judge.met env.old of)).env) }
-    ensures of { IfOk result
-        (λ of'. of' ≡ (judge.pointer_to slot at to.now (judge.met env.old of)).of) }
+    ensures { IfOk result
+        (λ of'. judge.met env.new of' ≡ judge.pointer_to slot at to.now (judge.met env.old of)) }
 {
     let Some(of) = of else {
         return Ok(None);
@@ -344,10 +328,8 @@ fn place_open(
     at: Pos,
     of: Option<TypeId>,
 ) -> Result<Option<TypeId>, NoMemory>
-    ensures env { OnOk result
-        (env.new ≡ (judge.open_of slot at (judge.met env.old of)).env) }
-    ensures of { IfOk result
-        (λ of'. of' ≡ (judge.open_of slot at (judge.met env.old of)).of) }
+    ensures { IfOk result
+        (λ of'. judge.met env.new of' ≡ judge.open_of slot at (judge.met env.old of)) }
 {
     match of {
         Some(element) => place_row(env, slot, at, TypeRow::Open(element)),
@@ -378,14 +360,9 @@ fn fields_in<'a>(
     scope: &mut Scope<'a>,
     fields: &Parts<Fields>,
 ) -> Result<(), NoMemory>
-    ensures noted { OnOk result (found.new ≡ first_after found.old
-        (walk judge.field_in (judge.fields_met env.old types.old scope.old) fields.now).breaches) }
-    ensures env { OnOk result (env.new ≡
-        (walk judge.field_in (judge.fields_met env.old types.old scope.old) fields.now).answer.env) }
-    ensures types { OnOk result (types.new ≡
-        (walk judge.field_in (judge.fields_met env.old types.old scope.old) fields.now).answer.types) }
-    ensures scope { OnOk result (scope.new ≡
-        (walk judge.field_in (judge.fields_met env.old types.old scope.old) fields.now).answer.scope) }
+    ensures { Tells result found.old found.new
+        (λ _. judge.fields_met env.new types.new scope.new)
+        (walk judge.field_in (judge.fields_met env.old types.old scope.old) fields.now) }
 {
     for field in fields.as_slice() {
         if let Fields::Of(def) = field {
@@ -409,10 +386,8 @@ fn record_in<'a>(
     base: Option<Qualident>,
     fields: &Parts<Fields>,
 ) -> Result<Option<TypeId>, NoMemory>
-    ensures noted { OnOk result (found.new ≡ first_after found.old
-        (judge.record_of slot env.old at base fields.now).breaches) }
-    ensures env { OnOk result (env.new ≡ (judge.record_of slot env.old at base fields.now).answer.env) }
-    ensures of { IfOk result (λ t. t ≡ (judge.record_of slot env.old at base fields.now).answer.of) }
+    ensures { Tells result found.old found.new (λ of. judge.met env.new of)
+        (judge.record_of slot env.old at base fields.now) }
 {
     let named = base_in(found, env, base);
     let mut types = Items::new(alloc);
@@ -434,14 +409,9 @@ fn variables_in<'a>(
     variables: &mut Vec<Option<TypeId>>,
     defs: &Parts<VarDef>,
 ) -> Result<(), NoMemory>
-    ensures noted { OnOk result (found.new ≡ first_after found.old
-        (walk judge.variable_in (judge.members_met env.old types.old variables.old.items) defs.now).breaches) }
-    ensures env { OnOk result (env.new ≡
-        (walk judge.variable_in (judge.members_met env.old types.old variables.old.items) defs.now).answer.env) }
-    ensures types { OnOk result (types.new ≡
-        (walk judge.variable_in (judge.members_met env.old types.old variables.old.items) defs.now).answer.types) }
-    ensures variables { OnOk result (variables.new.items ≡
-        (walk judge.variable_in (judge.members_met env.old types.old variables.old.items) defs.now).answer.variables) }
+    ensures { Tells result found.old found.new
+        (λ _. judge.members_met env.new types.new variables.new.items)
+        (walk judge.variable_in (judge.members_met env.old types.old variables.old.items) defs.now) }
 {
     for def in defs.as_slice() {
         let of = type_in(alloc, found, env, false, None, &def.of)?;
@@ -462,14 +432,9 @@ fn member_in<'a>(
     variables: &mut Vec<Option<TypeId>>,
     decl: &Decl,
 ) -> Result<(), NoMemory>
-    ensures noted { OnOk result (found.new ≡ first_after found.old
-        (judge.member_in (judge.members_met env.old types.old variables.old.items) decl.now).breaches) }
-    ensures env { OnOk result (env.new ≡
-        (judge.member_in (judge.members_met env.old types.old variables.old.items) decl.now).answer.env) }
-    ensures types { OnOk result (types.new ≡
-        (judge.member_in (judge.members_met env.old types.old variables.old.items) decl.now).answer.types) }
-    ensures variables { OnOk result (variables.new.items ≡
-        (judge.member_in (judge.members_met env.old types.old variables.old.items) decl.now).answer.variables) }
+    ensures { Tells result found.old found.new
+        (λ _. judge.members_met env.new types.new variables.new.items)
+        (judge.member_in (judge.members_met env.old types.old variables.old.items) decl.now) }
 {
     match decl {
         Decl::Consts(_, defs) => constant_defs(alloc, found, env, defs.as_slice()),
@@ -493,14 +458,9 @@ fn members_in<'a>(
     variables: &mut Vec<Option<TypeId>>,
     decls: &Parts<Decl>,
 ) -> Result<(), NoMemory>
-    ensures noted { OnOk result (found.new ≡ first_after found.old
-        (walk judge.member_in (judge.members_met env.old types.old variables.old.items) decls.now).breaches) }
-    ensures env { OnOk result (env.new ≡
-        (walk judge.member_in (judge.members_met env.old types.old variables.old.items) decls.now).answer.env) }
-    ensures types { OnOk result (types.new ≡
-        (walk judge.member_in (judge.members_met env.old types.old variables.old.items) decls.now).answer.types) }
-    ensures variables { OnOk result (variables.new.items ≡
-        (walk judge.member_in (judge.members_met env.old types.old variables.old.items) decls.now).answer.variables) }
+    ensures { Tells result found.old found.new
+        (λ _. judge.members_met env.new types.new variables.new.items)
+        (walk judge.member_in (judge.members_met env.old types.old variables.old.items) decls.now) }
 {
     for decl in decls.as_slice() {
         member_in(alloc, found, env, types, variables, decl)?;
@@ -520,12 +480,8 @@ fn object_in<'a>(
     base: Option<Qualident>,
     decls: &Parts<Decl>,
 ) -> Result<Option<TypeId>, NoMemory>
-    ensures noted { OnOk result (found.new ≡ first_after found.old
-        (judge.object_of slot env.old at base decls.now).breaches) }
-    ensures env { OnOk result (env.new ≡
-        (judge.object_of slot env.old at base decls.now).answer.env) }
-    ensures of { IfOk result (λ t. t ≡
-        (judge.object_of slot env.old at base decls.now).answer.of) }
+    ensures { Tells result found.old found.new (λ of. judge.met env.new of)
+        (judge.object_of slot env.old at base decls.now) }
 {
     if env.innermost() != 0 {
         return Ok(refuse_type(found, OBJECT_INSIDE, at));
@@ -558,10 +514,8 @@ pub(crate) fn type_in<'a>(
     slot: Option<TypeId>,
     of: &TypeExpr,
 ) -> Result<Option<TypeId>, NoMemory>
-    ensures noted { OnOk result (found.new ≡ first_after found.old
-        (judge.type_in may_be_open slot env.old of.now).breaches) }
-    ensures env { OnOk result (env.new ≡ (judge.type_in may_be_open slot env.old of.now).answer.env) }
-    ensures of { IfOk result (λ t. t ≡ (judge.type_in may_be_open slot env.old of.now).answer.of) }
+    ensures { Tells result found.old found.new (λ of. judge.met env.new of)
+        (judge.type_in may_be_open slot env.old of.now) }
 {
     match of {
         TypeExpr::Named(name) => Ok(named_type(found, env, *name)),

@@ -16,5 +16,5 @@ loop-decl-preserved c =
     let one = walk (with_target e) ts (types_in d) in
     let on = goes_on c.loop-decl.found c.add_targets_of.new.found one (λ us. walk (with_target e) us (type_defs (drop (i + 1) ds))) c.add_targets_of.new.targets.items
     (walk (with_target e) ts (type_defs (drop i ds)))
-    (types_step e ts ds i d c.loop-decl-test.true c.decl-item.is) c.in_ok-add_targets_of.ensures.noted c.in_ok-add_targets_of.ensures.answer in
+    (types_step e ts ds i d c.loop-decl-test.true c.decl-item.is) c.in_ok-add_targets_of.ensures.noted c.in_ok-add_targets_of.ensures.is in
     record { noted = on.0 ∙ c.loop-decl.invariant.noted; answer = on.1 ∙ c.loop-decl.invariant.answer }

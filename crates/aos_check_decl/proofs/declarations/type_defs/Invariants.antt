@@ -1,12 +1,11 @@
--- The loop over types: the environment is that of the walk so far.
-use Rattle.std.proofs.Common.{◌≡◌, drop}
-use Rattle.aos_symbols.specs.Breaches.{first_after}
+-- The loop over types: what is left leads to the same as the whole.
+use Rattle.std.proofs.Common.{drop}
 use Rattle.aos_symbols.specs.Judged.{walk}
 use Rattle.aos_check_decl.specs.Headings as judge
+use Rattle.aos_check_decl.proofs.Telling.{Leads}
 use Rattle.aos_check_decl.proofs.declarations.type_defs.Given as goal
 
 abbrev pub invariant-loop-def : goal.invariant-loop-def
-invariant-loop-def l = record {
-  noted : first_after l.found (walk judge.type_def l.env (drop l.def-index l.defs)).breaches ≡ first_after l.initial.found (walk judge.type_def l.initial.env l.defs).breaches;
-  answer : (walk judge.type_def l.env (drop l.def-index l.defs)).answer ≡ (walk judge.type_def l.initial.env l.defs).answer;
-}
+invariant-loop-def l =
+    Leads (walk judge.type_def l.env (drop l.def-index l.defs))
+    (walk judge.type_def l.initial.env l.defs) l.found l.initial.found

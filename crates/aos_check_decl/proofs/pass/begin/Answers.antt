@@ -6,7 +6,7 @@ use Rattle.aos_symbols.specs.Breaches.{first_after}
 use Rattle.aos_symbols.specs.Entries.{home_of}
 use Rattle.aos_check_decl.specs.Aliases.{targets, numbers, first_rows}
 use Rattle.aos_check_decl.specs.Pass.{own_numbers, entered, begun}
-use Rattle.aos_check_decl.proofs.Binds.{IsBound}
+use Rattle.aos_check_decl.specs.Told.{Told}
 use Rattle.aos_check_decl.proofs.Starts.{started, begun_bound}
 use Rattle.aos_check_decl.proofs.pass.begin.Goals as goal
 
@@ -24,26 +24,24 @@ begins c =
     ∙ ap₂ (λ n k. own_numbers n k) (first_is c) (c.in_ok-count.ensures ∙ ap (λ ds. length (all_type_defs ds)) c.as_slice-decls.ensures))
 
 whole : (c : goal.After-drop-own-2) →
-    IsBound (begun (length c.args.before) c.args.before c.args.types c.args.text.now c.args.tree.now) c.args.found.now c.targets_of.new.found
+    Told (begun (length c.args.before) c.args.before c.args.types c.args.text.now c.args.tree.now) c.args.found.now c.targets_of.new.found
     (entered (length c.args.before) c.args.before (c.args.types ++ first_rows (length c.args.types) c.in_ok-targets.targets.items) c.args.text.now c.args.tree.now
     (numbers (length c.args.types) c.in_ok-targets.targets.items))
 whole c =
     let e = c.in_ok-env.env in
     begun_bound (length c.args.before) c.args.before c.args.types c.args.text.now c.args.tree.now c.in_ok-targets.targets.items
     (begins c)
-    (c.in_ok-targets.ensures.noted ∙ ap (λ ds. first_after c.args.found.now (targets e ds).breaches) c.as_slice-decls.ensures)
-    (c.in_ok-targets.ensures.answer ∙ ap (λ ds. (targets e ds).answer) c.as_slice-decls.ensures)
+    (c.in_ok-targets.ensures.told.noted ∙ ap (λ ds. first_after c.args.found.now (targets e ds).breaches) c.as_slice-decls.ensures)
+    (c.in_ok-targets.ensures.told.is ∙ ap (λ ds. (targets e ds).answer) c.as_slice-decls.ensures)
 
-pub returns-clause-noted : goal.returns-clause-noted
-returns-clause-noted c = (whole c).noted
-
-pub returns-clause-answer : goal.returns-clause-answer
-returns-clause-answer c =
+pub returns : goal.returns
+returns c =
     let ts = c.in_ok-targets.targets.items in
-    started (length c.args.before) c.args.before c.args.types c.args.text.now c.args.tree.now
+    let is = started (length c.args.before) c.args.before c.args.types c.args.text.now c.args.tree.now
     (own_numbers (length c.args.types) (length (all_type_defs c.args.tree.now.decls))) ts c.deref-3.result.now
     (c.in_ok-targets.ensures.env ∙ begins c)
     (c.in_ok-env-2.ensures ∙ ap (λ hs. home_of c.args.text.now hs c.deref-3.result.now c.args.tree.now) c.as_slice.ensures)
     (c.deref-3.ensures.value ∙ c.in_ok-numbers.ensures ∙ ap₂ (λ n us. numbers n us) (first_is c) c.deref-2.ensures.value)
     (c.in_ok-add_rows.ensures ∙ ap (λ us. c.targets_of.new.env.types ++ first_rows (length c.targets_of.new.env.types) us) c.deref-4.ensures.value)
-    ∙ (whole c).is
+    ∙ (whole c).is in
+    record { noted = (whole c).noted; is = is }

@@ -6,7 +6,7 @@ use Rattle.aos_symbols.specs.Breaches.{first_after}
 use Rattle.aos_check_decl.specs.Headings.{headings}
 use Rattle.aos_check_decl.specs.Limits.{limits}
 use Rattle.aos_check_decl.specs.Pass.{declare}
-use Rattle.aos_check_decl.proofs.Binds.{IsBound}
+use Rattle.aos_check_decl.specs.Told.{Told}
 use Rattle.aos_check_decl.proofs.Starts.{declare_bound}
 use Rattle.aos_check_decl.proofs.pass.declare.Goals as goal
 
@@ -23,16 +23,16 @@ first_is : (c : goal.In_ok-limits) → c.in-Ok.first ≡ length c.args.types
 first_is c = c.in-Ok.ensures.1 ∙ c.len.ensures
 
 whole : (c : goal.In_ok-limits) →
-    IsBound (declare (length c.args.before) c.args.before c.args.types c.args.text.now c.args.tree.now) c.args.found.now c.limits.new.found c.limits.new.env
+    Told (declare (length c.args.before) c.args.before c.args.types c.args.text.now c.args.tree.now) c.args.found.now c.limits.new.found c.limits.new.env
 whole c =
     let start = c.in_ok-env.env in
     let met = c.headings.new.env in
     declare_bound (length c.args.before) c.args.before c.args.types c.args.text.now c.args.tree.now
-    c.in_ok-env.ensures.noted c.in_ok-env.ensures.answer
+    c.in_ok-env.ensures.noted c.in_ok-env.ensures.is
     (c.in_ok-headings.ensures.noted ∙ ap (λ ds. first_after c.begin.new.found (headings start ds).breaches) c.as_slice-decls.ensures)
-    (c.in_ok-headings.ensures.env ∙ ap (λ ds. (headings start ds).answer) c.as_slice-decls.ensures)
+    (c.in_ok-headings.ensures.is ∙ ap (λ ds. (headings start ds).answer) c.as_slice-decls.ensures)
     (c.in_ok-limits.ensures.noted ∙ ap₂ (λ n ds. first_after c.headings.new.found (limits met n ds).breaches) (first_is c) c.as_slice-decls.ensures)
-    (c.in_ok-limits.ensures.env ∙ ap₂ (λ n ds. (limits met n ds).answer) (first_is c) c.as_slice-decls.ensures)
+    (c.in_ok-limits.ensures.is ∙ ap₂ (λ n ds. (limits met n ds).answer) (first_is c) c.as_slice-decls.ensures)
 
 pub returns-clause-noted : goal.returns-clause-noted
 returns-clause-noted c = (whole c).noted
