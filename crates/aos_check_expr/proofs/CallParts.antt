@@ -19,18 +19,18 @@ use Rattle.aos_symbols.specs.declared.env.Env.{Env}
 use Rattle.aos_symbols.specs.Judged.{Judged, bind}
 use Rattle.aos_symbols.proofs.Each.{Each}
 use Rattle.aos_symbols.proofs.Holds.{Holds, holds_bind}
-use Rattle.aos_check_expr.proofs.Inside.{Inside}
+use Rattle.aos_operators.proofs.Inside.{Inside}
+use Rattle.aos_operators.specs.declared.operations.Step.{Step}
+use Rattle.aos_operators.specs.Known.{Answer, is_integer}
+use Rattle.aos_operators.specs.Operations as op
+use Rattle.aos_operators.proofs.Good.{IsGood, MayBe, greatest_good, least_good}
+use Rattle.aos_operators.proofs.Sound.{IsStep, TestsOne, applied_step, applied_tests, converted_step, converted_tests}
 use Rattle.aos_check_expr.specs.declared.calls.Taking.TheVariants as taking
 use Rattle.aos_check_expr.specs.declared.designators.Head.{Head}
 use Rattle.aos_check_expr.specs.declared.signatures.Heading.TheVariants as heading
-use Rattle.aos_check_expr.specs.declared.operations.Step.{Step}
-use Rattle.aos_check_expr.specs.Known.{Answer, is_integer}
-use Rattle.aos_check_expr.specs.Operations as op
 use Rattle.aos_check_expr.specs.Designators as desig
 use Rattle.aos_check_expr.specs.Expressions as judge
 use Rattle.aos_check_expr.specs.Expressions.{Callee, Calls, Invokes, Converts, Neither}
-use Rattle.aos_check_expr.proofs.Good.{IsGood, MayBe, greatest_good, least_good}
-use Rattle.aos_check_expr.proofs.Sound.{IsStep, TestsOne, applied_step, applied_tests, converted_step, converted_tests}
 use Rattle.aos_check_expr.proofs.Parts.{argument_part, arguments_part, limit_part}
 use Rattle.aos_check_expr.proofs.Spots.{IsWhole, GoodConstants, IsProcedure, MayFind, Part, Valued, Spotted, refused_part, spotted, named_spot, guarded_part}
 use Rattle.aos_check_expr.proofs.Worded.{len_alone_part, len_in_part}

@@ -13,7 +13,7 @@ use Rattle.aos_symbols.specs.declared.breach.Breach.{Breach}
 use Rattle.aos_symbols.specs.Breaches.{first_after}
 use Rattle.aos_symbols.specs.Judged.{Judged, kept, bind}
 use Rattle.aos_symbols.proofs.Keeping.{after_more, after_two}
-use Rattle.aos_check_expr.specs.Known.{Answer}
+use Rattle.aos_operators.specs.Known.{Answer}
 use Rattle.aos_check_expr.specs.Arguments.{desig_alone, given_as, listed, Handing, handed, handed_from}
 use Rattle.aos_check_expr.specs.Seen.{seen_given}
 

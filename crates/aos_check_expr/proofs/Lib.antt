@@ -1,12 +1,6 @@
 pub mod Rows
-pub mod Inside
 pub mod Opens
-pub mod Stored
-pub mod Numbers
 pub mod Told
-pub mod Types
-pub mod Good
-pub mod Sound
 pub mod Parts
 pub mod Whole
 pub mod Naming

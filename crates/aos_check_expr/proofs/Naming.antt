@@ -6,10 +6,10 @@ use Rattle.aos_typed.specs.WellTyped.{IsProcedural}
 use Rattle.aos_types.specs.declared.signature.Signature.{Signature}
 use Rattle.aos_symbols.specs.declared.env.Env.{Env}
 use Rattle.aos_symbols.specs.Env as env
-use Rattle.aos_check_expr.specs.declared.known.Class.{Class}
-use Rattle.aos_check_expr.specs.declared.known.Class.TheVariants as class
-use Rattle.aos_check_expr.proofs.Inside.{Inside, IsOf}
-use Rattle.aos_check_expr.proofs.Stored.{IsStored, IsMade}
+use Rattle.aos_operators.specs.declared.known.Class.{Class}
+use Rattle.aos_operators.specs.declared.known.Class.TheVariants as class
+use Rattle.aos_operators.proofs.Inside.{Inside, IsOf}
+use Rattle.aos_operators.proofs.Stored.{IsStored, IsMade}
 use Rattle.aos_check_expr.proofs.Whole.{IsSigned}
 
 -- it is of each procedure type that has its formals

@@ -22,21 +22,21 @@ use Rattle.aos_symbols.specs.Breaches.{breach_unless}
 use Rattle.aos_symbols.specs.Judged.{Judged}
 use Rattle.aos_symbols.specs.Env.{set}
 use Rattle.aos_symbols.proofs.Holds.{Holds, none_left, none_right, test_is, broken}
-use Rattle.aos_check_expr.proofs.Inside.{Inside, IsOf}
-use Rattle.aos_check_expr.specs.declared.known.Class.{Class}
-use Rattle.aos_check_expr.specs.declared.known.Class.TheVariants.{Unknown, Constant, Variable, ReadOnly, Computed, Procedure}
-use Rattle.aos_check_expr.specs.declared.operations.Single.TheVariants as single
-use Rattle.aos_check_expr.specs.declared.operations.Joint.TheVariants as joint
-use Rattle.aos_check_expr.specs.declared.operations.Step.{Step}
-use Rattle.aos_check_expr.specs.declared.operations.Operation.{Operation}
-use Rattle.aos_check_expr.specs.Known.{Answer, is_number, is_lost, lost, answered, constant_answer, type_of_literal, type_of}
-use Rattle.aos_check_expr.specs.Operations as op
+use Rattle.aos_operators.proofs.Inside.{Inside, IsOf}
+use Rattle.aos_operators.specs.declared.known.Class.{Class}
+use Rattle.aos_operators.specs.declared.known.Class.TheVariants.{Unknown, Constant, Variable, ReadOnly, Computed, Procedure}
+use Rattle.aos_operators.specs.declared.operations.Single.TheVariants as single
+use Rattle.aos_operators.specs.declared.operations.Joint.TheVariants as joint
+use Rattle.aos_operators.specs.declared.operations.Step.{Step}
+use Rattle.aos_operators.specs.declared.operations.Operation.{Operation}
+use Rattle.aos_operators.specs.Known.{Answer, is_number, is_lost, lost, answered, constant_answer, type_of_literal, type_of}
+use Rattle.aos_operators.specs.Operations as op
+use Rattle.aos_operators.proofs.Stored.{IsStored, IsMade, not_stored, made_of_one, made_of, made_kept}
+use Rattle.aos_operators.proofs.Good.{IsGood, IsSet, MayBe, IsKnownClass, number_good, set_type, set_good, set_given, single_good, joint_good, class_of_one_known, class_of_known}
+use Rattle.aos_operators.proofs.Sound.{IsSound, IsPlain, basic_some, literal_none, literal_typed, plain_sound, sound_number, IsStep, IsOperation, TestsOne, TestsTwo, stepped_plain, joined_plain, signed_step, signed_tests, opposite_step, opposite_tests, added_operation, added_tests, multiplied_operation, multiplied_tests, related_operation, related_tests, shifted_operation, shifted_tests}
 use Rattle.aos_check_expr.specs.Expressions as judge
-use Rattle.aos_check_expr.proofs.Stored.{IsStored, IsMade, not_stored, made_of_one, made_of, made_kept}
-use Rattle.aos_check_expr.proofs.Good.{IsGood, IsSet, MayBe, IsKnownClass, number_good, set_type, set_good, set_given, single_good, joint_good, class_of_one_known, class_of_known}
 use Rattle.aos_check_expr.proofs.Whole.{IsWhole}
 use Rattle.aos_check_expr.proofs.Naming.{IsNaming, naming_made}
-use Rattle.aos_check_expr.proofs.Sound.{IsSound, IsPlain, basic_some, literal_none, literal_typed, plain_sound, sound_number, IsStep, IsOperation, TestsOne, TestsTwo, stepped_plain, joined_plain, signed_step, signed_tests, opposite_step, opposite_tests, added_operation, added_tests, multiplied_operation, multiplied_tests, related_operation, related_tests, shifted_operation, shifted_tests}
 
 -- of a part's class, that it is known, with a good value where it is constant; a variable is read; the part is sound in an environment of
 -- bodies, and where it is a procedure that is named, it is the one whose signature it names

@@ -33,9 +33,14 @@ use Rattle.aos_symbols.specs.Env.{char, nil, text}
 use Rattle.aos_symbols.proofs.Each.{Each}
 use Rattle.aos_symbols.proofs.Told.{basic as basic_told, of_any, defined}
 use Rattle.aos_symbols.proofs.Holds.{Holds, holds_bind, broken, test_is, none_left, none_right}
-use Rattle.aos_check_expr.specs.declared.known.Class.{Class}
-use Rattle.aos_check_expr.specs.declared.known.Class.TheVariants.{Unknown, Constant, Variable, ReadOnly, Computed, Procedure as ClassOf}
-use Rattle.aos_check_expr.specs.Known.{Answer, is_basic, is_integer, is_long_text, is, passes, fits_type, object_number, type_as, type_of, as_procedure}
+use Rattle.aos_operators.specs.declared.known.Class.{Class}
+use Rattle.aos_operators.specs.declared.known.Class.TheVariants.{Unknown, Constant, Variable, ReadOnly, Computed, Procedure as ClassOf}
+use Rattle.aos_operators.specs.Known.{Answer, is_basic, is_integer, is_long_text, is, passes, fits_type, object_number, type_as, type_of, as_procedure}
+use Rattle.aos_operators.proofs.Inside.{Inside, IsPlaceOf, AreRows, AreArguments, IsCalled, IsOf, IsNamed}
+use Rattle.aos_operators.proofs.Types.{same_type, id_above, as_named, as_basic, fits_includes, wider, includes_itself, integer_basic}
+use Rattle.aos_operators.proofs.Good.{IsGood, IsKnownClass}
+use Rattle.aos_operators.proofs.Stored.{IsStored}
+use Rattle.aos_operators.proofs.Sound.{not_both, IsScalar, IsClosedPlace, IsOpenPlace, IsWholeRead, IsOther, IsSound, scalar_of}
 use Rattle.aos_check_expr.specs.declared.signatures.Heading.{Heading}
 use Rattle.aos_check_expr.specs.Signatures.{signature_of}
 use Rattle.aos_check_expr.specs.Designators.{has_parts, is_opened, is_record_type, is_reference, is_procedural, is_value, is_compatible, is_assignable, typed_for, names_type, with_type, place_in}
@@ -43,12 +48,7 @@ use Rattle.aos_check_expr.specs.Arrays as arrays
 use Rattle.aos_check_expr.specs.Arguments as judge
 use Rattle.aos_check_expr.specs.Arguments.{Given, Scalar, Whole, Opening, Handing, given_as, listed}
 use Rattle.aos_check_expr.specs.Expressions as calls
-use Rattle.aos_check_expr.proofs.Inside.{Inside, IsPlaceOf, AreRows, AreArguments, IsCalled, IsOf, IsNamed}
-use Rattle.aos_check_expr.proofs.Types.{same_type, id_above, as_named, as_basic, fits_includes, wider, includes_itself, integer_basic}
 use Rattle.aos_check_expr.proofs.Opens.{closed_row, all_behind, closed_dimensions, closed_element, next_dimensions, next_element}
-use Rattle.aos_check_expr.proofs.Good.{IsGood, IsKnownClass}
-use Rattle.aos_check_expr.proofs.Stored.{IsStored}
-use Rattle.aos_check_expr.proofs.Sound.{not_both, IsScalar, IsClosedPlace, IsOpenPlace, IsWholeRead, IsOther, IsSound, scalar_of}
 use Rattle.aos_check_expr.proofs.Whole.{IsWritten}
 use Rattle.aos_check_expr.proofs.Objects.{basic_value, value_typed, either_is, IsPartsRow, row_high, high_row, reference_kind, reference_typed, of_any_type, object_of, parts_no_reference, routine_no_parts}
 use Rattle.aos_check_expr.proofs.Called.{IsCalling}

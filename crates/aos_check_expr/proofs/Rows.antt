@@ -18,8 +18,8 @@ use Rattle.aos_tree.specs.declared.expr.Selector.{Selector, Row_of-Expr, end_of-
 use Rattle.aos_tree.specs.declared.expr.Selector.TheVariants as s
 use Rattle.aos_symbols.specs.declared.env.Env.{Env}
 use Rattle.aos_symbols.specs.Judged.{Judged, bind, walk}
-use Rattle.aos_check_expr.specs.Known.{Answer, Spot}
-use Rattle.aos_check_expr.specs.Operations.{no_elements}
+use Rattle.aos_operators.specs.Known.{Answer, Spot}
+use Rattle.aos_operators.specs.Operations.{no_elements}
 use Rattle.aos_check_expr.specs.Designators.{plain, read}
 use Rattle.aos_check_expr.specs.Expressions.{expr, relation, relation_if, simple, addition, additions, term, product, products, factor, elements, element, Part, Begun, spot_of_part, selected, as_part, designator, selectors, selector, indices, index, indexed, arguments, bracketed, added, is_test, tested, qualident_in, related_by, signed, opposite, whole_set, with_element, with_span}
 

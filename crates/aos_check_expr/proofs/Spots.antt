@@ -41,17 +41,20 @@ use Rattle.aos_symbols.proofs.Each.{each_at}
 use Rattle.aos_symbols.proofs.Holds.{Holds, holds_bind, broken}
 use Rattle.aos_symbols.proofs.Lookups.{IsPredeclared, itself, IsOfAll, lookup_is, member_is}
 use Rattle.aos_symbols.proofs.Told.{IsTold, basic as basic_told, of_any, defined}
-use Rattle.aos_check_expr.proofs.Inside.{Inside, IsPlaceOf, AreRows, IsOf, IsNamed}
-use Rattle.aos_check_expr.specs.declared.known.Class.{Class}
-use Rattle.aos_check_expr.specs.declared.known.Class.TheVariants.{Unknown, Constant, Variable, ReadOnly, Computed, Procedure as ClassOf}
-use Rattle.aos_check_expr.specs.declared.known.Known.{Known}
+use Rattle.aos_operators.proofs.Inside.{Inside, IsPlaceOf, AreRows, IsOf, IsNamed}
+use Rattle.aos_operators.specs.declared.known.Class.{Class}
+use Rattle.aos_operators.specs.declared.known.Class.TheVariants.{Unknown, Constant, Variable, ReadOnly, Computed, Procedure as ClassOf}
+use Rattle.aos_operators.specs.declared.known.Known.{Known}
+use Rattle.aos_operators.specs.Known.{Answer, Spot, Held, Stands, Value, is_basic, is_number, is_lost, object_number, value_class, type_as, type_of, read_from, known_as, spot_of, answered, constant_answer, nothing}
+use Rattle.aos_operators.proofs.Types.{includes_itself, as_basic, id_as}
+use Rattle.aos_operators.proofs.Stored.{IsStored, not_stored}
+use Rattle.aos_operators.proofs.Good.{IsGood, HasGood, IsKnownClass}
+use Rattle.aos_operators.proofs.Sound.{not_both, IsScalar, IsClosedPlace, IsOpenPlace, IsWholeRead, IsOther, IsObject, IsSound, IsPlain, plain_sound, sound_number}
 use Rattle.aos_check_expr.specs.declared.designators.Head.{Head}
-use Rattle.aos_check_expr.specs.Known.{Answer, Spot, Held, Stands, Value, is_basic, is_number, is_lost, object_number, value_class, type_as, type_of, read_from, known_as, spot_of, answered, constant_answer, nothing}
 use Rattle.aos_check_expr.specs.declared.signatures.Heading.TheVariants as heading
 use Rattle.aos_check_expr.specs.Designators as desig
 use Rattle.aos_check_expr.specs.Expressions as judge
 use Rattle.aos_check_expr.specs.Expressions.{Bound}
-use Rattle.aos_check_expr.proofs.Types.{includes_itself, as_basic, id_as}
 pub use Rattle.aos_check_expr.proofs.Whole.{IsTyped, closed, opened, GoodConstants, IsParameterType, AreParameters, IsResultOf, IsSigned, IsFieldScope, IsSearched, has_fields, AreOpensTold, parameter_type, opens_told, told_element, IsWhole, NarrowsWell, text_row, no_array, array_open, no_open, opened_row, told_closed, row_opened, elements_told, elements_id}
 use Rattle.aos_check_expr.proofs.Called.{IsCalling, IsBound, if_some, through_calling}
 use Rattle.aos_check_expr.proofs.Objects.{basic_value, sound_object, of_own_type, parts_no_reference, record_no_reference, routine_no_parts, IsPartsRow}
@@ -60,9 +63,6 @@ use Rattle.aos_check_expr.proofs.Pointed.{no_extension, pointed_kind, followed_t
 use Rattle.aos_check_expr.proofs.Naming.{IsNaming, naming_made, naming_stored}
 use Rattle.aos_check_expr.proofs.Callable.{told_no_nil, procedural_row, callable_own}
 use Rattle.aos_check_expr.proofs.Opens.{closed_dimensions, closed_element, next_dimensions, next_element}
-use Rattle.aos_check_expr.proofs.Stored.{IsStored, not_stored}
-use Rattle.aos_check_expr.proofs.Good.{IsGood, HasGood, IsKnownClass}
-use Rattle.aos_check_expr.proofs.Sound.{not_both, IsScalar, IsClosedPlace, IsOpenPlace, IsWholeRead, IsOther, IsObject, IsSound, IsPlain, plain_sound, sound_number}
 use Rattle.aos_check_expr.proofs.Parts.{IsPart, IsValue, constant_part}
 
 -- a designator is a variable of its type, or a sound value

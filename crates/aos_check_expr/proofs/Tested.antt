@@ -18,20 +18,20 @@ use Rattle.aos_typed.specs.WellTyped.{is_reference as is_reference_type, is_proc
 use Rattle.aos_symbols.specs.declared.env.Env.{Env}
 use Rattle.aos_symbols.specs.Env.{boolean, nil, procedure}
 use Rattle.aos_symbols.proofs.Holds.{Holds, holds_bind, none_left, none_right, test_is, broken}
-use Rattle.aos_check_expr.proofs.Inside.{Inside, IsPlaceOf, IsOf, IsNamed}
-use Rattle.aos_check_expr.specs.declared.known.Class.{Class}
-use Rattle.aos_check_expr.specs.declared.known.Class.TheVariants.{Unknown, Computed}
-use Rattle.aos_check_expr.specs.declared.operations.Operation.{Operation}
-use Rattle.aos_check_expr.specs.Known.{Answer, is, is_basic, is_of_any, is_lost, is_nil, value_class, type_as, answered, as_procedure, object_number}
-use Rattle.aos_check_expr.specs.Operations as op
+use Rattle.aos_operators.proofs.Inside.{Inside, IsPlaceOf, IsOf, IsNamed}
+use Rattle.aos_operators.specs.declared.known.Class.{Class}
+use Rattle.aos_operators.specs.declared.known.Class.TheVariants.{Unknown, Computed}
+use Rattle.aos_operators.specs.declared.operations.Operation.{Operation}
+use Rattle.aos_operators.specs.Known.{Answer, is, is_basic, is_of_any, is_lost, is_nil, value_class, type_as, answered, as_procedure, object_number}
+use Rattle.aos_operators.specs.Operations as op
+use Rattle.aos_operators.proofs.Types.{not_both, same_type}
+use Rattle.aos_operators.proofs.Good.{IsGood, IsKnownClass, joint_good, class_of_known}
+use Rattle.aos_operators.proofs.Stored.{IsMade, not_stored, made_of}
+use Rattle.aos_operators.proofs.Sound.{IsScalar, IsClosedPlace, IsOpenPlace, IsWholeRead, IsOther, IsSound, plain_sound, answered_plain}
 use Rattle.aos_check_expr.specs.Designators as desig
 use Rattle.aos_check_expr.specs.TypeNames.{last_name}
 use Rattle.aos_check_expr.specs.Expressions as judge
-use Rattle.aos_check_expr.proofs.Types.{not_both, same_type}
-use Rattle.aos_check_expr.proofs.Good.{IsGood, IsKnownClass, joint_good, class_of_known}
-use Rattle.aos_check_expr.proofs.Stored.{IsMade, not_stored, made_of}
 use Rattle.aos_check_expr.proofs.Naming.{naming_made}
-use Rattle.aos_check_expr.proofs.Sound.{IsScalar, IsClosedPlace, IsOpenPlace, IsWholeRead, IsOther, IsSound, plain_sound, answered_plain}
 use Rattle.aos_check_expr.proofs.Parts.{class_answered, related_objects}
 use Rattle.aos_check_expr.proofs.Whole.{IsWhole}
 use Rattle.aos_check_expr.proofs.Objects.{either_is, IsReference, IsPartsRow, high_row, reference_kind, of_any_type, sound_object, parts_no_reference, record_no_reference, routine_no_parts}

@@ -31,17 +31,21 @@ use Rattle.aos_symbols.specs.Env.{text_constant}
 use Rattle.aos_symbols.proofs.Holds.{Holds, holds_bind, holds_walk, broken, test_is}
 use Rattle.aos_base.specs.Number.{if_within}
 use Rattle.aos_base.specs.Operators.{natural}
-use Rattle.aos_check_expr.proofs.Inside.{IsOf, AreRows}
-use Rattle.aos_check_expr.specs.declared.known.Class.{Class}
-use Rattle.aos_check_expr.specs.declared.known.Class.TheVariants.{Unknown, Constant, Variable, ReadOnly, Computed, Procedure}
+use Rattle.aos_operators.proofs.Inside.{IsOf, AreRows}
+use Rattle.aos_operators.specs.declared.known.Class.{Class}
+use Rattle.aos_operators.specs.declared.known.Class.TheVariants.{Unknown, Constant, Variable, ReadOnly, Computed, Procedure}
+use Rattle.aos_operators.specs.Known.{Answer, Spot, read_from, is_number, is_boolean, is_char, is_lost, constant_answer}
+use Rattle.aos_operators.specs.Operations as op
+use Rattle.aos_operators.proofs.Good.{IsKnownClass, within_if, natural_below}
+pub use Rattle.aos_operators.proofs.Types.{wider}
+pub use Rattle.aos_operators.proofs.Good.{IsGood, HasGood}
+pub use Rattle.aos_operators.proofs.Sound.{IsSound, sound_number, sound_char, sound_boolean}
+pub use Rattle.aos_operators.proofs.Inside.{Inside}
 use Rattle.aos_check_expr.specs.declared.designators.Head.{Head}
 use Rattle.aos_check_expr.specs.declared.signatures.Heading.{Heading}
 use Rattle.aos_check_expr.specs.declared.signatures.Heading.TheVariants as heading
-use Rattle.aos_check_expr.specs.Known.{Answer, Spot, read_from, is_number, is_boolean, is_char, is_lost, constant_answer}
-use Rattle.aos_check_expr.specs.Operations as op
 use Rattle.aos_check_expr.specs.Designators as desig
 use Rattle.aos_check_expr.specs.Expressions as judge
-use Rattle.aos_check_expr.proofs.Good.{IsKnownClass, within_if, natural_below}
 use Rattle.aos_check_expr.proofs.Parts.{Elements, as_part, constant_part, added_part, multiplied_part, related_part, signed_part, opposite_part, number_part, character_part, string_part, no_elements, with_element_part, with_span_part, whole_part}
 use Rattle.aos_check_expr.proofs.Selves.{object_type_row}
 use Rattle.aos_check_expr.proofs.Called.{IsCalling, IsBound, if_some, and_then_some, dispatched_calling, own_calling, raised_calling}
@@ -50,12 +54,8 @@ use Rattle.aos_check_expr.proofs.Passed.{invoked_part}
 use Rattle.aos_check_expr.proofs.Tested.{objects_part, procedures_part, tested_part}
 use Rattle.aos_check_expr.proofs.CallParts.{Parts, called_part}
 use Rattle.aos_check_expr.proofs.Worded.{first_below, texts_part}
-pub use Rattle.aos_check_expr.proofs.Types.{wider}
-pub use Rattle.aos_check_expr.proofs.Good.{IsGood, HasGood}
-pub use Rattle.aos_check_expr.proofs.Sound.{IsSound, sound_number, sound_char, sound_boolean}
 pub use Rattle.aos_check_expr.proofs.Spots.{IsTyped, GoodConstants, IsWhole, IsSoundSpot}
 pub use Rattle.aos_check_expr.proofs.Worded.{characters_are, text_rows_are}
-pub use Rattle.aos_check_expr.proofs.Inside.{Inside}
 pub use Rattle.aos_check_expr.proofs.Passed.{arguments_part}
 
 -- The walk over an expression.

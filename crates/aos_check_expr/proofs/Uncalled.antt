@@ -50,21 +50,21 @@ use Rattle.aos_symbols.specs.declared.env.Env.{Env}
 use Rattle.aos_symbols.specs.Judged.{Judged, bind}
 use Rattle.aos_symbols.specs.Env as env
 use Rattle.aos_symbols.proofs.Each.{Each}
-use Rattle.aos_check_expr.specs.declared.known.Class.{Class}
-use Rattle.aos_check_expr.specs.declared.known.Class.TheVariants.{Unknown, Constant, Variable, ReadOnly, Computed, Procedure}
-use Rattle.aos_check_expr.specs.declared.operations.Single.{Single}
-use Rattle.aos_check_expr.specs.declared.operations.Single.TheVariants as single
-use Rattle.aos_check_expr.specs.declared.operations.Joint.{Joint}
-use Rattle.aos_check_expr.specs.declared.operations.Joint.TheVariants as joint
-use Rattle.aos_check_expr.specs.declared.operations.Step.{Step}
-use Rattle.aos_check_expr.specs.declared.operations.Operation.{Operation}
+use Rattle.aos_operators.specs.declared.known.Class.{Class}
+use Rattle.aos_operators.specs.declared.known.Class.TheVariants.{Unknown, Constant, Variable, ReadOnly, Computed, Procedure}
+use Rattle.aos_operators.specs.declared.operations.Single.{Single}
+use Rattle.aos_operators.specs.declared.operations.Single.TheVariants as single
+use Rattle.aos_operators.specs.declared.operations.Joint.{Joint}
+use Rattle.aos_operators.specs.declared.operations.Joint.TheVariants as joint
+use Rattle.aos_operators.specs.declared.operations.Step.{Step}
+use Rattle.aos_operators.specs.declared.operations.Operation.{Operation}
+use Rattle.aos_operators.specs.Known.{Answer, Spot, Held, Stands, Value, read_from, type_as, typed_as, is_basic, is_nil, is_number, value_class, as_procedure}
+use Rattle.aos_operators.specs.Operations as op
 use Rattle.aos_check_expr.specs.declared.calls.Taking.TheVariants as taking
 use Rattle.aos_check_expr.specs.declared.designators.Head.{Head}
 use Rattle.aos_check_expr.specs.declared.signatures.Heading.{Heading}
 use Rattle.aos_check_expr.specs.declared.signatures.Heading.TheVariants as heading
-use Rattle.aos_check_expr.specs.Known.{Answer, Spot, Held, Stands, Value, read_from, type_as, typed_as, is_basic, is_nil, is_number, value_class, as_procedure}
 use Rattle.aos_check_expr.specs.Arguments.{Given}
-use Rattle.aos_check_expr.specs.Operations as op
 use Rattle.aos_check_expr.specs.Designators as desig
 use Rattle.aos_check_expr.specs.Expressions as judge
 

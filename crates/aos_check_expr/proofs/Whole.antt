@@ -39,12 +39,12 @@ use Rattle.aos_symbols.specs.Env as env
 use Rattle.aos_symbols.specs.Env.{nil, text}
 use Rattle.aos_symbols.proofs.Each.{Each}
 use Rattle.aos_symbols.proofs.Told.{IsTold, basic as basic_told, of_any, defined, IsKnown, PartsAreTold}
-use Rattle.aos_check_expr.proofs.Inside.{Inside, IsPlaceOf, AreRows}
-use Rattle.aos_check_expr.specs.Known.{Spot, is_basic, object_number, type_as, type_of}
+use Rattle.aos_operators.proofs.Inside.{Inside, IsPlaceOf, AreRows}
+use Rattle.aos_operators.specs.Known.{Spot, is_basic, object_number, type_as, type_of}
+use Rattle.aos_operators.proofs.Good.{HasGood}
+use Rattle.aos_operators.proofs.Types.{not_both, id_as}
 use Rattle.aos_check_expr.specs.Designators as desig
 use Rattle.aos_check_expr.proofs.Opens.{OpensFall, OpensStand, IsVariableNumber, some_there, behind_all}
-use Rattle.aos_check_expr.proofs.Good.{HasGood}
-use Rattle.aos_check_expr.proofs.Types.{not_both, id_as}
 
 -- a variable has the type that is known of it, or is an open array, with its rows
 pub data IsTyped (p : Inside) (e : Env) (place : Place) (of : Option TypeId) : Type 0 where

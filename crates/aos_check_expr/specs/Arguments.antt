@@ -24,10 +24,10 @@ use Rattle.aos_symbols.specs.declared.env.Env.{Env}
 use Rattle.aos_symbols.specs.Breaches.{breach}
 use Rattle.aos_symbols.specs.Judged.{Judged, judged, kept, bind}
 use Rattle.aos_symbols.specs.Env as env
-use Rattle.aos_check_expr.specs.declared.known.Class.{Class}
-use Rattle.aos_check_expr.specs.declared.known.Class.TheVariants.{Unknown, Constant, Variable, ReadOnly, Computed, Procedure}
-use Rattle.aos_check_expr.specs.declared.known.Known.{Known}
-use Rattle.aos_check_expr.specs.Known.{Answer, is, passes}
+use Rattle.aos_operators.specs.declared.known.Class.{Class}
+use Rattle.aos_operators.specs.declared.known.Class.TheVariants.{Unknown, Constant, Variable, ReadOnly, Computed, Procedure}
+use Rattle.aos_operators.specs.declared.known.Known.{Known}
+use Rattle.aos_operators.specs.Known.{Answer, is, passes}
 use Rattle.aos_check_expr.specs.Designators.{has_parts, is_opened, is_record_type, is_value, is_assignable, typed_for, with_type, place_in}
 use Rattle.aos_check_expr.specs.Arrays.{is_array, is_characters, string_in, text_for, has_room, rows_in}
 

@@ -17,11 +17,11 @@ use Rattle.aos_symbols.specs.declared.env.Env.{Env}
 use Rattle.aos_symbols.specs.Breaches.{breach_unless}
 use Rattle.aos_symbols.specs.Judged.{Judged, judged}
 use Rattle.aos_symbols.specs.Env as env
-use Rattle.aos_check_expr.specs.declared.known.Class.{Class}
-use Rattle.aos_check_expr.specs.declared.known.Class.TheVariants.{Unknown, Constant}
-use Rattle.aos_check_expr.specs.declared.known.Known.{Known}
-use Rattle.aos_check_expr.specs.Known.{Answer, is_basic, is_char, value_class, answered}
-use Rattle.aos_check_expr.specs.Operations as op
+use Rattle.aos_operators.specs.declared.known.Class.{Class}
+use Rattle.aos_operators.specs.declared.known.Class.TheVariants.{Unknown, Constant}
+use Rattle.aos_operators.specs.declared.known.Known.{Known}
+use Rattle.aos_operators.specs.Known.{Answer, is_basic, is_char, value_class, answered}
+use Rattle.aos_operators.specs.Operations as op
 use Rattle.aos_check_expr.specs.Designators.{is_opened, place_in, rows_of}
 
 -- The lengths of arrays.

@@ -32,13 +32,14 @@ use Rattle.aos_symbols.specs.Breaches.{breach, breach_unless}
 use Rattle.aos_symbols.specs.Judged.{Judged, judged, kept, bind}
 use Rattle.aos_symbols.specs.Spelling.{word, is_among, procedures_of_out}
 use Rattle.aos_symbols.specs.Env as env
-use Rattle.aos_check_expr.specs.declared.known.Class.{Class}
-use Rattle.aos_check_expr.specs.declared.known.Class.TheVariants.{Unknown, Constant, Variable, ReadOnly, Computed, Procedure}
-use Rattle.aos_check_expr.specs.declared.known.Known.{Known as KnownPart}
+use Rattle.aos_operators.specs.declared.known.Class.{Class}
+use Rattle.aos_operators.specs.declared.known.Class.TheVariants.{Unknown, Constant, Variable, ReadOnly, Computed, Procedure}
+use Rattle.aos_operators.specs.declared.known.Known.{Known as KnownPart}
 use Rattle.aos_check_expr.specs.declared.designators.Head.{Head}
 use Rattle.aos_types.specs.Signature.{same_signature}
+pub use Rattle.aos_operators.specs.Known.{refused, refused_value}
+use Rattle.aos_operators.specs.Known.{Answer, Spot, Held, Stands, Value, passes, is, is_basic, is_of_any, is_long_text, is_number, fits_type, object_number, type_as, unknown, constant_answer, answered, nothing, spot_of, read_from, known_as, value_class, lost, as_procedure}
 use Rattle.aos_check_expr.specs.Signatures.{type_signature}
-use Rattle.aos_check_expr.specs.Known.{Answer, Spot, Held, Stands, Value, passes, is, is_basic, is_of_any, is_long_text, is_number, fits_type, object_number, type_as, unknown, some_value, constant_answer, answered, nothing, spot_of, read_from, known_as, value_class, lost, as_procedure}
 
 -- A head is what is found of a name, the name, and where the designator begins.
 
@@ -94,13 +95,6 @@ abbrev pub access : Bool → Option Export → Class
 access here None = Variable
 access here (Some ReadWrite) = Variable
 access here (Some OnlyRead) = if here then Variable else ReadOnly
-
--- a rule that is broken, by what may be anything, and by what is some value
-abbrev pub refused : ℕ → Pos → Judged Answer
-refused rule at = judged (breach rule at) unknown
-
-abbrev pub refused_value : ℕ → Pos → Judged Answer
-refused_value rule at = judged (breach rule at) some_value
 
 abbrev pub spotted : Pos → Judged Answer → Judged Spot
 spotted at j = bind j (λ a. kept (spot_of at a))

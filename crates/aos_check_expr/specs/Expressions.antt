@@ -1,7 +1,7 @@
 -- Expressions: which rules they break, what is known of them and what they are in the typed program (Oberon-2 report, section
 -- 8).
 use Rattle.std.specs.Option.{option_or}
-use Rattle.std.specs.Prelude.{ℕ, ℤ, pos, List, [], ◌∷◌, ◌++◌, Bool, true, false, not, ◌&&◌, ◌||◌, Option, Some, None, is_some, option_map, option_and_then, if◌then◌else◌}
+use Rattle.std.specs.Prelude.{ℕ, pos, List, [], ◌∷◌, ◌++◌, Bool, true, false, not, ◌&&◌, ◌||◌, Option, Some, None, is_some, option_map, option_and_then, if◌then◌else◌}
 use Rattle.aos_base.specs.declared.text.Pos.{Pos}
 use Rattle.aos_base.specs.declared.number.Width.TheVariants.{W64}
 use Rattle.aos_base.specs.declared.number.Relation.{Relation}
@@ -13,9 +13,6 @@ use Rattle.aos_tree.specs.declared.name.Name.{Name}
 use Rattle.aos_tree.specs.declared.name.Qualident.{Qualident}
 use Rattle.aos_tree.specs.declared.expr.RelationOp.{RelationOp}
 use Rattle.aos_tree.specs.declared.expr.RelationOp.TheVariants as relation_op
-use Rattle.aos_tree.specs.declared.expr.Sign.{Sign}
-use Rattle.aos_tree.specs.declared.expr.AddOp.{AddOp}
-use Rattle.aos_tree.specs.declared.expr.MulOp.{MulOp}
 use Rattle.aos_tree.specs.declared.expr.Expr.{Expr, Expr', Held-Expr-right, Expr-right-None', Expr-right-Some', out-Expr}
 use Rattle.aos_tree.specs.declared.expr.Relation.{Relation as TreeRelation, Relation'}
 use Rattle.aos_tree.specs.declared.expr.Simple.{Simple, Simple', Row_of-Addition, end_of-Addition, more_of-Addition}
@@ -51,46 +48,27 @@ use Rattle.aos_symbols.specs.declared.breach.Breach.{Breach}
 use Rattle.aos_symbols.specs.Breaches.{breach, breach_unless}
 use Rattle.aos_symbols.specs.Judged.{Judged, judged, kept, bind, walk}
 use Rattle.aos_symbols.specs.Env as env
-use Rattle.aos_check_expr.specs.declared.known.Class.{Class}
-use Rattle.aos_check_expr.specs.declared.known.Class.TheVariants.{Unknown, Constant, Variable, ReadOnly, Computed, Procedure}
-use Rattle.aos_check_expr.specs.declared.known.Known.{Known}
+use Rattle.aos_operators.specs.declared.known.Class.{Class}
+use Rattle.aos_operators.specs.declared.known.Class.TheVariants.{Unknown, Constant, Variable, ReadOnly, Computed, Procedure}
+use Rattle.aos_operators.specs.declared.known.Known.{Known}
+use Rattle.aos_operators.specs.declared.operations.Joint.TheVariants as joint
+use Rattle.aos_operators.specs.declared.operations.Step.{Step}
+use Rattle.aos_operators.specs.declared.operations.Operation.{Operation}
+use Rattle.aos_operators.specs.Known.{Answer, Spot, passes, is, is_of_any, is_number, is_boolean, is_integer, object_number, value_class, constant_answer, answered, nothing, read_from, as_procedure}
+use Rattle.aos_operators.specs.Operations as op
 use Rattle.aos_check_expr.specs.declared.designators.Head.{Head}
-use Rattle.aos_check_expr.specs.declared.operations.Joint.TheVariants as joint
-use Rattle.aos_check_expr.specs.declared.operations.Step.{Step}
-use Rattle.aos_check_expr.specs.declared.operations.Operation.{Operation}
 use Rattle.aos_check_expr.specs.declared.signatures.Heading.{Heading}
 use Rattle.aos_check_expr.specs.declared.signatures.Heading.TheVariants as heading
 use Rattle.aos_check_expr.specs.declared.calls.Limit.{Limit}
 use Rattle.aos_check_expr.specs.declared.calls.Limit.TheVariants as which
 use Rattle.aos_check_expr.specs.declared.calls.Taking.{Taking}
 use Rattle.aos_check_expr.specs.declared.calls.Taking.TheVariants as taking
-use Rattle.aos_check_expr.specs.Known.{Answer, Spot, passes, is, is_of_any, is_number, is_boolean, is_integer, object_number, value_class, constant_answer, answered, nothing, read_from, as_procedure}
-use Rattle.aos_check_expr.specs.Operations as op
 use Rattle.aos_check_expr.specs.Designators as desig
+pub use Rattle.aos_operators.specs.Forms.{not_yet, number, character, string, added, multiplied, is_test, signed, opposite, with_element, with_span, whole_set}
 pub use Rattle.aos_check_expr.specs.Signatures.{signature_of}
 pub use Rattle.aos_check_expr.specs.Arrays.{is_array, length_of, is_opening, array_in, lengths_from, open_rows, array_rows, length_behind, len_typed, len_answer, number_in, has_dimension, is_dimension, len_alone, len_in, is_characters, string_in, is_text, is_only_text, may_be_text, are_texts, string_rows, rows_in, text_rows, has_room, text_for}
 pub use Rattle.aos_check_expr.specs.Arguments.{is_factor, first_factor, desig_in, desig_alone, Given, Handing, nothing_handed, listed, handed_from, arguments_for, is_factor_of, first_factor_of}
 pub use Rattle.aos_check_expr.specs.TypeNames.{named_type, known_type}
-
--- Forms without parts.
-
-abbrev pub not_yet : Pos → Judged Answer
-not_yet at = desig.refused 99 at
-
--- a number, which the scanner has found to be one of 64 bits
-abbrev pub number : Option ℤ → Pos → Judged Answer
-number None at = not_yet at
-number (Some n) at = kept (constant_answer (literal.Int n))
-
--- a character by its code
-abbrev pub character : Option ℕ → Pos → Judged Answer
-character None at = not_yet at
-character (Some c) at = kept (constant_answer (literal.Char c))
-
--- a string constant, which the parser has found to be one of its text's
-abbrev pub string : Option TextConstant → Pos → Judged Answer
-string None at = not_yet at
-string (Some t) at = kept (constant_answer (literal.Text t))
 
 -- A name alone, or a name behind that of a module: its head. Such is the argument of MAX and MIN.
 
@@ -451,14 +429,6 @@ bracketed_as e first (Waits b) p js xs = bracketed_method e b js xs
 abbrev pub bracketed : Env → Pos → Part → Pos → List (Judged Answer) → List Expr → Judged Part
 bracketed e first a p js xs = bracketed_as e first (bound_part e first a) p js xs
 
--- The tables at a place.
-
-abbrev pub added : Pos → Pos → AddOp → Answer → Answer → Judged Answer
-added first at o a b = op.operands first at (op.added o a.known.of b.known.of) a b
-
-abbrev pub multiplied : Pos → Pos → MulOp → Answer → Answer → Judged Answer
-multiplied first at o a b = op.operands first at (op.multiplied o a.known.of b.known.of) a b
-
 -- Type tests: the right operand is the name of a type.
 
 abbrev pub test_typed : Env → Answer → Option TypeId → Typed
@@ -492,10 +462,6 @@ qualident_of n _ = None
 abbrev pub qualident_in : Simple → Option Qualident
 qualident_in x =
     if is_factor_of x then option_and_then (λ d. qualident_of d.name d.selectors) (desig_in (first_factor_of x)) else None
-
-abbrev pub is_test : RelationOp → Bool
-is_test relation_op.Is = true
-is_test o = false
 
 abbrev pub compares_texts : Env → RelationOp → Known → Known → Bool
 compares_texts e relation_op.In a b = false
@@ -580,27 +546,6 @@ related_by e first at o a b =
     if compares_texts e o a.known b.known then op.told first [] (texts_related e (relation_in o) a b)
     else if compares_procedures e o a.known.of b.known.of then procedures_related e first at o a b
     else op.operands first at (operation_of e o a.known.of b.known.of) a b
-
-abbrev pub signed : Option Sign → Pos → Answer → Judged Answer
-signed None at a = kept a
-signed (Some g) at a = op.operand at at (op.signed g a.known.of) a
-
-abbrev pub opposite : Pos → Answer → Judged Answer
-opposite at a = op.operand at at (op.opposite a.known.of) a
-
--- the elements of a set so far, and one more; a constant set is computed as a whole
-abbrev pub with_element : Pos → Answer → Answer → Judged Answer
-with_element at a x =
-    let s = op.one_element x.known.of in
-    judged (breach_unless s.is_kept 30 at) (op.joined op.union a (op.stepped s x))
-
-abbrev pub with_span : Pos → Answer → Answer → Answer → Judged Answer
-with_span at a x y =
-    let o = op.span x.known.of y.known.of in
-    judged (breach_unless o.is_kept 30 at) (op.joined op.union a (op.joined o x y))
-
-abbrev pub whole_set : Pos → Answer → Judged Answer
-whole_set at a = op.told at [] a
 
 -- a constant expression has a value where it breaks no rule
 abbrev pub constant_class : Class → Pos → Judged (Option Literal)

@@ -1,6 +1,4 @@
-pub mod Known
 pub mod Signatures
-pub mod Operations
 pub mod Designators
 pub mod Expressions
 pub mod Seen

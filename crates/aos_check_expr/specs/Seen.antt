@@ -1,29 +1,15 @@
--- What the code's answers are seen as.
+-- What the code's methods, parts of designators and arguments are seen as.
 use Rattle.std.specs.Prelude.{map}
 use Rattle.aos_typed.specs.Seen.{seen_place, seen_rows, seen_callee, seen_expr}
-use Rattle.aos_check_expr.specs.declared.known.Answer.{Answer as CodeAnswer}
-use Rattle.aos_check_expr.specs.declared.known.Held.{Held as CodeHeld}
-use Rattle.aos_check_expr.specs.declared.known.Held.TheVariants as held
-use Rattle.aos_check_expr.specs.declared.known.Spot.{Spot as CodeSpot}
+use Rattle.aos_operators.specs.Seen.{seen_spot}
 use Rattle.aos_check_expr.specs.declared.methods.Bound.{Bound as CodeBound}
 use Rattle.aos_check_expr.specs.declared.methods.Part.{Part as CodePart}
 use Rattle.aos_check_expr.specs.declared.methods.Part.TheVariants as code_part
 use Rattle.aos_check_expr.specs.Expressions.{Bound, Part, Begun, Meant, Waits}
-use Rattle.aos_check_expr.specs.Known.{Answer, Spot, Held, Stands, Value}
 use Rattle.aos_typed.specs.declared.tree.TArgument.{TArgument}
 use Rattle.aos_typed.specs.declared.tree.TArgument.TheVariants as argument
 use Rattle.aos_check_expr.specs.declared.arguments.Handing.{Handing as CodeHanding}
 use Rattle.aos_check_expr.specs.Arguments.{Given, Scalar, Whole, Opening, Handing}
-
-abbrev pub seen_answer : CodeAnswer → Answer
-seen_answer a = record { known = a.known; typed = seen_expr a.typed }
-
-abbrev pub seen_held : CodeHeld → Held
-seen_held (held.Stands p) = Stands (seen_place p)
-seen_held (held.Value e) = Value (seen_expr e)
-
-abbrev pub seen_spot : CodeSpot → Spot
-seen_spot a = record { known = a.known; held = seen_held a.held; at = a.at }
 
 abbrev pub seen_bound : CodeBound → Bound
 seen_bound b = record { callee = seen_callee b.callee; heading = b.heading; first = b.first }

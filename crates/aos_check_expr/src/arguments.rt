@@ -3,11 +3,11 @@
 ghost use Rattle.std.specs.Prelude.{◌≡◌, OnOk, IfOk};
 ghost use Rattle.aos_types.specs.Table as table;
 ghost use Rattle.aos_symbols.specs.Breaches.{first_after};
+ghost use Rattle.aos_operators.specs.Seen.{seen_answer};
 ghost use Rattle.aos_check_expr.specs.Arguments as judge;
-ghost use Rattle.aos_check_expr.specs.Seen.{seen_answer, seen_given, seen_handing};
+ghost use Rattle.aos_check_expr.specs.Seen.{seen_given, seen_handing};
 
 use crate::designators::{has_parts, made_place_in};
-use crate::known::{Answer, Class, Known};
 use crate::lengths::is_array;
 use crate::procedures::{is_assignable, typed_for};
 use crate::references::{is_record_type, is_value, with_type};
@@ -15,6 +15,7 @@ use crate::texts::{has_room, is_characters, rows_in, string_in, text_for};
 use crate::variables::{is_opened, open_dimensions};
 use aos_base::Pos;
 use aos_made::{MadeArgument, MadeArguments};
+use aos_operators::{Answer, Class, Known};
 use aos_symbols::{ARGUMENT_TYPE, Breach, Env, NO_VARIABLE, NOT_BUILT, READ_ONLY, note};
 use aos_typed::{TextConstant, open_array};
 use aos_types::{MOST_SCALARS, Parameter, TypeId, TypeRow};

@@ -5,18 +5,19 @@ ghost use Rattle.std.specs.Option.{option_copied};
 ghost use Rattle.aos_typed.specs.Seen.{seen_callee, seen_expr};
 ghost use Rattle.aos_symbols.specs.Breaches.{first_after};
 ghost use Rattle.aos_symbols.specs.Judged.{bind};
+ghost use Rattle.aos_operators.specs.Known.{passes};
+ghost use Rattle.aos_operators.specs.Seen.{seen_answer, seen_spot};
 ghost use Rattle.aos_check_expr.specs.Designators as designators;
 ghost use Rattle.aos_check_expr.specs.Expressions as judge;
-ghost use Rattle.aos_check_expr.specs.Known.{passes};
-ghost use Rattle.aos_check_expr.specs.Seen.{seen_answer, seen_given, seen_handing, seen_spot};
+ghost use Rattle.aos_check_expr.specs.Seen.{seen_given, seen_handing};
 
 use crate::arguments::Handing;
-use crate::designators::{Head, is_module, member, named, plain, refused, refused_at};
-use crate::known::{Answer, Class, Spot, answered, constant_answer, is_number, nothing};
-use crate::operations::{self, Step};
+use crate::designators::{Head, is_module, member, named, plain, refused_at};
 use crate::references::{guarded, is_value};
 use aos_base::Pos;
 use aos_made::{MadeArguments, MadeCallee, Typed};
+use aos_operators::operations::{self, Step};
+use aos_operators::{Answer, Class, Spot, answered, constant_answer, is_number, nothing, refused};
 use aos_symbols::{
     ARGUMENT_COUNT, ARGUMENT_TYPE, Breach, CALL_IN_AWAIT, Env, Function, Lookup, Meaning,
     NOT_BUILT, NOT_EXPORTED, OTHER_KIND, UNKNOWN, WRONG_CALL, note,

@@ -3,19 +3,19 @@
 ghost use Rattle.std.specs.Prelude.{◌≡◌, OnOk, IfOk};
 ghost use Rattle.aos_typed.specs.Seen.{seen_expr, seen_place};
 ghost use Rattle.aos_symbols.specs.Breaches.{breach_unless, first_after};
-ghost use Rattle.aos_check_expr.specs.Known as known;
+ghost use Rattle.aos_operators.specs.Known as known;
+ghost use Rattle.aos_operators.specs.Seen.{seen_answer, seen_held, seen_spot};
 ghost use Rattle.aos_check_expr.specs.Designators as judge;
-ghost use Rattle.aos_check_expr.specs.Seen.{seen_answer, seen_held, seen_spot};
 
-use crate::known::{
-    Answer, Class, Held, Known, Spot, answered, constant_answer, is_basic, is_long_text, known_as,
-    nothing, read_from, some_value, spot_of, unknown,
-};
 use crate::procedures::procedure_spot;
 use crate::references::{guarded_spot, is_value};
 use crate::variables::{is_of_module, is_opened, place_of_variable};
 use aos_base::Pos;
 use aos_made::{MadePlace, Typed};
+use aos_operators::{
+    Answer, Class, Held, Known, Spot, answered, constant_answer, is_basic, is_long_text, known_as,
+    nothing, read_from, refused, refused_value, spot_of, unknown,
+};
 use aos_symbols::{
     Breach, Env, Lookup, Meaning, NO_VARIABLE, NOT_BUILT, NOT_CONSTANT, NOT_EXPORTED, Narrowed,
     OTHER_KIND, Open, PROCEDURE, READ_ONLY, Symbol, UNKNOWN, WRONG_CALL, WRONG_SELF,
@@ -127,24 +127,6 @@ pub fn access(is_own: bool, mark: Option<Export>) -> Class
         }
         _ => Class::Variable,
     }
-}
-
-/// A part that breaks a rule: it may be anything.
-pub fn refused(found: &mut Option<Breach>, rule: u16, at: Pos) -> Answer
-    ensures noted { found.new ≡ first_after found.old (judge.refused rule at).breaches }
-    ensures answer { seen_answer result ≡ (judge.refused rule at).answer }
-{
-    note(found, rule, at);
-    unknown()
-}
-
-/// A part that breaks a rule, and is some value.
-pub fn refused_value(found: &mut Option<Breach>, rule: u16, at: Pos) -> Answer
-    ensures noted { found.new ≡ first_after found.old (judge.refused_value rule at).breaches }
-    ensures answer { seen_answer result ≡ (judge.refused_value rule at).answer }
-{
-    note(found, rule, at);
-    some_value()
 }
 
 /// A constant: one that is declared later has no value here.

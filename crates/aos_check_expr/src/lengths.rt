@@ -4,15 +4,15 @@ ghost use Rattle.std.specs.Prelude.{◌≡◌, OnOk, IfOk};
 ghost use Rattle.aos_typed.specs.Seen.{seen_expr, seen_place, seen_rows};
 ghost use Rattle.aos_symbols.specs.Breaches.{first_after};
 ghost use Rattle.aos_symbols.specs.Env as scopes;
+ghost use Rattle.aos_operators.specs.Seen.{seen_answer};
 ghost use Rattle.aos_check_expr.specs.Arrays as judge;
-ghost use Rattle.aos_check_expr.specs.Seen.{seen_answer};
 
 use crate::designators::made_place_in;
-use crate::known::{Answer, Class, answered, is_basic, is_unknown, value_class};
-use crate::operations::{argument, kept_class, kept_type};
 use crate::variables::{is_opened, open_dimensions, rows_of};
 use aos_base::Pos;
 use aos_made::{MadePlace, MadeRows, Typed};
+use aos_operators::operations::{argument, kept_class, kept_type};
+use aos_operators::{Answer, Class, answered, is_basic, is_unknown, value_class};
 use aos_symbols::{Breach, Env, LONGINT, NOT_CONSTANT, note};
 use aos_typed::{Literal, open_array};
 use aos_types::{TypeId, TypeRow};

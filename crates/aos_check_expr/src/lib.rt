@@ -5,13 +5,11 @@ mod arguments;
 pub mod calls;
 pub mod designators;
 pub mod expressions;
-mod forms;
-pub mod known;
 mod lengths;
 pub mod methods;
-pub mod operations;
 mod procedures;
 mod references;
+mod relations;
 mod required;
 pub mod selectors;
 pub mod signatures;
@@ -26,13 +24,8 @@ pub use designators::{
     plain, refuse_assigned, refuse_written, refused_at,
 };
 pub use expressions::{arguments_for, bracketed, designator, expr, follow_selectors};
-pub use known::{
-    Answer, Class, Held, Known, Spot, fits, is_basic, is_char, is_number, is_set, is_unknown,
-    object_number, type_of, type_of_literal, width_of,
-};
 pub use lengths::{array_rows, is_opening};
 pub use methods::{Bound, Part, bound_part, spot_of_part};
-pub use operations::{Joint, Operation, Single, Step, number};
 pub use procedures::{is_assignable, typed_for};
 pub use references::{
     guard, is_compatible, is_object_type, is_pointer_type, made_number, target_of,

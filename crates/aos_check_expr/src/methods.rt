@@ -4,14 +4,14 @@ ghost use Rattle.std.specs.Prelude.{◌≡◌, OnOk, IfOk, option_and_then, opti
 ghost use Rattle.aos_typed.specs.Seen.{seen_callee, seen_expr};
 ghost use Rattle.aos_symbols.specs.Breaches.{first_after};
 ghost use Rattle.aos_symbols.specs.Judged.{bind};
+ghost use Rattle.aos_operators.specs.Seen.{seen_spot};
 ghost use Rattle.aos_check_expr.specs.Designators as designators;
 ghost use Rattle.aos_check_expr.specs.Expressions as judge;
-ghost use Rattle.aos_check_expr.specs.Seen.{seen_bound, seen_part, seen_spot};
+ghost use Rattle.aos_check_expr.specs.Seen.{seen_bound, seen_part};
 
 use crate::designators::{
     Head, is_module, member_behind, named, refused_at, refused_value_at, variable_spot,
 };
-use crate::known::{Spot, object_number, read_from};
 use crate::procedures::procedure_spot;
 use crate::references::{is_object_type, is_procedural};
 use crate::selectors::{field, followed};
@@ -19,6 +19,7 @@ use crate::signatures::Heading;
 use crate::variables::is_of_module;
 use aos_base::Pos;
 use aos_made::{MadeCallee, Typed};
+use aos_operators::{Spot, object_number, read_from};
 use aos_symbols::{
     Breach, Env, Lookup, Meaning, Method, NOT_EXPORTED, WRONG_CALL, WRONG_SELECTOR, WRONG_SELF,
 };

@@ -3,18 +3,17 @@
 ghost use Rattle.std.specs.Prelude.{◌≡◌, IfOk, OnOk};
 ghost use Rattle.aos_typed.specs.Seen.{seen_expr};
 ghost use Rattle.aos_symbols.specs.Breaches.{first_after};
+ghost use Rattle.aos_operators.specs.Seen.{seen_answer, seen_spot};
 ghost use Rattle.aos_check_expr.specs.Designators as designators;
 ghost use Rattle.aos_check_expr.specs.Expressions as judge;
-ghost use Rattle.aos_check_expr.specs.Seen.{seen_answer, seen_spot};
 
 use crate::designators::refused_value_at;
-use crate::known::{Answer, Class, Held, Known, Spot, as_procedure, known_as};
-use crate::operations;
 use crate::references::{is_compatible, is_procedural};
 use crate::signatures::type_signature;
 use crate::texts::relation_in;
 use aos_base::Pos;
 use aos_made::Typed;
+use aos_operators::{Answer, Class, Held, Known, Spot, as_procedure, known_as, operations};
 use aos_symbols::{Breach, Env, NIL, NOT_CONSTANT, PROCEDURE};
 use aos_tree::RelationOp;
 use aos_types::{TypeId, same_signature};

@@ -5,18 +5,18 @@ ghost use Rattle.aos_typed.specs.Open.{first_same as first_same_of};
 ghost use Rattle.aos_typed.specs.Program.{Guarded};
 ghost use Rattle.aos_typed.specs.Seen.{seen_expr, seen_place};
 ghost use Rattle.aos_symbols.specs.Breaches.{first_after};
-ghost use Rattle.aos_check_expr.specs.Known as known;
+ghost use Rattle.aos_operators.specs.Known as known;
+ghost use Rattle.aos_operators.specs.Seen.{seen_held, seen_spot};
 ghost use Rattle.aos_check_expr.specs.Designators as judge;
-ghost use Rattle.aos_check_expr.specs.Seen.{seen_held, seen_spot};
 
 use crate::designators::refused_at;
-use crate::known::{
-    Class, Held, Spot, fits_type, is_basic, is_long_text, is_of_any, known_as, object_number,
-    read_from, type_as, value_class,
-};
 use crate::variables::{is_opened, open_dimensions};
 use aos_base::Pos;
 use aos_made::{Look, MadePlace, MadeRows, Typed};
+use aos_operators::{
+    Class, Held, Spot, fits_type, is_basic, is_long_text, is_of_any, known_as, object_number,
+    read_from, type_as, value_class,
+};
 use aos_symbols::{Breach, Env, NOT_BUILT, WRONG_CALL, WRONG_TEST};
 use aos_typed::{TExpr, TPlace};
 use aos_types::{TypeId, TypeRow, Types};

@@ -3,14 +3,13 @@
 ghost use Rattle.std.specs.Prelude.{◌≡◌, OnOk, IfOk};
 ghost use Rattle.aos_typed.specs.Seen.{seen_expr};
 ghost use Rattle.aos_symbols.specs.Breaches.{first_after};
-ghost use Rattle.aos_check_expr.specs.Known as known;
+ghost use Rattle.aos_operators.specs.Known as known;
 ghost use Rattle.aos_check_expr.specs.Expressions as judge;
 
 use crate::expressions::expr;
-use crate::known::{Class, is_boolean, is_char, is_number};
-use crate::operations;
 use aos_base::Pos;
 use aos_made::Typed;
+use aos_operators::{Class, is_boolean, is_char, is_number, operations};
 use aos_symbols::{Breach, Env, NO_CONDITION, NOT_CONSTANT, note};
 use aos_tree::Expr;
 use aos_typed::Literal;

@@ -5,18 +5,18 @@ ghost use Rattle.aos_typed.specs.Program.{Index, Of, Row};
 ghost use Rattle.aos_typed.specs.Program.{Field as FieldOf};
 ghost use Rattle.aos_typed.specs.Seen.{seen_expr};
 ghost use Rattle.aos_symbols.specs.Breaches.{first_after};
-ghost use Rattle.aos_check_expr.specs.Known as known;
+ghost use Rattle.aos_operators.specs.Known as known;
+ghost use Rattle.aos_operators.specs.Seen.{seen_answer, seen_held, seen_spot};
 ghost use Rattle.aos_check_expr.specs.Designators as judge;
-ghost use Rattle.aos_check_expr.specs.Seen.{seen_answer, seen_held, seen_spot};
 
 use crate::designators::{is_built, refused_at};
-use crate::known::{Answer, Class, Held, Spot, is_basic, is_number, known_as, read_from, type_as};
 use crate::references::{
     followed_class, followed_spot, is_object_type, is_record_type, target_of, through, unknown_part,
 };
 use crate::variables::rows_of;
 use aos_base::Pos;
 use aos_made::{MadePlace, MadeRows, Typed};
+use aos_operators::{Answer, Class, Held, Spot, is_basic, is_number, known_as, read_from, type_as};
 use aos_symbols::{Breach, Env, Field, NOT_BUILT, NOT_EXPORTED, WRONG_SELECTOR};
 use aos_tree::{Export, Name};
 use aos_typed::open_array;

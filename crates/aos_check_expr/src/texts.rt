@@ -3,15 +3,15 @@
 ghost use Rattle.std.specs.Prelude.{◌≡◌, suc, length, IfOk};
 ghost use Rattle.aos_base.specs.Text as text;
 ghost use Rattle.aos_typed.specs.Seen.{seen_rows};
+ghost use Rattle.aos_operators.specs.Seen.{seen_answer};
 ghost use Rattle.aos_check_expr.specs.Expressions as judge;
-ghost use Rattle.aos_check_expr.specs.Seen.{seen_answer};
 
 use crate::designators::made_place_in;
-use crate::known::{Answer, Class, Known, answered, is_basic, is_char};
 use crate::lengths::{array_rows, is_opening, length_of};
-use crate::operations::{Joint, class_of};
 use aos_base::{Relation, related};
 use aos_made::{MadePlace, MadeRows, Typed};
+use aos_operators::operations::{Joint, class_of};
+use aos_operators::{Answer, Class, Known, answered, is_basic, is_char};
 use aos_symbols::{BOOLEAN, CHAR, Env};
 use aos_tree::RelationOp;
 use aos_typed::{Literal, TextConstant};

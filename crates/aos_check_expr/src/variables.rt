@@ -5,8 +5,8 @@ ghost use Rattle.aos_typed.specs.Open.{open_dimensions as dimensions_in};
 ghost use Rattle.aos_typed.specs.Seen.{seen_place, seen_rows};
 ghost use Rattle.aos_check_expr.specs.Designators as judge;
 
-use crate::known::{is_basic, type_as};
 use aos_made::{MadePlace, MadeRows, Typed};
+use aos_operators::{is_basic, type_as};
 use aos_symbols::{Env, Open, Symbol};
 use aos_typed::{TPlace, TRows, open_array};
 use aos_types::{Parameter, TypeId, TypeRow};

@@ -16,7 +16,7 @@ use Rattle.aos_typed.specs.Program.{Stat, If, Case, While, Repeat, Loop, For, Bl
 use Rattle.aos_typed.specs.Seen.{seen_expr, seen_stats}
 use Rattle.aos_symbols.specs.declared.env.Env.{Env}
 use Rattle.aos_symbols.specs.Judged.{Judged, judged, kept, bind, walk}
-use Rattle.aos_check_expr.specs.Known.{width_of}
+use Rattle.aos_operators.specs.Known.{width_of}
 use Rattle.aos_check_expr.specs.Designators.{guard}
 use Rattle.aos_check_expr.specs.Expressions.{condition, known_type}
 use Rattle.aos_check_stat.specs.Bodies.{listed, modifier_breaches, are_exclusive, within_block, Labels, label_in, selector, control, fitting, step_of, with_variable, narrowed_by, with_stat, stat_in}

@@ -5,12 +5,13 @@ ghost use Rattle.std.specs.List.{list_any};
 ghost use Rattle.aos_typed.specs.WellTyped.{meets};
 ghost use Rattle.aos_symbols.specs.Breaches.{first_after};
 ghost use Rattle.aos_symbols.specs.Judged.{walk};
-ghost use Rattle.aos_check_expr.specs.Seen.{seen_answer};
+ghost use Rattle.aos_operators.specs.Seen.{seen_answer};
 ghost use Rattle.aos_check_stat.specs.Bodies as judge;
 ghost use Rattle.aos_check_stat.specs.Taken.{AreTaken};
 
 use aos_base::Pos;
-use aos_check_expr::{Answer, constant_class, expr, is_char, is_number, number};
+use aos_check_expr::{constant_class, expr};
+use aos_operators::{Answer, is_char, is_number, number};
 use aos_symbols::{Breach, Env, WRONG_LABEL, note};
 use aos_tree::{Expr, Label};
 use aos_typed::LabelRange;

@@ -7,10 +7,9 @@ ghost use Rattle.aos_check_stat.specs.Bodies as judge;
 
 use crate::refusals::is_variable;
 use aos_base::Pos;
-use aos_check_expr::{
-    Class, access, expr, fits, is_number, place_of_variable, refuse_written, type_of_literal,
-};
+use aos_check_expr::{access, expr, place_of_variable, refuse_written};
 use aos_made::{MadePlace, Typed};
+use aos_operators::{Class, fits, is_number, type_of_literal};
 use aos_symbols::{
     Breach, Env, Lookup, Meaning, NOT_BUILT, NOT_EXPORTED, Symbol, UNKNOWN, WRONG_FOR, note,
 };

@@ -10,9 +10,8 @@ ghost use Rattle.aos_check_stat.specs.Bodies as judge;
 use crate::procedures::perform;
 use crate::refusals::refused;
 use aos_base::Pos;
-use aos_check_expr::{
-    Bound, Class, Part, bound_part, bracketed, follow_selectors, plain, spot_of_part,
-};
+use aos_check_expr::{Bound, Part, bound_part, bracketed, follow_selectors, plain, spot_of_part};
+use aos_operators::Class;
 use aos_symbols::{Breach, Env, WRONG_CALL};
 use aos_tree::{Desig, Expr, Selector};
 use aos_typed::TStat;

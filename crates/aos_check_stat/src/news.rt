@@ -5,16 +5,17 @@ ghost use Rattle.std.specs.Option.{option_copied};
 ghost use Rattle.aos_typed.specs.Seen.{seen_expr, seen_list, seen_stat};
 ghost use Rattle.aos_symbols.specs.Breaches.{first_after};
 ghost use Rattle.aos_symbols.specs.Judged.{walk};
-ghost use Rattle.aos_check_expr.specs.Seen.{seen_spot};
+ghost use Rattle.aos_operators.specs.Seen.{seen_spot};
 ghost use Rattle.aos_check_stat.specs.Bodies as judge;
 
 use crate::refusals::refused;
 use aos_base::Pos;
 use aos_check_expr::{
-    Class, Spot, arguments_for, desig_alone, designator, expr, is_number, is_object_type,
-    is_pointer_type, made_number, place_of, target_of,
+    arguments_for, desig_alone, designator, expr, is_object_type, is_pointer_type, made_number,
+    place_of, target_of,
 };
 use aos_made::MadeArguments;
+use aos_operators::{Class, Spot, is_number};
 use aos_symbols::{ARGUMENT_COUNT, Breach, Env, Method, NOT_BUILT, READ_ONLY, WRONG_NEW, note};
 use aos_tree::{Desig, Expr};
 use aos_typed::{TExpr, TStat, open_array};

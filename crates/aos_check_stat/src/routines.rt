@@ -4,16 +4,14 @@ ghost use Rattle.std.specs.Prelude.{◌≡◌, OnOk, IfOk, option_map};
 ghost use Rattle.std.specs.Option.{option_copied};
 ghost use Rattle.aos_typed.specs.Seen.{seen_expr, seen_stat};
 ghost use Rattle.aos_symbols.specs.Breaches.{first_after};
-ghost use Rattle.aos_check_expr.specs.Seen.{seen_spot};
+ghost use Rattle.aos_operators.specs.Seen.{seen_spot};
 ghost use Rattle.aos_check_stat.specs.Bodies as judge;
 
 use crate::refusals::refused;
 use aos_base::Pos;
-use aos_check_expr::{
-    Class, Spot, condition, desig_alone, designator, expr, fits, is_number, is_set, place_of,
-    refuse_written, width_of,
-};
+use aos_check_expr::{condition, desig_alone, designator, expr, place_of, refuse_written};
 use aos_made::Typed;
+use aos_operators::{Class, Spot, fits, is_number, is_set, width_of};
 use aos_symbols::{
     ARGUMENT_COUNT, ARGUMENT_TYPE, Breach, Env, NO_VARIABLE, NOT_CONSTANT, Routine, note,
 };

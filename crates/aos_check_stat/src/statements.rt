@@ -6,7 +6,7 @@ ghost use Rattle.aos_typed.specs.Program.{Arms, Cases};
 ghost use Rattle.aos_typed.specs.Seen.{seen_expr, seen_stat, seen_else, cases_of};
 ghost use Rattle.aos_symbols.specs.Breaches.{first_after};
 ghost use Rattle.aos_symbols.specs.Judged.{Judged};
-ghost use Rattle.aos_check_expr.specs.Seen.{seen_answer, seen_spot};
+ghost use Rattle.aos_operators.specs.Seen.{seen_answer, seen_spot};
 ghost use Rattle.aos_check_expr.specs.Expressions as expressions;
 ghost use Rattle.aos_check_stat.specs.Bodies as judge;
 ghost use Rattle.aos_check_stat.specs.Listed as listed;
@@ -22,9 +22,10 @@ use crate::texts::{put_text, text_to, value_fits};
 use crate::withs::{enter_with, leave_with, with_stat, with_variable};
 use aos_base::Pos;
 use aos_check_expr::{
-    Answer, Spot, condition, designator, expr, guard, has_parts, known_type, place_in, place_of,
-    refuse_assigned, type_of, typed_for, width_of,
+    condition, designator, expr, guard, has_parts, known_type, place_in, place_of, refuse_assigned,
+    typed_for,
 };
+use aos_operators::{Answer, Spot, type_of, width_of};
 use aos_symbols::{Breach, EXIT_OUTSIDE, Env, UNFIT, WRONG_FOR, note};
 use aos_tree::{Block, Case, Desig, Elsif, Expr, Name, Qualident, Stat, StatSeq};
 use aos_typed::{TArm, TCase, TElse, TStat};

@@ -4,18 +4,19 @@ ghost use Rattle.std.specs.Prelude.{◌≡◌, OnOk, IfOk, option_map};
 ghost use Rattle.std.specs.Option.{option_copied};
 ghost use Rattle.aos_typed.specs.Seen.{seen_stat};
 ghost use Rattle.aos_symbols.specs.Breaches.{first_after};
+ghost use Rattle.aos_operators.specs.Known.{passes};
+ghost use Rattle.aos_operators.specs.Seen.{seen_answer, seen_spot};
 ghost use Rattle.aos_check_expr.specs.Expressions as expression;
-ghost use Rattle.aos_check_expr.specs.Known.{passes};
-ghost use Rattle.aos_check_expr.specs.Seen.{seen_answer, seen_spot};
 ghost use Rattle.aos_check_stat.specs.Bodies as judge;
 
 use crate::refusals::refused;
 use aos_base::Pos;
 use aos_check_expr::{
-    Answer, Known, Spot, array_rows, desig_alone, designator, expr, has_room, is_assignable,
-    is_characters, is_opening, may_be_text, place_of, refuse_written, text_for, text_rows,
+    array_rows, desig_alone, designator, expr, has_room, is_assignable, is_characters, is_opening,
+    may_be_text, place_of, refuse_written, text_for, text_rows,
 };
 use aos_made::MadePlace;
+use aos_operators::{Answer, Known, Spot};
 use aos_symbols::{ARGUMENT_COUNT, ARGUMENT_TYPE, Breach, Env, NO_VARIABLE, note};
 use aos_tree::{Desig, Expr};
 use aos_typed::{TStat, TextConstant};

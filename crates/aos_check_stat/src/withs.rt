@@ -3,11 +3,12 @@
 ghost use Rattle.std.specs.Prelude.{◌≡◌, OnOk, IfOk};
 ghost use Rattle.aos_typed.specs.Seen.{seen_stat, seen_stats};
 ghost use Rattle.aos_symbols.specs.Breaches.{first_after};
-ghost use Rattle.aos_check_expr.specs.Seen.{seen_held, seen_spot};
+ghost use Rattle.aos_operators.specs.Seen.{seen_held, seen_spot};
 ghost use Rattle.aos_check_stat.specs.Bodies as judge;
 
 use aos_base::Pos;
-use aos_check_expr::{Head, Held, Spot, is_module, member, named, plain, refused_at};
+use aos_check_expr::{Head, is_module, member, named, plain, refused_at};
+use aos_operators::{Held, Spot};
 use aos_symbols::{Breach, Env, Lookup, Meaning, Narrowed, WRONG_WITH};
 use aos_tree::{Items, Qualident};
 use aos_typed::TStat;

@@ -13,7 +13,7 @@ use Rattle.aos_symbols.specs.Outcome as outcome
 use Rattle.aos_symbols.specs.Outcome.{went, in_turn}
 use Rattle.aos_symbols.proofs.Each.{Each, all_of}
 use Rattle.aos_symbols.proofs.Holds.{then_went, same_went}
-use Rattle.aos_check_expr.specs.Known.{object_number}
+use Rattle.aos_operators.specs.Known.{object_number}
 use Rattle.aos_compile.specs.Modules.{World, no_modules, program_of}
 use Rattle.aos_compile.specs.Files.{Source, trees_from, loaded, load_order, modules, whole}
 use Rattle.aos_compile.specs.Elaborates.{ComesTo}

@@ -21,7 +21,7 @@ use crate::texts::texts_of;
 use crate::variables::variables_of;
 use aos_base::{NoMemory, Refusal};
 use aos_check_decl::declare;
-use aos_check_expr::type_of;
+use aos_operators::type_of;
 use aos_symbols::{Breach, Env, Home, check_names};
 use aos_tree::{Items, Module};
 use aos_typed::{Program, TMethod, TModule, TObject, TParameter, TProcedure, TStat};

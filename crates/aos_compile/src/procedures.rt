@@ -9,8 +9,8 @@ ghost use Rattle.aos_compile.specs.Modules as judge;
 
 use crate::objects::{number_behind, spelling_of};
 use crate::variables::variables_from;
-use aos_check_expr::type_of;
 use aos_check_stat::are_exclusive;
+use aos_operators::type_of;
 use aos_symbols::{Env, Scope};
 use aos_tree::{Block, Decl, Formals, Name, Proc};
 use aos_typed::{TParameter, TProcedure, TStat, TType, TVariable};

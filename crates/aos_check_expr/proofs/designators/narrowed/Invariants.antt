@@ -1,7 +1,7 @@
 use Rattle.std.proofs.Common.{◌≡◌, drop}
 use Rattle.std.specs.List.{fold}
+use Rattle.aos_operators.specs.Seen.{seen_spot}
 use Rattle.aos_check_expr.specs.Designators as judge
-use Rattle.aos_check_expr.specs.Seen.{seen_spot}
 use Rattle.aos_check_expr.proofs.designators.narrowed.Given as goal
 
 -- what the WITHs that are left make of it is what all make of the whole

@@ -9,7 +9,7 @@ use Rattle.aos_typed.specs.Seen.{seen_expr, seen_place, seen_stat, cases_of}
 use Rattle.aos_typed.proofs.Seen.{while_seen, repeat_seen, loop_seen, for_seen, block_seen}
 use Rattle.aos_symbols.specs.Breaches.{first_after}
 use Rattle.aos_symbols.proofs.Keeping.{after_more}
-use Rattle.aos_check_expr.specs.Known.{width_of}
+use Rattle.aos_operators.specs.Known.{width_of}
 use Rattle.aos_check_expr.specs.Designators.{guard}
 use Rattle.aos_check_expr.specs.Expressions.{condition, known_type}
 use Rattle.aos_check_stat.specs.Bodies as judge

@@ -2,8 +2,8 @@
 use Rattle.std.proofs.Common.{sym, ap, ◌∙◌}
 use Rattle.aos_typed.proofs.Seen.{with_seen, with_record_seen}
 use Rattle.aos_typed.specs.Seen.{seen_place, seen_expr, seen_stats}
-use Rattle.aos_check_expr.specs.Known.{Stands, Value}
-use Rattle.aos_check_expr.specs.Seen.{seen_held}
+use Rattle.aos_operators.specs.Known.{Stands, Value}
+use Rattle.aos_operators.specs.Seen.{seen_held}
 use Rattle.aos_check_stat.specs.Bodies as judge
 use Rattle.aos_check_stat.proofs.withs.with_stat.Goals as goal
 

@@ -1,5 +1,5 @@
 -- What each form of two operands is made of.
-use Rattle.aos_check_expr.proofs.operations.joint_typed.Goals as goal
+use Rattle.aos_operators.proofs.operations.joint_typed.Goals as goal
 
 pub returns-in-On : goal.returns-in-On
 returns-in-On c = rw c.in-On.is c.binary.ensures

@@ -1,11 +1,11 @@
 -- Classes of variables, which may be written or only be read, and of procedures that are named. What is made of other parts is neither.
 use Rattle.std.proofs.Common.{Bool, true, false, Some, None}
 use Rattle.aos_typed.specs.declared.tree.Literal.{Literal}
-use Rattle.aos_check_expr.specs.declared.known.Class.{Class}
-use Rattle.aos_check_expr.specs.declared.known.Class.TheVariants.{Unknown, Constant, Variable, ReadOnly, Computed, Procedure}
-use Rattle.aos_check_expr.specs.declared.operations.Single.{Single}
-use Rattle.aos_check_expr.specs.declared.operations.Joint.{Joint}
-use Rattle.aos_check_expr.specs.Operations as op
+use Rattle.aos_operators.specs.declared.known.Class.{Class}
+use Rattle.aos_operators.specs.declared.known.Class.TheVariants.{Unknown, Constant, Variable, ReadOnly, Computed, Procedure}
+use Rattle.aos_operators.specs.declared.operations.Single.{Single}
+use Rattle.aos_operators.specs.declared.operations.Joint.{Joint}
+use Rattle.aos_operators.specs.Operations as op
 
 abbrev pub IsStored : Class → Type 0
 IsStored Variable = Unit {0}

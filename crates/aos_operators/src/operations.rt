@@ -6,9 +6,9 @@ ghost use Rattle.aos_base.specs.Operators.{natural};
 ghost use Rattle.aos_typed.specs.Seen.{seen_expr};
 ghost use Rattle.aos_typed.specs.Value as value;
 ghost use Rattle.aos_symbols.specs.Breaches.{breach_unless, first_after};
-ghost use Rattle.aos_check_expr.specs.Known.{larger as larger_of, lost as lost_breaches};
-ghost use Rattle.aos_check_expr.specs.Operations as judge;
-ghost use Rattle.aos_check_expr.specs.Seen.{seen_answer};
+ghost use Rattle.aos_operators.specs.Known.{larger as larger_of, lost as lost_breaches};
+ghost use Rattle.aos_operators.specs.Operations as judge;
+ghost use Rattle.aos_operators.specs.Seen.{seen_answer};
 
 use crate::known::{
     Answer, Class, answered, constant_answer, greatest_of, is_boolean, is_char, is_integer,

@@ -1,5 +1,5 @@
 -- No value where there is none.
-use Rattle.aos_check_expr.proofs.operations.number_given.Goals as goal
+use Rattle.aos_operators.proofs.operations.number_given.Goals as goal
 
 pub returns-in-Trap : goal.returns-in-Trap
 returns-in-Trap c = rw c.in-Trap.is

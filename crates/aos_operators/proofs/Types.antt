@@ -22,8 +22,8 @@ use Rattle.aos_typed.specs.Formals.{pattern_of}
 use Rattle.aos_typed.specs.WellTyped.{bits, Includes, Fits, FitsObject, IsLiteral, HasRange, Gives, GivesOfTwo, IsProcedural, target, is_any, is_reference, is_procedural, is_basic as is_basic_type}
 use Rattle.aos_symbols.specs.Env.{shortint, integer, longint, hugeint, boolean, char, set, nil, any}
 use Rattle.aos_symbols.proofs.Told.{IsTold, basic, of_any, defined}
-use Rattle.aos_check_expr.proofs.Inside.{Inside, IsOf}
-use Rattle.aos_check_expr.specs.Known.{is_integer, is_basic, is, fits_type, width_of_type, type_as, object_number}
+use Rattle.aos_operators.proofs.Inside.{Inside, IsOf}
+use Rattle.aos_operators.specs.Known.{is_integer, is_basic, is, fits_type, width_of_type, type_as, object_number}
 
 pub not_both : true ≡ false → ⊥
 not_both e = cc

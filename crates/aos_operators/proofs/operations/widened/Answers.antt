@@ -1,5 +1,5 @@
 -- The operator itself, or the one of 64 bits.
-use Rattle.aos_check_expr.proofs.operations.widened.Goals as goal
+use Rattle.aos_operators.proofs.operations.widened.Goals as goal
 
 pub returns-in-Add : goal.returns-in-Add
 returns-in-Add c = rw c.in-Add.is

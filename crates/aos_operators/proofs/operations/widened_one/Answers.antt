@@ -1,5 +1,5 @@
 -- The operator itself, or the one of 64 bits.
-use Rattle.aos_check_expr.proofs.operations.widened_one.Goals as goal
+use Rattle.aos_operators.proofs.operations.widened_one.Goals as goal
 
 pub returns-in-Neg : goal.returns-in-Neg
 returns-in-Neg c = rw c.in-Neg.is

@@ -4,8 +4,8 @@ ghost use Rattle.std.specs.Prelude.{◌≡◌, is_some, nat_lt};
 ghost use Rattle.aos_base.specs.Number.{if_within};
 ghost use Rattle.aos_typed.specs.Seen.{seen_expr};
 ghost use Rattle.aos_symbols.specs.Breaches.{first_after};
-ghost use Rattle.aos_check_expr.specs.Known as known;
-ghost use Rattle.aos_check_expr.specs.Seen.{seen_answer, seen_held, seen_spot};
+ghost use Rattle.aos_operators.specs.Known as known;
+ghost use Rattle.aos_operators.specs.Seen.{seen_answer, seen_held, seen_spot};
 
 use aos_base::{Pos, Width};
 use aos_made::{MadePlace, Typed};
@@ -427,6 +427,24 @@ pub fn some_value() -> Answer
     ensures { seen_answer result ≡ known.some_value }
 {
     answered(Class::Computed, None, nothing())
+}
+
+/// A part that breaks a rule: it may be anything.
+pub fn refused(found: &mut Option<Breach>, rule: u16, at: Pos) -> Answer
+    ensures noted { found.new ≡ first_after found.old (known.refused rule at).breaches }
+    ensures answer { seen_answer result ≡ (known.refused rule at).answer }
+{
+    note(found, rule, at);
+    unknown()
+}
+
+/// A part that breaks a rule, and is some value.
+pub fn refused_value(found: &mut Option<Breach>, rule: u16, at: Pos) -> Answer
+    ensures noted { found.new ≡ first_after found.old (known.refused_value rule at).breaches }
+    ensures answer { seen_answer result ≡ (known.refused_value rule at).answer }
+{
+    note(found, rule, at);
+    some_value()
 }
 
 /// A designator that is a value.

@@ -12,11 +12,12 @@ use Rattle.aos_typed.specs.declared.tree.TType.{TType}
 use Rattle.aos_typed.specs.declared.tree.TType.TheVariants as type
 use Rattle.aos_typed.specs.Program.{Place, Expr, Lit, Read}
 use Rattle.aos_symbols.specs.declared.breach.Breach.{Breach}
-use Rattle.aos_symbols.specs.Breaches.{breach_unless}
+use Rattle.aos_symbols.specs.Breaches.{breach, breach_unless}
+use Rattle.aos_symbols.specs.Judged.{Judged, judged}
 use Rattle.aos_symbols.specs.Env.{shortint, integer, longint, hugeint, boolean, char, set, nil, any, text, procedure, basic_rows}
-use Rattle.aos_check_expr.specs.declared.known.Class.{Class}
-use Rattle.aos_check_expr.specs.declared.known.Class.TheVariants.{Unknown, Constant, Variable, ReadOnly, Computed, Procedure}
-use Rattle.aos_check_expr.specs.declared.known.Known.{Known}
+use Rattle.aos_operators.specs.declared.known.Class.{Class}
+use Rattle.aos_operators.specs.declared.known.Class.TheVariants.{Unknown, Constant, Variable, ReadOnly, Computed, Procedure}
+use Rattle.aos_operators.specs.declared.known.Known.{Known}
 
 -- an expression, and what it is in the typed program
 pub record Answer : Type 0 where
@@ -219,6 +220,13 @@ unknown = answered Unknown None nothing
 -- what may be anything but a variable or a constant
 abbrev pub some_value : Answer
 some_value = answered Computed None nothing
+
+-- a rule that is broken, by what may be anything, and by what is some value
+abbrev pub refused : ℕ → Pos → Judged Answer
+refused rule at = judged (breach rule at) unknown
+
+abbrev pub refused_value : ℕ → Pos → Judged Answer
+refused_value rule at = judged (breach rule at) some_value
 
 -- a designator that is a value
 abbrev pub spot_of : Pos → Answer → Spot

@@ -1,0 +1,6 @@
+pub mod Inside
+pub mod Stored
+pub mod Numbers
+pub mod Types
+pub mod Good
+pub mod Sound
