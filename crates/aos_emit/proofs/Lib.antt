@@ -1,14 +1,4 @@
-pub mod Patch
-pub mod Pending
-pub mod Turned
-pub mod Forth
-pub mod Parts
 pub mod Ends
-pub mod Owned
+pub mod Whole
 pub mod Matching
-pub mod Made
-pub mod Stash
-pub mod Sorts
-pub mod Searches
-pub mod Ways
 pub mod Awaited

@@ -5,19 +5,17 @@ ghost use Rattle.aos_typed.specs.Routines.{routines};
 ghost use Rattle.aos_typed.specs.Seen.{seen_body, seen_program, seen_procedure, seen_stats};
 ghost use Rattle.aos_typed.specs.WellTyped.{IsProcedure, IsWellTyped};
 ghost use Rattle.aos_laid.specs.Routines.{IsTyped, seen_routine};
-ghost use Rattle.aos_emit.specs.Scope.{program_of, own_of};
+ghost use Rattle.aos_emit_expr.specs.Scope.{program_of, own_of};
 ghost use Rattle.aos_sim.specs.Code.{statements_code, end_code, body_code};
 ghost use Rattle.aos_sim.specs.Need.{body_need};
 
-use crate::emit::put;
-use crate::need::stats_need;
-use crate::regions::Within;
-use crate::scope::Scope;
-use crate::stats::emit_left;
 use aos_base::NoMemory;
 use aos_code::{Body, Instr};
+use aos_emit_expr::{Scope, Within, put};
+use aos_emit_stat::emit_left;
 use aos_laid::{Laid, Routine, routines_of};
 use aos_layout::FrameShape;
+use aos_need::stats_need;
 use aos_typed::{Program, TProcedure, TStat};
 use std::alloc::{AllocError, Global};
 

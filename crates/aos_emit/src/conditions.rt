@@ -7,18 +7,17 @@ ghost use Rattle.aos_typed.specs.Seen.{seen_expr, seen_program, seen_procedure};
 ghost use Rattle.aos_typed.specs.WellTyped.{IsProcedure, IsWellTyped};
 ghost use Rattle.aos_laid.specs.Routines.{IsTyped, seen_routine};
 ghost use Rattle.aos_emit.specs.Conditions.{of_body, of_condition};
-ghost use Rattle.aos_emit.specs.Scope.{program_of, own_of};
+ghost use Rattle.aos_emit_expr.specs.Scope.{program_of, own_of};
 ghost use Rattle.aos_sim.specs.Code.{condition_code};
 ghost use Rattle.aos_sim.specs.Need as need_of;
 
 use crate::bodies::put_body;
-use crate::emit::{emit_value, put};
-use crate::need::value_need;
-use crate::scope::Scope;
 use aos_base::NoMemory;
 use aos_code::{Body, Instr};
+use aos_emit_expr::{Scope, emit_value, put};
 use aos_laid::{Laid, Routine, awaits_of, routines_of};
 use aos_layout::FrameShape;
+use aos_need::value_need;
 use aos_typed::{Program, TExpr, TProcedure};
 use std::alloc::{AllocError, Global};
 

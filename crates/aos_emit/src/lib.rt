@@ -4,15 +4,6 @@
 
 mod bodies;
 mod conditions;
-mod emit;
-mod fronts;
-mod leave;
-mod need;
-mod objects;
-mod regions;
-mod scope;
-mod search;
-mod stats;
 
 pub use bodies::bodies_of;
 pub use conditions::conditions_of;

@@ -3,7 +3,7 @@ use Rattle.aos_layout.specs.Frame.{FrameShape}
 use Rattle.aos_typed.specs.Seen.{seen_body, seen_program, seen_procedure, seen_stats}
 use Rattle.aos_sim.specs.Code.{body_code}
 use Rattle.aos_sim.specs.Need.{body_need}
-use Rattle.aos_emit.specs.Scope.{program_of, own_of}
+use Rattle.aos_emit_expr.specs.Scope.{program_of, own_of}
 use Rattle.aos_emit.proofs.bodies.procedure_body.Goals as goal
 
 pub procedure-scope-requires : goal.procedure-scope-requires

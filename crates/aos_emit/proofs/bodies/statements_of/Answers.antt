@@ -3,8 +3,9 @@ use Rattle.aos_typed.specs.Seen.{seen_stats}
 use Rattle.aos_code.specs.declared.instr.Instr.{Instr}
 use Rattle.aos_code.specs.declared.instr.Instr.TheVariants.{Enter}
 use Rattle.aos_sim.specs.Code.{stats_code}
-use Rattle.aos_emit.specs.Scope.{Inside, program_of, own_of, seen_within, in_region, left_to}
-use Rattle.aos_emit.proofs.Ways.{whole, region_whole, plain_whole}
+use Rattle.aos_emit_expr.specs.Scope.{Inside, program_of, own_of, in_region}
+use Rattle.aos_emit_stat.specs.Ways.{seen_within, left_to}
+use Rattle.aos_emit.proofs.Whole.{whole, region_whole, plain_whole}
 use Rattle.aos_emit.proofs.bodies.statements_of.Goals as goal
 
 pub returns-then-exclusive : goal.returns-then-exclusive

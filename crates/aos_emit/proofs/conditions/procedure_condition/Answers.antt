@@ -2,7 +2,7 @@ use Rattle.std.proofs.Common.{ap, ◌∙◌}
 use Rattle.aos_layout.specs.Frame.{FrameShape}
 use Rattle.aos_typed.specs.Seen.{seen_expr}
 use Rattle.aos_sim.specs.Code.{condition_code}
-use Rattle.aos_emit.specs.Scope.{program_of, own_of}
+use Rattle.aos_emit_expr.specs.Scope.{program_of, own_of}
 use Rattle.aos_emit.proofs.conditions.procedure_condition.Goals as goal
 
 pub procedure-scope-requires : goal.procedure-scope-requires

@@ -1,0 +1,5 @@
+pub mod Back
+pub mod Forwards
+pub mod Pending
+pub mod Scope
+pub mod Sizes

@@ -1,0 +1,4 @@
+pub mod Redirect
+pub mod Places
+pub mod Ways
+pub mod Made

@@ -1,0 +1,9 @@
+//! From typed statements to instructions: what is emitted is the code that the definitions give.
+#![tactic(auto)]
+
+mod leave;
+mod objects;
+mod search;
+mod stats;
+
+pub use stats::emit_left;
