@@ -4,7 +4,7 @@ use crate::frames::locks;
 use crate::image::image_of;
 use crate::numbers::{arithmetic, has, span};
 use crate::replays::differences_of_replay;
-use crate::scripts::script;
+use crate::scripts::{print, script};
 use crate::soundness::soundness;
 use crate::stop::Stop;
 use crate::wanted::wanted_or_empty;
@@ -18,6 +18,7 @@ fn answer(alloc: Global, image: &Image, name: &str, text: &str) -> Result<String
         "sound" => Ok(String::from_str(alloc, soundness(alloc, image, text)?)?),
         "frames" => locks(alloc, image, text),
         "script" => script(alloc, text),
+        "print" => print(alloc, text),
         "arithmetic" => Ok(arithmetic(alloc, text)?),
         "span" => Ok(span(alloc, text)?),
         "has" => Ok(String::from_str(alloc, has(text))?),

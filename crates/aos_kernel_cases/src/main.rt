@@ -17,7 +17,7 @@
 //!   `state`, which is the outcome, what was written, the traps and who waits where; and, where the case says them, the `log` of the
 //!   steps and ticks that did something, and the `events`, each behind the number of its step.
 //! - `sound PROCEDURE CODE`: `told` is as what the code is sound in that procedure.
-//! - `script TEXT`: `told` is what the text says as a script, or why it is refused.
+//! - `script TEXT`: `told` is what the text says as a script, or why it is refused; `print TEXT`: what that script is printed as.
 //! - `frames FRAMES`: `told` are the locks of their open regions.
 //! - `arithmetic WIDTH A B`: `told` are the results of the eight operators.
 //! - `span A B`: `told` is the set of the elements from A to B; `has SET X`: whether the set has the element.

@@ -30,6 +30,7 @@ pub fn role_of(name: &str) -> Role {
         "sound" => Role::Command,
         "frames" => Role::Command,
         "script" => Role::Command,
+        "print" => Role::Command,
         "arithmetic" => Role::Command,
         "span" => Role::Command,
         "has" => Role::Command,

@@ -6,10 +6,10 @@ use Rattle.aos_base.specs.declared.kernel.Sched.{Sched}
 use Rattle.aos_base.specs.Book.{outcome}
 use Rattle.aos_base.specs.Machine.{Choice, Step, Tick, State, Machine, happens, execution}
 use Rattle.aos_base.specs.Schedule.{choices, entry_choices}
-use Rattle.aos_code.specs.Machine.{machine}
+use Rattle.aos_code.specs.Machine.{machine, first_state}
 use Rattle.aos_kernel.specs.declared.log.Stepped.{Stepped}
 use Rattle.aos_kernel.specs.declared.log.Stepped.TheVariants.{Turned, Dispatched, Idle, Over}
-use Rattle.aos_kernel.specs.Run.{Run, state_of, after_step, after_tick}
+use Rattle.aos_kernel.specs.Run.{Run, after, state_of, after_step, after_tick}
 use Rattle.aos_kernel.proofs.Histories.{is_over}
 use Rattle.aos_kernel.proofs.Logs.{choices-append, choices-with_step, choices-with_tick}
 use Rattle.aos_replay.specs.Continues.{IsSome, none, kept, left_out, Continues, ContinuesPart}
@@ -36,6 +36,10 @@ some-append : {made more cs ds : List Choice} → IsSome made cs → IsSome more
 some-append none b = b
 some-append (kept a) b = kept (some-append a b)
 some-append (left_out a) b = left_out (some-append a b)
+
+-- the state is the execution of the log before and these choices
+pub state_after : (cs : List Choice) (old new : Run) → Continues cs old new → state_of new ≡ after old.image old.budget (choices old.log ++ cs)
+state_after cs old new h = h.state ∙ sym (execution-append (machine old.image) (choices old.log) cs (first_state old.image old.budget))
 
 pub goes_nowhere : (r : Run) → Continues [] r r
 goes_nowhere r = record { same = refl; state = refl; made = []; some = none; log = sym (append-nil (choices r.log)) }

@@ -4,4 +4,4 @@
 mod entry;
 mod whole;
 
-pub use whole::replay;
+pub use whole::{one_execution, replay};

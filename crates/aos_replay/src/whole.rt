@@ -1,11 +1,11 @@
 // A whole script.
 
-ghost use Rattle.std.specs.Prelude.{◌≡◌, ◌<◌, All, OnOk, OnErr};
-ghost use Rattle.aos_base.specs.Machine.{execution};
-ghost use Rattle.aos_code.specs.Machine.{machine};
-ghost use Rattle.aos_kernel.specs.Run.{state_of};
+ghost use Rattle.std.specs.Prelude.{◌≡◌, ◌<◌, ◌++◌, All, OnOk, OnErr};
+ghost use Rattle.aos_base.specs.Schedule.{choices};
+ghost use Rattle.aos_kernel.specs.Run.{after, state_of};
 ghost use Rattle.aos_script.specs.Listing.{choices_of};
 ghost use Rattle.aos_replay.specs.Continues.{worker_of, Continues, ContinuesPart};
+ghost use Rattle.aos_replay.specs.Laws.{OneExecution};
 
 use crate::entry::make;
 use aos_base::{NoMemory, Outcome};
@@ -13,15 +13,15 @@ use aos_kernel::Kernel;
 use aos_script::Script;
 
 /// Drives a kernel by a script, whose workers are all below the kernel's. Its image, workers and budget stay; its state
-/// is then the execution of the image under the script's steps and ticks, from the state before. Steps that can change
-/// nothing, since one of their run was Idle or the outcome isn't Going, aren't made. NoMemory where memory runs out, and
-/// then the kernel stands after a front of the script's steps and ticks.
+/// is then the execution of the image under the log before, followed by the script's steps and ticks. Steps that can
+/// change nothing, since one of their run was Idle or the outcome isn't Going, aren't made. NoMemory where memory runs
+/// out, and then the kernel stands after a front of the script's steps and ticks.
 pub fn replay(kernel: &mut Kernel, s: &Script) -> Result<(), NoMemory>
     requires { All (λ entry. worker_of entry < kernel.old.workers) s.now.runs }
     ensures same { kernel.new ≡ record kernel.old { log = kernel.new.log } }
-    ensures state { OnOk result
-        (state_of kernel.new ≡
-        execution (machine kernel.old.image) (choices_of s.now) (state_of kernel.old)) }
+    ensures state { OnOk result (state_of kernel.new ≡
+        after kernel.old.image kernel.old.budget
+        (choices kernel.old.log ++ choices_of s.now)) }
     ensures log { OnOk result (Continues (choices_of s.now) kernel.old kernel.new) }
     ensures err { OnErr result (ContinuesPart (choices_of s.now) kernel.old kernel.new) }
 {
@@ -36,3 +36,8 @@ pub fn replay(kernel: &mut Kernel, s: &Script) -> Result<(), NoMemory>
     }
     Ok(())
 }
+
+/// Joined or not, the runs of a script have one execution.
+pub fn one_execution()
+    ensures { OneExecution }
+{}

@@ -9,18 +9,27 @@ use Rattle.aos_base.specs.Machine.{Step}
 use Rattle.aos_base.specs.Schedule.{entry_choices, choices, IsEntry}
 use Rattle.aos_script.specs.declared.script.Script.{Script}
 use Rattle.aos_script.specs.declared.error.ScriptErr.{ScriptErr}
-use Rattle.aos_script.specs.Listing.{IsScript}
+use Rattle.aos_script.specs.Listing.{head_line, IsScript}
+use Rattle.aos_script.specs.Print.{IsPrintable}
 use Rattle.aos_script.proofs.Rests.{length-AreRuns}
 use Rattle.aos_script.proofs.Whole.{lines_few}
 
 few : (text : List ℕ) (s : Script) → length text ≤ 2 ^ 26 → IsScript text s → length s.runs ≤ 2 ^ 27
 few text s short h =
     let l = h.listing in
-    omega (arith, lines_few text, ap length l.whole, length-append l.run_lines (codes "end" ∷ []), length-AreRuns l.run_lines s.runs l.runs)
+    omega (arith, lines_few text, ap length l.whole, length-append l.skipped (head_line ∷ l.workers_line ∷ l.budget_line ∷ (l.run_lines ++ codes "end" ∷ [])), length-append l.run_lines (codes "end" ∷ []), length-AreRuns l.run_lines s.runs l.runs)
 
 pub few_read : (text : List ℕ) (r : Result Script ScriptErr) → length text ≤ 2 ^ 26 → IfOk r (IsScript text) → IfOk r (λ s. length s.runs ≤ 2 ^ 27)
 few_read text (Ok s) short h = few text s short h
 few_read text (Err e) short h = h
+
+pub printable_read : (text : List ℕ) (r : Result Script ScriptErr) → IfOk r (IsScript text) → IfOk r IsPrintable
+printable_read text (Ok s) h = record {
+  workers = (h.listing.workers.low, h.listing.workers.high);
+  budget = (h.listing.budget.low, h.listing.budget.high);
+  entries = h.workers;
+}
+printable_read text (Err e) h = h
 
 pub choices-append : (rs ss : List Sched) → length (choices (rs ++ ss)) ≡ length (choices rs) + length (choices ss)
 choices-append [] ss = omega arith

@@ -1,5 +1,5 @@
 -- The first part of a text that a byte parts, and the rest.
-use Rattle.std.proofs.Common.{◌≡◌, ℕ, ◌+◌, ◌-◌, ◌<◌, ◌≤◌, ◌==◌, false, cond, List, [], ◌∷◌, length, take, drop, Some, None, sym, ap, ◌∙◌, subst, ⊎_elim, arith, length-drop}
+use Rattle.std.proofs.Common.{◌≡◌, ℕ, ◌+◌, ◌-◌, ◌<◌, ◌≤◌, ◌==◌, true, false, cond, List, [], ◌∷◌, length, take, drop, Some, None, refl, sym, ap, ◌∙◌, subst, ⊎_elim, arith, length-drop}
 use Rattle.std.specs.Prelude.{position}
 use Rattle.std.specs.List.{slice_split, position_or_len}
 use Rattle.std.proofs.lemmas.Bool.{cases_lt, lt-ltb}
@@ -8,7 +8,9 @@ use Rattle.std.proofs.lemmas.List.Splits.{slice_split_first, slice_split_none, l
 use Rattle.std.proofs.lemmas.List.Sums.{fails_before_first, position_or_len_is}
 use Rattle.std.proofs.lemmas.List.Elements.{All-from_get_or}
 use Rattle.std.proofs.lemmas.List.Quantifiers.{position-Some}
-use Rattle.aos_script.specs.Words.{parts}
+use Rattle.std.specs.Io.BufRead.{strip_last}
+use Rattle.std.proofs.Math.Dec.{eqb-suc-zero}
+use Rattle.aos_script.specs.Words.{parts, lines}
 
 pub cut_some : (byte : ℕ) (text : List ℕ) (i : ℕ) → position (λ b. b == byte) text ≡ Some i → parts byte text ≡ take i text ∷ parts byte (take (length text - (i + 1)) (drop (i + 1) text))
 unfolding parts
@@ -39,3 +41,12 @@ parts-nonempty byte text none = omega (arith, ap length none, length-slice_split
 
 pub not_two : (byte : ℕ) {ls : List (List ℕ)} {first second a b : List ℕ} (left : List ℕ) → ls ≡ first ∷ second ∷ parts byte left → ls ≡ a ∷ b ∷ [] → ⊥
 not_two byte left whole two = let none : parts byte left ≡ [] = cc in parts-nonempty byte left none
+
+-- an empty text has no line, and any other is cut at its line ends
+pub lines_none : (text : List ℕ) → true ≡ (length text == 0) → [] ≡ lines text
+lines_none [] e = refl
+lines_none (b ∷ text) e = let no = eqb-suc-zero (length text) in absurd cc
+
+pub lines_some : (text : List ℕ) → (length text ≡ 0 → ⊥) → parts 10 (strip_last 10 text) ≡ lines text
+lines_some [] some = absurd (some refl)
+lines_some (b ∷ text) some = refl

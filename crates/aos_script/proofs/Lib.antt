@@ -5,3 +5,5 @@ pub mod Lasting
 pub mod Rests
 pub mod Whole
 pub mod Counts
+pub mod Joins
+pub mod Prints

@@ -1,5 +1,5 @@
 -- What single lines say, from their words; and run lines one by one.
-use Rattle.std.proofs.Common.{◌≡◌, ℕ, suc, ◌≤◌, List, [], ◌∷◌, ◌++◌, length, codes, refl, sym, ap, ◌∙◌, subst, append_assoc, Option, Some, arith}
+use Rattle.std.proofs.Common.{◌≡◌, ◌≢◌, ℕ, suc, ◌+◌, ◌≤◌, List, [], ◌∷◌, ◌++◌, length, codes, refl, sym, ap, ◌∙◌, subst, append_assoc, Option, Some, length-append, arith}
 use denote.Ref.{Bor}
 use Rattle.std.proofs.lemmas.List.Elements.{All-nil, All-push}
 use Rattle.std.specs.Prelude.{Result, Ok, Err, is_ok, is_err, if◌then◌else◌, false}
@@ -10,8 +10,8 @@ use Rattle.aos_script.specs.declared.line.Flaw.{Flaw}
 use Rattle.aos_script.specs.declared.line.Flaw.TheVariants.{Form, Worker}
 use Rattle.aos_script.specs.Words.{words, parts, lines_left}
 use Rattle.aos_script.specs.Number.{IsNumber}
-use Rattle.aos_script.specs.Listing.{IsRun, AreRuns}
-use Rattle.aos_script.specs.Rest.{LacksWorker, HasFlaw, ReadsRuns}
+use Rattle.aos_script.specs.Listing.{head_line, AreSkipped, IsRun, AreRuns}
+use Rattle.aos_script.specs.Rest.{Skips, LacksWorker, HasFlaw, ReadsRuns}
 
 number_at : {v w : List ℕ} {n : ℕ} → v ≡ w → IsNumber v n → IsNumber w n
 number_at {n = n} same number = subst (λ x. IsNumber x n) same number
@@ -33,6 +33,24 @@ module _ (line worker : List ℕ) (workers : ℕ) where
   pub tick_flaw : words line ≡ codes "t" ∷ worker ∷ [] → (e : Flaw) → LacksWorker workers worker e → HasFlaw workers line e
   tick_flaw is Form lacks = tick_no_worker is lacks
   tick_flaw is Worker lacks = (Tick lacks.0, record { worker = worker; is = is; of = lacks.1 }, λ entry. let y = lacks.2 in omega arith)
+
+AreSkipped-push : (ls : List (List ℕ)) (line : List ℕ) → AreSkipped ls → line ≢ head_line → AreSkipped (ls ++ line ∷ [])
+AreSkipped-push [] line others other = (other, tt)
+AreSkipped-push (l ∷ ls) line others other = (others.0, AreSkipped-push ls line others.1 other)
+
+pub skips_none : (ls : List (List ℕ)) → Skips ls 1 ls
+skips_none ls = record { skipped = []; whole = refl; others = tt; counted = refl }
+
+pub skips_more : (ls : List (List ℕ)) (n : ℕ) (left : List (List ℕ)) (line : List ℕ) (more : List (List ℕ)) → Skips ls n left → left ≡ line ∷ more → line ≢ head_line → Skips ls (n + 1) more
+skips_more ls n left line more s is other = record {
+  skipped = s.skipped ++ line ∷ [];
+  whole = s.whole ∙ ap (λ l. s.skipped ++ l) is ∙ sym (append_assoc s.skipped (line ∷ []) more);
+  others = AreSkipped-push s.skipped line s.others other;
+  counted = omega (arith, length-append s.skipped (line ∷ []));
+}
+
+pub skips_at : {ls : List (List ℕ)} {n : ℕ} {left next : List (List ℕ)} → Skips ls n left → left ≡ next → Skips ls n next
+skips_at {ls = ls} {n = n} skips same = subst (Skips ls n) same skips
 
 pub AreRuns-push : (ls : List (List ℕ)) (runs : List Sched) (line : List ℕ) (r : Sched) → AreRuns ls runs → IsRun line r → AreRuns (ls ++ line ∷ []) (runs ++ r ∷ [])
 AreRuns-push [] [] line r are run = (run, tt)

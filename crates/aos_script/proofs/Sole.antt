@@ -7,7 +7,7 @@ use Rattle.aos_base.specs.declared.kernel.Sched.TheVariants.{Steps, Tick}
 use Rattle.aos_script.specs.declared.script.Script.{Script}
 use Rattle.aos_script.specs.Words.{parts, lines, words}
 use Rattle.aos_script.specs.Number.{IsNumber}
-use Rattle.aos_script.specs.Listing.{IsSetting, IsSteps, IsTick, IsRun, AreRuns, IsListing}
+use Rattle.aos_script.specs.Listing.{head_line, AreSkipped, IsSetting, IsSteps, IsTick, IsRun, AreRuns, IsListing}
 use Rattle.aos_script.specs.Laws.{OneScript}
 
 number_same : {v w : List ℕ} {m n : ℕ} → v ≡ w → IsNumber v m → IsNumber w n → m ≡ n
@@ -55,10 +55,25 @@ runs_same (l ∷ ls) [] ss a b = absurd a
 runs_same (l ∷ ls) (r ∷ rs) [] a b = absurd b
 runs_same (l ∷ ls) (r ∷ rs) (s ∷ ss) a b = let head = run_same l r s a.0 b.0 in let tail = runs_same ls rs ss a.1 b.1 in cc
 
+-- the first line of a script stands at one place
+pub heads_same : (a b r q : List (List ℕ)) → AreSkipped a → AreSkipped b → a ++ head_line ∷ r ≡ b ++ head_line ∷ q → (a ≡ b) × (r ≡ q)
+heads_same [] [] r q x y same = let e : r ≡ q = cc in (refl, e)
+heads_same [] (l ∷ b) r q x y same = let e : l ≡ head_line = cc in absurd (y.0 e)
+heads_same (k ∷ a) [] r q x y same = let e : k ≡ head_line = cc in absurd (x.0 e)
+heads_same (k ∷ a) (l ∷ b) r q x y same =
+    let tail : a ++ head_line ∷ r ≡ b ++ head_line ∷ q = cc in
+    let rest = heads_same a b r q x.1 y.1 tail in
+    let head : k ≡ l = cc in
+    let front = rest.0 in
+    let whole : k ∷ a ≡ l ∷ b = cc in
+    (whole, rest.1)
+
 listing_same : (ls : List (List ℕ)) (s t : Script) → IsListing ls s → IsListing ls t → s ≡ t
 listing_same ls s t a b =
-    let x = a.whole in
-    let y = b.whole in
+    let behind = (heads_same a.skipped b.skipped
+    (a.workers_line ∷ a.budget_line ∷ (a.run_lines ++ codes "end" ∷ []))
+    (b.workers_line ∷ b.budget_line ∷ (b.run_lines ++ codes "end" ∷ []))
+    a.others b.others (sym a.whole ∙ b.whole)).1 in
     let workers_line : b.workers_line ≡ a.workers_line = cc in
     let budget_line : b.budget_line ≡ a.budget_line = cc in
     let rest : b.run_lines ++ codes "end" ∷ [] ≡ a.run_lines ++ codes "end" ∷ [] = cc in

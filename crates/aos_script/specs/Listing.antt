@@ -1,5 +1,5 @@
 -- What the lines of a script say.
-use Rattle.std.specs.Prelude.{◌≡◌, All, ℕ, ◌≤◌, List, [], ◌∷◌, ◌++◌, codes}
+use Rattle.std.specs.Prelude.{◌≡◌, ◌≢◌, All, ℕ, ◌≤◌, List, [], ◌∷◌, ◌++◌, codes}
 use Rattle.aos_base.specs.declared.kernel.Sched.{Sched}
 use Rattle.aos_base.specs.declared.kernel.Sched.TheVariants.{Steps, Tick}
 use Rattle.aos_base.specs.Machine.{Choice}
@@ -7,6 +7,15 @@ use Rattle.aos_base.specs.Schedule.{IsEntry, choices}
 use Rattle.aos_script.specs.declared.script.Script.{Script}
 use Rattle.aos_script.specs.Words.{lines, words}
 use Rattle.aos_script.specs.Number.{IsNumber}
+
+-- the first line of a script
+abbrev pub head_line : List ℕ
+head_line = codes "aos-script 1"
+
+-- what may stand before a script: lines none of which is its first
+abbrev pub AreSkipped : List (List ℕ) → Type 0
+AreSkipped [] = Unit {0}
+AreSkipped (line ∷ ls) = (line ≢ head_line) × AreSkipped ls
 
 -- NAME N, a number from 1 to a limit
 pub record IsSetting (name : List ℕ) (most : ℕ) (line : List ℕ) (n : ℕ) : Type 0 where
@@ -44,12 +53,15 @@ AreRuns [] (r ∷ runs) = ⊥
 AreRuns (line ∷ ls) [] = ⊥
 AreRuns (line ∷ ls) (r ∷ runs) = IsRun line r × AreRuns ls runs
 
--- Lines in the form of a script: its first line, two settings, run lines, and `end`. A worker may be any number.
+-- Lines in the form of a script: those that are skipped, its first line, two settings, run lines, and `end`. A worker
+-- may be any number.
 pub record IsListing (ls : List (List ℕ)) (s : Script) : Type 0 where
+  pub skipped : List (List ℕ)
   pub workers_line : List ℕ
   pub budget_line : List ℕ
   pub run_lines : List (List ℕ)
-  pub whole : ls ≡ codes "aos-script 1" ∷ workers_line ∷ budget_line ∷ (run_lines ++ codes "end" ∷ [])
+  pub whole : ls ≡ skipped ++ head_line ∷ workers_line ∷ budget_line ∷ (run_lines ++ codes "end" ∷ [])
+  pub others : AreSkipped skipped
   pub workers : IsSetting (codes "workers") 16 workers_line s.workers
   pub budget : IsSetting (codes "budget") 1000000000 budget_line s.budget
   pub runs : AreRuns run_lines s.runs

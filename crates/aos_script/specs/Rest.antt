@@ -7,7 +7,14 @@ use Rattle.aos_script.specs.declared.error.ScriptErr.TheVariants.{BadLine, BadWo
 use Rattle.aos_script.specs.declared.line.Flaw.{Flaw}
 use Rattle.aos_script.specs.declared.line.Flaw.TheVariants.{Form, Worker}
 use Rattle.aos_script.specs.Number.{IsNumber}
-use Rattle.aos_script.specs.Listing.{IsSetting, IsRun, AreRuns}
+use Rattle.aos_script.specs.Listing.{AreSkipped, IsSetting, IsRun, AreRuns}
+
+-- lines that are skipped, up to those that are left, of which the first has this number
+pub record Skips (ls : List (List ℕ)) (n : ℕ) (left : List (List ℕ)) : Type 0 where
+  pub skipped : List (List ℕ)
+  pub whole : ls ≡ skipped ++ left
+  pub others : AreSkipped skipped
+  pub counted : n ≡ length skipped + 1
 
 -- the first of the lines isn't this setting, or there is no line
 abbrev pub LacksSetting : List ℕ → ℕ → List (List ℕ) → Type 0
@@ -42,9 +49,9 @@ abbrev pub GoesWrong : List (List ℕ) → Type 0
 GoesWrong [] = Unit {0}
 GoesWrong (line ∷ ls) = (line ≢ codes "end") × ((r : Sched) → ¬ IsRun line r)
 
--- where run lines from line 4 on go wrong
-pub data FailsAt (workers : ℕ) (ls : List (List ℕ)) : ScriptErr → Type 0 where
-  no_run : {n : ℕ} (runs : List Sched) (left : List (List ℕ)) → ReadsRuns workers ls runs left → GoesWrong left → n ≡ length runs + 4 → FailsAt workers ls (BadLine n)
-  behind_end : {n : ℕ} (runs : List Sched) (left : List (List ℕ)) → ReadsRuns workers ls runs (codes "end" ∷ left) → left ≢ [] → n ≡ length runs + 5 → FailsAt workers ls (BadLine n)
-  no_worker : {n : ℕ} (runs : List Sched) (line : List ℕ) (left : List (List ℕ)) → ReadsRuns workers ls runs (line ∷ left) → HasFlaw workers line Worker → n ≡ length runs + 4 → FailsAt workers ls (BadWorker n)
-  no_memory : FailsAt workers ls NoMemory
+-- where run lines, the first of which has this number, go wrong
+pub data FailsAt (workers first : ℕ) (ls : List (List ℕ)) : ScriptErr → Type 0 where
+  no_run : {n : ℕ} (runs : List Sched) (left : List (List ℕ)) → ReadsRuns workers ls runs left → GoesWrong left → n ≡ length runs + first → FailsAt workers first ls (BadLine n)
+  behind_end : {n : ℕ} (runs : List Sched) (left : List (List ℕ)) → ReadsRuns workers ls runs (codes "end" ∷ left) → left ≢ [] → n ≡ length runs + first + 1 → FailsAt workers first ls (BadLine n)
+  no_worker : {n : ℕ} (runs : List Sched) (line : List ℕ) (left : List (List ℕ)) → ReadsRuns workers ls runs (line ∷ left) → HasFlaw workers line Worker → n ≡ length runs + first → FailsAt workers first ls (BadWorker n)
+  no_memory : FailsAt workers first ls NoMemory

@@ -1,5 +1,5 @@
 -- The lines of a text, and the words of a line.
-use Rattle.std.specs.Prelude.{ℕ, ◌==◌, List, [], Option, Some, None}
+use Rattle.std.specs.Prelude.{ℕ, ◌==◌, List, [], ◌∷◌, Option, Some, None}
 use denote.Ref.{Bor}
 use Rattle.std.specs.List.{slice_split}
 use Rattle.std.specs.Io.BufRead.{strip_last}
@@ -8,9 +8,10 @@ use Rattle.std.specs.Io.BufRead.{strip_last}
 unfoldable pub parts : ℕ → List ℕ → List (List ℕ)
 parts byte text = slice_split (λ b. b == byte) text
 
--- Each line ends with the byte 10, which the last one may lack. (An empty text is one empty line.)
+-- Each line ends with the byte 10, which the last one may lack. (An empty text has no line.)
 abbrev pub lines : List ℕ → List (List ℕ)
-lines text = parts 10 (strip_last 10 text)
+lines [] = []
+lines (b ∷ text) = parts 10 (strip_last 10 (b ∷ text))
 
 -- words are parted by one blank
 abbrev pub words : List ℕ → List (List ℕ)

@@ -1,16 +1,17 @@
 // What a script says, and the reader of its text.
 
-ghost use Rattle.std.specs.Prelude.{All, ◌≡◌, ◌∷◌, [], ◌<◌, ◌≤◌, ◌^◌, ◌-◌, ◌⊎◌, length, codes, MatchResult, IfOk, IfErr, IfSome, IfNone};
+ghost use Rattle.std.specs.Prelude.{All, List, ℕ, ◌≡◌, ◌∷◌, [], ◌<◌, ◌≤◌, ◌^◌, ◌+◌, ◌-◌, ◌⊎◌, length, codes, MatchResult, IfOk, IfErr, IfSome, IfNone};
 ghost use Rattle.std.specs.Io.BufRead.{strip_last};
 ghost use Rattle.aos_script.specs.declared.script.Script.{Script};
 ghost use Rattle.aos_script.specs.declared.error.ScriptErr.{ScriptErr};
 ghost use Rattle.aos_script.specs.declared.error.ScriptErr.TheVariants.{NoMemory};
-ghost use Rattle.aos_script.specs.Words.{lines_left};
+ghost use Rattle.aos_script.specs.Words.{lines, lines_left};
 ghost use Rattle.aos_base.specs.Schedule.{IsEntry, entry_choices};
-ghost use Rattle.aos_script.specs.Listing.{IsScript, choices_of};
+ghost use Rattle.aos_script.specs.Listing.{head_line, IsScript, choices_of};
 ghost use Rattle.aos_script.specs.Refusals.{IsRefused};
-ghost use Rattle.aos_script.specs.Rest.{TakesSetting, LacksSetting, ReadsRuns, FailsAt};
-ghost use Rattle.aos_script.specs.Laws.{OneScript, OneRefusal, NotBoth};
+ghost use Rattle.aos_script.specs.Rest.{Skips, TakesSetting, LacksSetting, ReadsRuns, FailsAt};
+ghost use Rattle.aos_script.specs.Print.{IsPrintable};
+ghost use Rattle.aos_script.specs.Laws.{OneScript, OneRefusal, NotBoth, PrintedIsRead, JoinedAlike};
 
 use crate::error::ScriptErr;
 use crate::line::{Flaw, run_of, setting};
@@ -41,6 +42,13 @@ impl Model for Runs {
 }
 
 impl Runs {
+    /// These entries.
+    pub fn from_vec(entries: Vec<Sched>) -> Runs
+        ensures { result ≡ entries.items }
+    {
+        Runs { entries }
+    }
+
     /// The entries in order.
     pub fn as_slice(&self) -> &[Sched]
         ensures { result.now ≡ self.now }
@@ -85,6 +93,49 @@ fn length_of(entry: Sched) -> u64
     }
 }
 
+/// The text without the line end at its end, if it has one.
+fn without_last_end(bytes: &[u8]) -> &[u8]
+    ensures { result.now ≡ strip_last 10 bytes.now }
+{
+    match bytes.split_last() {
+        Some((b'\n', front)) => front,
+        _ => bytes,
+    }
+}
+
+/// The lines of a text, of which all are left.
+fn all_lines(bytes: &[u8]) -> Option<&[u8]>
+    ensures { lines_left result ≡ lines bytes.now }
+{
+    if bytes.is_empty() {
+        None
+    } else {
+        Some(without_last_end(bytes))
+    }
+}
+
+/// The number of the first `aos-script 1` among lines, which are counted from 1, and the lines behind it. Where there is
+/// none, the number of the line that is missing.
+fn behind_head(left: Option<&[u8]>) -> Result<(u32, Option<&[u8]>), u32>
+    requires { length (lines_left left) ≤ 2 ^ 27 }
+    ensures found { IfOk result
+        (λ r. Skips (lines_left left.entry) r.0 (head_line ∷ lines_left r.1)) }
+    ensures few { IfOk result (λ r. r.0 + length (lines_left r.1) ≤ 2 ^ 27) }
+    ensures missing { IfErr result (λ n. Skips (lines_left left.entry) n []) }
+{
+    let mut left = left;
+    let mut n = 1;
+    while let Some(text) = left {
+        let (line, more) = cut(text, b'\n');
+        if is(line, b"aos-script 1") {
+            return Ok((n, more));
+        }
+        left = more;
+        n += 1;
+    }
+    Err(n)
+}
+
 /// The number of the first of the lines that are left, which has to be `NAME N`, and the lines behind it.
 fn next_setting<'a>(
     left: Option<&'a [u8]>,
@@ -101,16 +152,21 @@ fn next_setting<'a>(
     Some((n, more))
 }
 
-/// The entries of the run lines that are left, up to `end`. The first of these is line 4.
-fn read_runs(alloc: Global, left: Option<&[u8]>, workers: u32) -> Result<Runs, ScriptErr>
-    requires { length (lines_left left) ≤ 2 ^ 27 }
+/// The entries of the run lines that are left, up to `end`. The first of these lines has this number.
+fn read_runs(
+    alloc: Global,
+    left: Option<&[u8]>,
+    workers: u32,
+    first: u32,
+) -> Result<Runs, ScriptErr>
+    requires { first + length (lines_left left) ≤ 2 ^ 28 }
     ensures read { IfOk result
         (λ runs. ReadsRuns workers (lines_left left.entry) runs (codes "end" ∷ [])) }
-    ensures failed { IfErr result (FailsAt workers (lines_left left.entry)) }
+    ensures failed { IfErr result (FailsAt workers first (lines_left left.entry)) }
 {
     let mut entries = Vec::new(alloc);
     let mut left = left;
-    let mut n = 4;
+    let mut n = first;
     while let Some(text) = left {
         let (line, more) = cut(text, b'\n');
         if is(line, b"end") {
@@ -134,34 +190,23 @@ fn read_runs(alloc: Global, left: Option<&[u8]>, workers: u32) -> Result<Runs, S
     Err(ScriptErr::BadLine(n))
 }
 
-/// The text without the line end at its end, if it has one.
-fn without_last_end(bytes: &[u8]) -> &[u8]
-    ensures { result.now ≡ strip_last 10 bytes.now }
+/// What the lines behind the first line of a script say, which has this number, or why they are none of a script.
+fn script_behind(alloc: Global, left: Option<&[u8]>, n: u32) -> Result<Script, ScriptErr>
+    requires { n + length (lines_left left) ≤ 2 ^ 27 }
+    ensures read { IfOk result (λ s. (text : List ℕ) →
+        Skips (lines text) n (head_line ∷ lines_left left.entry) → IsScript text s) }
+    ensures refused { IfErr result (λ e. (text : List ℕ) →
+        Skips (lines text) n (head_line ∷ lines_left left.entry) →
+        (e ≡ NoMemory) ⊎ IsRefused text e) }
 {
-    match bytes.split_last() {
-        Some((b'\n', front)) => front,
-        _ => bytes,
-    }
-}
-
-/// What a text says, or why it is no script.
-fn script_of(alloc: Global, bytes: &[u8]) -> Result<Script, ScriptErr>
-    requires { length bytes.now ≤ 2 ^ 26 }
-    ensures read { IfOk result (IsScript bytes.now) }
-    ensures refused { IfErr result (λ e. (e ≡ NoMemory) ⊎ IsRefused bytes.now e) }
-{
-    let (head, left) = cut(without_last_end(bytes), b'\n');
-    if !is(head, b"aos-script 1") {
-        return Err(ScriptErr::BadLine(1));
-    }
     let Some((workers, left)) = next_setting(left, b"workers", u64::from(MAX_WORKERS)) else {
-        return Err(ScriptErr::BadLine(2));
+        return Err(ScriptErr::BadLine(n + 1));
     };
     let Some((budget, left)) = next_setting(left, b"budget", MAX_BUDGET) else {
-        return Err(ScriptErr::BadLine(3));
+        return Err(ScriptErr::BadLine(n + 2));
     };
     let workers = workers as u32;
-    match read_runs(alloc, left, workers) {
+    match read_runs(alloc, left, workers, n + 3) {
         Ok(runs) => Ok(Script {
             workers,
             budget,
@@ -171,13 +216,26 @@ fn script_of(alloc: Global, bytes: &[u8]) -> Result<Script, ScriptErr>
     }
 }
 
-/// Reads a script of at most 2^26 bytes: `aos-script 1`, `workers N`, `budget B`, then lines `s W K` (so many steps of a
-/// worker) and `t W` (a tick of it), and `end`. A text that is none is refused with the first line that can't stand
-/// where it stands, counted from 1.
+/// What a text says, or why it is no script.
+fn script_of(alloc: Global, bytes: &[u8]) -> Result<Script, ScriptErr>
+    requires { length bytes.now ≤ 2 ^ 26 }
+    ensures read { IfOk result (IsScript bytes.now) }
+    ensures refused { IfErr result (λ e. (e ≡ NoMemory) ⊎ IsRefused bytes.now e) }
+{
+    match behind_head(all_lines(bytes)) {
+        Ok((n, left)) => script_behind(alloc, left, n),
+        Err(n) => Err(ScriptErr::BadLine(n)),
+    }
+}
+
+/// Reads a script of at most 2^26 bytes: behind lines that are skipped `aos-script 1`, `workers N`, `budget B`, then lines
+/// `s W K` (so many steps of a worker) and `t W` (a tick of it), and `end`. A text that is none is refused with the first
+/// line that can't stand where it stands, counted from 1 over the whole text.
 pub fn read_script(alloc: Global, bytes: &[u8]) -> Result<Script, ScriptErr>
     requires { length bytes.now ≤ 2 ^ 26 }
     ensures read { IfOk result (IsScript bytes.now) }
     ensures few { IfOk result (λ s. length s.runs ≤ 2 ^ 27) }
+    ensures printable { IfOk result IsPrintable }
     ensures refused { IfErr result (λ e. (e ≡ NoMemory) ⊎ IsRefused bytes.now e) }
 
     // A script is refused only for want of memory.
@@ -203,4 +261,15 @@ pub fn one_refusal()
 /// A script is never refused.
 pub fn not_both()
     ensures { NotBoth }
+{}
+
+/// The text that a script is printed as is that script, with neighbouring runs of one worker joined. So it is what
+/// `read_script` reads in that text.
+pub fn printed_is_read()
+    ensures { PrintedIsRead }
+{}
+
+/// Joined or not, the runs of a script stand for the same steps and ticks.
+pub fn joined_alike()
+    ensures { JoinedAlike }
 {}

@@ -1,11 +1,11 @@
-use Rattle.std.proofs.Common.{◌≡◌, ◌+◌, ◌<◌, get_or, take, drop, length, ap, sym, subst, ◌∙◌, arith}
+use Rattle.std.proofs.Common.{◌≡◌, ◌+◌, ◌<◌, ◌≤◌, get_or, take, drop, length, ap, sym, subst, ◌∙◌, arith, take_all}
 use Rattle.aos_base.specs.declared.kernel.Sched.TheVariants.{Steps}
 use Rattle.aos_base.specs.declared.kernel.Outcome.TheVariants.{Going}
 use Rattle.aos_base.specs.Book.{outcome}
 use Rattle.aos_base.specs.Schedule.{choices, entry_choices}
 use Rattle.aos_kernel.specs.Run.{state_of}
 use Rattle.aos_replay.specs.Continues.{Continues, ContinuesPart}
-use Rattle.aos_replay.proofs.Going.{goes_nowhere, execution-over, goes_idly, goes_then, part_then, choices-split, choices-more, choices-next}
+use Rattle.aos_replay.proofs.Going.{state_after, goes_nowhere, execution-over, goes_idly, goes_then, part_then, choices-split, choices-more, choices-next}
 use Rattle.aos_replay.proofs.whole.replay.Goals as goal
 
 pub loop-entry-init : goal.loop-entry-init
@@ -30,7 +30,17 @@ returns-in_default-clause-log c =
     (goes_idly (choices (take i runs)) (choices (drop i runs)) c.args.kernel.now c.loop-entry.kernel c.loop-entry.invariant (execution-over c.loop-entry.kernel (choices (drop i runs)) over))
 
 pub returns-in_default-clause-state : goal.returns-in_default-clause-state
-returns-in_default-clause-state c = (returns-in_default-clause-log c).state
+returns-in_default-clause-state c = state_after (choices c.args.s.now.runs) c.args.kernel.now c.loop-entry.kernel (returns-in_default-clause-log c)
+
+pub returns-clause-log : goal.returns-clause-log
+returns-clause-log c =
+    let runs = c.args.s.now.runs in
+    let i = c.loop-entry.entry-index in
+    let past : length runs ≤ i = let n = ap length c.as_slice-entry-items.ensures in omega arith in
+    subst (λ rs. Continues (choices rs) c.args.kernel.now c.loop-entry.kernel) (take_all i runs past) c.loop-entry.invariant
+
+pub returns-clause-state : goal.returns-clause-state
+returns-clause-state c = state_after (choices c.args.s.now.runs) c.args.kernel.now c.loop-entry.kernel (returns-clause-log c)
 
 pub returns-in-Err-clause-err : goal.returns-in-Err-clause-err
 returns-in-Err-clause-err c =

@@ -1,4 +1,4 @@
-use Rattle.aos_script.proofs.Counts.{few_read}
+use Rattle.aos_script.proofs.Counts.{few_read, printable_read}
 use Rattle.aos_script.proofs.Lasting.{only, exact}
 use Rattle.aos_script.proofs.script.read_script.Goals as goal
 
@@ -10,3 +10,6 @@ returns-clause-exact c = exact c.args.bytes.now c.script_of.result c.script_of.e
 
 pub returns-clause-few : goal.returns-clause-few
 returns-clause-few c = few_read c.args.bytes.now c.script_of.result c.requires c.script_of.ensures.read
+
+pub returns-clause-printable : goal.returns-clause-printable
+returns-clause-printable c = printable_read c.args.bytes.now c.script_of.result c.script_of.ensures.read
