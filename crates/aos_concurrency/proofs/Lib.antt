@@ -5,6 +5,7 @@ pub mod Works
 pub mod Release
 pub mod Steps
 pub mod Begin
+pub mod Executions
 pub mod Excludes
 pub mod Matching
 pub mod Itself
@@ -20,3 +21,4 @@ pub mod ToyCoded
 pub mod ToyHands
 pub mod ToyNever
 pub mod Lent
+pub mod Places

@@ -1,12 +1,12 @@
 -- The laws, each as a statement over any machine whose stores and frames are of these types.
-use Rattle.std.specs.Prelude.{◌≡◌, ◌≢◌, ◌+◌, ◌<◌, ℕ, Option, Some, List, [], ◌∷◌, ◌++◌, Bool, IsTrue}
+use Rattle.std.specs.Prelude.{◌≡◌, ◌≢◌, ◌+◌, ◌<◌, ℕ, Option, Some, None, List, [], ◌∷◌, ◌++◌, Bool, IsTrue}
 use Rattle.aos_base.specs.declared.kernel.LockName.{LockName}
 use Rattle.aos_base.specs.declared.kernel.Verdict.{Verdict}
 use Rattle.aos_base.specs.declared.kernel.Did.{Did}
 use Rattle.aos_base.specs.declared.kernel.Did.TheVariants.{Went}
 use Rattle.aos_base.specs.declared.kernel.Outcome.TheVariants as outcome_is
 use Rattle.aos_base.specs.Lock.{Waiting, heir, after_heir, Alike}
-use Rattle.aos_base.specs.Book.{Runs, Activity, Book, on_worker, outcome}
+use Rattle.aos_base.specs.Book.{On, Runs, Activity, Book, on_worker, place_of, outcome}
 use Rattle.aos_base.specs.Machine.{Choice, Machine, State, start_of, happens, execution}
 use Rattle.aos_base.specs.Observation.{observation}
 use Rattle.aos_concurrency.specs.Orderly.{Orderly}
@@ -98,6 +98,18 @@ module _ (S F : Type 0) where
       → Orderly st → IsLent w a entry f st → entry.next ≡ Runs → NoneOf w cs
       → let later = execution m cs st in GoesOn a begun later.book → ArePrivate m f begun g
       → execution m (steps w begun) later ≡ settled a g begun later
+
+  -- with no premise on the machine, a worker has one activity at most
+  abbrev pub OneOnWorker : Type 0
+  OneOnWorker =
+      (m : Machine S F) (s : S) (f : F) (budget : ℕ) (cs : List Choice) (w a b : ℕ)
+      → let line = (execution m cs (start_of s f budget)).book.line in place_of line a ≡ Some (On w) → place_of line b ≡ Some (On w) → a ≡ b
+
+  -- and one that has none has none while others alone make steps and ticks, from any state on
+  abbrev pub StaysIdle : Type 0
+  StaysIdle =
+      (m : Machine S F) (w : ℕ) (cs : List Choice) (st : State S F)
+      → NoneOf w cs → on_worker w st.book.line ≡ None → on_worker w (execution m cs st).book.line ≡ None
 
 -- the outcome stays Going before each while the activity's count stays below the budget before the last
 abbrev pub LastInBudget : Type 0

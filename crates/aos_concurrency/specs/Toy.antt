@@ -8,7 +8,7 @@ use Rattle.aos_base.specs.declared.kernel.Did.{Did}
 use Rattle.aos_base.specs.declared.kernel.Did.TheVariants.{Went, Ended, Enter, Leave, Await, Start, Trapped}
 use Rattle.aos_base.specs.Lock.{is_lock, Entry, Condition, Waiting}
 use Rattle.aos_base.specs.Book.{Where, put}
-use Rattle.aos_base.specs.Machine.{Choice, Step, Turn, Machine, State, start_of, execution}
+use Rattle.aos_base.specs.Machine.{Choice, Step, Tick, Turn, Machine, State, start_of, execution}
 use Rattle.aos_concurrency.specs.Regions.{times}
 
 pub data Command : Type 0 where
@@ -222,6 +222,11 @@ settled_at = execution toy (Step 1 ∷ Step 1 ∷ []) lent_at
 
 abbrev pub skipping : List Command → Frames
 skipping rest = record { rest = rest; regions = []; whole = Fork ∷ Skip ∷ Skip ∷ [] }
+
+-- An execution in which a tick has taken its activity from worker 0
+
+abbrev pub idle_at : State Shared Frames
+idle_at = toy_run skips_twice 100 (Step 0 ∷ Step 0 ∷ Tick 0 ∷ [])
 
 -- Two lists that are alike: 4 and 6 wait to enter, 5 waits for condition 9
 

@@ -1,18 +1,18 @@
 // The laws at a small machine, whose activities make lists of commands, and at its compiled form.
 
-ghost use Rattle.std.specs.Prelude.{◌≡◌, ◌≢◌, ℕ, Option, Some, List, [], ◌∷◌, true};
+ghost use Rattle.std.specs.Prelude.{◌≡◌, ◌≢◌, ℕ, Option, Some, None, List, [], ◌∷◌, true};
 ghost use Rattle.aos_base.specs.declared.kernel.LockName.{LockName};
 ghost use Rattle.aos_base.specs.declared.kernel.Verdict.{Verdict};
 ghost use Rattle.aos_base.specs.declared.kernel.Outcome.TheVariants.{Dead};
 ghost use Rattle.aos_base.specs.Lock.{heir, Alike};
-ghost use Rattle.aos_base.specs.Book.{Runs, on_worker, outcome};
+ghost use Rattle.aos_base.specs.Book.{On, Runs, on_worker, place_of, outcome};
 ghost use Rattle.aos_base.specs.Machine.{Choice, Step, State, execution};
 ghost use Rattle.aos_base.specs.Observation.{observation};
 ghost use Rattle.aos_concurrency.specs.Mutual.{Mutual};
 ghost use Rattle.aos_concurrency.specs.Acting.{acting};
 ghost use Rattle.aos_concurrency.specs.Handover.{IsGiven, HandsOver};
 ghost use Rattle.aos_concurrency.specs.Private.{GoesOn, IsLent, settled};
-ghost use Rattle.aos_concurrency.specs.Toy.{Command, TakesNone, Skip, Shared, Program, Frames, toy, toy_run, coded, coded_run, Nested, IsNested, IsAnyLocal, waits_for_one, up_to_the_release, one_list, another_list, lent_at, settled_at, skipping};
+ghost use Rattle.aos_concurrency.specs.Toy.{Command, TakesNone, Skip, Shared, Program, Frames, toy, toy_run, coded, coded_run, Nested, IsNested, IsAnyLocal, waits_for_one, up_to_the_release, one_list, another_list, lent_at, settled_at, skipping, idle_at};
 
 /// Mutual exclusion at the machine, where its commands are well nested.
 pub fn toy_excludes()
@@ -56,6 +56,16 @@ pub fn toy_stays_nested()
     ensures nested { (p : Program) (budget : ℕ) (cs : List Choice) → IsNested p →
         (a : ℕ) (f : Frames) → acting toy (toy_run p budget cs) a ≡ Some f →
         Nested f.rest f.regions }
+{}
+
+/// A worker has one activity at most; and worker 0, from which a tick has taken its own, has none
+/// while worker 1 makes steps.
+pub fn toy_stays_idle()
+    ensures one { (p : Program) (budget : ℕ) (cs : List Choice) (w a b : ℕ) →
+        place_of (toy_run p budget cs).book.line a ≡ Some (On w) →
+        place_of (toy_run p budget cs).book.line b ≡ Some (On w) → a ≡ b }
+    ensures idle { on_worker 0 idle_at.book.line ≡ None }
+    ensures later { on_worker 0 (execution toy (Step 1 ∷ Step 1 ∷ []) idle_at).book.line ≡ None }
 {}
 
 /// Two turns that skip, made elsewhere, are two steps, here also after two steps of another worker.

@@ -1,7 +1,7 @@
 // The laws over any machine. S and T are the types of stores, F and G those of an activity's
 // frames.
 
-ghost use Rattle.aos_concurrency.specs.Laws.{Exclusive, AskedFromOutside, NeverDead, InOrder, TrapsRecorded, TrapsTold, HandedOver, FiveWays, StaysTidy, Settles, SettlesLater, LastInBudget, SeenAlike, ToldAlike, SameHeir, StayAlike, JoinAlike};
+ghost use Rattle.aos_concurrency.specs.Laws.{Exclusive, AskedFromOutside, NeverDead, InOrder, TrapsRecorded, TrapsTold, HandedOver, FiveWays, StaysTidy, Settles, SettlesLater, LastInBudget, OneOnWorker, StaysIdle, SeenAlike, ToldAlike, SameHeir, StayAlike, JoinAlike};
 
 /// Whoever is in a region of a lock and doesn't wait there owns it, and what goes with it, in every
 /// state of every execution.
@@ -21,6 +21,13 @@ pub fn in_order<S, F>()
     ensures places { InOrder S F }
     ensures traps { TrapsRecorded S F }
     ensures told { TrapsTold S F }
+{}
+
+/// Whatever the machine, a worker has one activity at most, and one that has none has none while
+/// others alone make steps and ticks.
+pub fn one_on_each_worker<S, F>()
+    ensures one { OneOnWorker S F }
+    ensures idle { StaysIdle S F }
 {}
 
 /// Machines that make the same turns are seen to do the same under every schedule.

@@ -6,7 +6,8 @@ use Rattle.aos_base.specs.declared.kernel.Event.{Event}
 use Rattle.aos_base.specs.declared.kernel.Outcome.{Outcome}
 use Rattle.aos_base.specs.declared.kernel.Outcome.TheVariants.{Going, Ended, Dead, Spent}
 use Rattle.aos_base.specs.Book.{Stand, On, outcome, outcome_of, on_worker, first_ready, ready, stands}
-use Rattle.aos_base.specs.Machine.{Choice, Step, Tick, State, Machine, on_book, dispatch, tick_of, step_of, if_going, turn_by, happens, happens_in, execution}
+use Rattle.aos_base.specs.Machine.{Choice, Step, Tick, State, on_book, dispatch, tick_of, step_of, if_going, turn_by, happens, happens_in, execution}
+use Rattle.aos_concurrency.proofs.Executions.{execution-append}
 use Rattle.aos_code.specs.declared.image.Image.{Image}
 use Rattle.aos_code.specs.Memory.{Memory}
 use Rattle.aos_code.specs.Machine.{Frames, machine, first_state}
@@ -21,13 +22,9 @@ use Rattle.aos_line.proofs.Standing.{worker_on}
 use Rattle.aos_kernel.specs.Shows.{Shows, HasTurn, HandsOut}
 use Rattle.aos_kernel.specs.Keeps.{Keeps}
 
-execution-push : (m : Machine Memory Frames) (cs : List Choice) (c : Choice) (st : State Memory Frames) → execution m (cs ++ c ∷ []) st ≡ happens m c (execution m cs st)
-execution-push m [] c st = refl
-execution-push m (x ∷ cs) c st = execution-push m cs c (happens m x st)
-
 -- the state after one choice more
 pub state_after : (r : Run) (log : List Sched) (c : Choice) → choices log ≡ choices r.log ++ c ∷ [] → state_of (record r { log = log }) ≡ happens (machine r.image) c (state_of r)
-state_after r log c is = ap (λ cs. after r.image r.budget cs) is ∙ execution-push (machine r.image) (choices r.log) c (first_state r.image r.budget)
+state_after r log c is = ap (λ cs. after r.image r.budget cs) is ∙ execution-append (machine r.image) (choices r.log) (c ∷ []) (first_state r.image r.budget)
 
 before_last : (cs : List Choice) (c : Choice) → without_last (cs ++ c ∷ []) ≡ cs
 before_last cs c =

@@ -3,6 +3,7 @@
 use crate::frames::locks;
 use crate::image::image_of;
 use crate::numbers::{arithmetic, has, span};
+use crate::passes::differences_of_passes;
 use crate::replays::differences_of_replay;
 use crate::scripts::{print, script};
 use crate::soundness::soundness;
@@ -11,8 +12,9 @@ use crate::wanted::wanted_or_empty;
 use aos_cases::{Section, tell};
 use aos_code::Image;
 use std::alloc::Global;
+use std::sync::Wait;
 
-// What is told of a command but a replay.
+// What is told of a command that runs nothing.
 fn answer(alloc: Global, image: &Image, name: &str, text: &str) -> Result<String, Stop> {
     match name {
         "sound" => Ok(String::from_str(alloc, soundness(alloc, image, text)?)?),
@@ -27,15 +29,19 @@ fn answer(alloc: Global, image: &Image, name: &str, text: &str) -> Result<String
 }
 
 /// What is told of a command that doesn't come to what the case wants; nothing where it does.
-pub fn differences(
-    alloc: Global,
+pub fn differences<R: AllocGlobal + Wait>(
+    rt: &R,
     image: Image,
     command: &Section,
     sections: &[Section],
 ) -> Result<String, Stop> {
+    let alloc = rt.alloc();
     let (name, text) = (command.name.as_str(), command.text.as_str());
     if name == "replay" {
         return differences_of_replay(alloc, image, text, sections);
+    }
+    if name == "passes" {
+        return differences_of_passes(rt, image, text, sections);
     }
     let answer = answer(alloc, &image, name, text)?;
     let answer = answer.as_str().trim();

@@ -1,5 +1,5 @@
 //! Cases of what a run stands on: arithmetic, scripts, soundness of code, instructions, the kernel, regions and their locks,
-//! conditions, and replays. The words name files of cases.
+//! conditions, replays, and passes. The words name files of cases.
 //!
 //! Sections say an image, whose parts are numbered in their order:
 //!
@@ -16,6 +16,8 @@
 //! - `replay SCRIPT` replays a script, whose lines have `; ` between them, and makes its steps once more, one by one. Wanted are the
 //!   `state`, which is the outcome, what was written, the traps and who waits where; and, where the case says them, the `log` of the
 //!   steps and ticks that did something, and the `events`, each behind the number of its step.
+//! - `passes ROUNDS SCRIPT` replays a script, and then makes so many rounds, in each of which the kernel stands in a cell and
+//!   every worker, the first one first, makes a step by a pass of its own. Wanted are the `state` and the `log`.
 //! - `sound PROCEDURE CODE`: `told` is as what the code is sound in that procedure.
 //! - `script TEXT`: `told` is what the text says as a script, or why it is refused; `print TEXT`: what that script is printed as.
 //! - `frames FRAMES`: `told` are the locks of their open regions.
@@ -30,6 +32,7 @@ mod frames;
 mod image;
 mod numbers;
 mod operators;
+mod passes;
 mod replays;
 mod run;
 mod scripts;
@@ -45,8 +48,9 @@ use crate::image::image_of;
 use crate::stop::Stop;
 use crate::wanted::{Role, role_of};
 use aos_cases::{Asks, Case, Section, answer_files};
-use std::alloc::{AllocError, Global};
+use std::alloc::AllocError;
 use std::process::ExitCode;
+use std::sync::Wait;
 
 // Whether a case is none, but says a part of the images of those below it.
 fn is_image(case: &Case) -> bool {
@@ -80,25 +84,25 @@ fn command_at(case: &Case) -> Result<usize, Stop> {
 }
 
 // What is told of a case: nothing where its command comes to what it wants.
-fn told_of(alloc: Global, case: &Case, shared: &[Section]) -> Result<String, Stop> {
+fn told_of<R: AllocGlobal + Wait>(rt: &R, case: &Case, shared: &[Section]) -> Result<String, Stop> {
     let at = command_at(case)?;
-    let image = image_of(alloc, &case.sections, shared)?;
+    let image = image_of(rt.alloc(), &case.sections, shared)?;
     match case.sections.get(at) {
-        Some(command) => differences(alloc, image, command, &case.sections),
-        None => Ok(String::new(alloc)),
+        Some(command) => differences(rt, image, command, &case.sections),
+        None => Ok(String::new(rt.alloc())),
     }
 }
 
 // The command of a case.
 struct Command;
 
-impl<R: AllocGlobal> Asks<R> for Command {
+impl<R: AllocGlobal + Wait> Asks<R> for Command {
     fn counts(&self, case: &Case) -> bool {
         !is_image(case)
     }
 
     fn told(&self, rt: &R, above: &[Case], case: &Case) -> Result<String, AllocError> {
-        match told_of(rt.alloc(), case, shared_of(above)) {
+        match told_of(rt, case, shared_of(above)) {
             Ok(told) => Ok(told),
             Err(Stop::Malformed(why)) => String::from_str(rt.alloc(), why),
             Err(Stop::NoMemory) => Err(AllocError),

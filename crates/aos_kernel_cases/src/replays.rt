@@ -10,8 +10,8 @@ use aos_kernel::Kernel;
 use std::alloc::Global;
 use std::sync::Arc;
 
-// Tells where a kernel's state or its log isn't the one wanted.
-fn compare(alloc: Global, kernel: &Kernel, sections: &[Section]) -> Result<String, Stop> {
+/// Tells where a kernel's state or its log isn't the one wanted.
+pub fn compare(alloc: Global, kernel: &Kernel, sections: &[Section]) -> Result<String, Stop> {
     let mut told = String::new(alloc);
     let state = state_of(alloc, kernel)?;
     tell(

@@ -27,6 +27,7 @@ pub fn role_of(name: &str) -> Role {
         "procedure" => Role::Part,
         "method" => Role::Part,
         "replay" => Role::Command,
+        "passes" => Role::Command,
         "sound" => Role::Command,
         "frames" => Role::Command,
         "script" => Role::Command,

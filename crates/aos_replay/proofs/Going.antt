@@ -6,6 +6,7 @@ use Rattle.aos_base.specs.declared.kernel.Sched.{Sched}
 use Rattle.aos_base.specs.Book.{outcome}
 use Rattle.aos_base.specs.Machine.{Choice, Step, Tick, State, Machine, happens, execution}
 use Rattle.aos_base.specs.Schedule.{choices, entry_choices}
+use Rattle.aos_concurrency.proofs.Executions.{execution-append}
 use Rattle.aos_code.specs.Machine.{machine, first_state}
 use Rattle.aos_kernel.specs.declared.log.Stepped.{Stepped}
 use Rattle.aos_kernel.specs.declared.log.Stepped.TheVariants.{Turned, Dispatched, Idle, Over}
@@ -15,10 +16,6 @@ use Rattle.aos_kernel.proofs.Logs.{choices-append, choices-with_step, choices-wi
 use Rattle.aos_replay.specs.Continues.{IsSome, none, kept, left_out, Continues, ContinuesPart}
 
 module _ {S F : Type 0} (m : Machine S F) where
-  pub execution-append : (cs ds : List Choice) (st : State S F) → execution m (cs ++ ds) st ≡ execution m ds (execution m cs st)
-  execution-append [] ds st = refl
-  execution-append (c ∷ cs) ds st = execution-append cs ds (happens m c st)
-
   -- a choice that changes nothing changes nothing however often
   pub execution-idle : (n : ℕ) (c : Choice) (st : State S F) → happens m c st ≡ st → execution m (replicate n c) st ≡ st
   execution-idle zero c st idle = refl

@@ -1,0 +1,5 @@
+pub mod Total
+pub mod Bound
+pub mod Rule
+pub mod Steps
+pub mod Hold
