@@ -28,11 +28,11 @@ use Rattle.aos_symbols.proofs.Holds.{Holds, holds_bind, none_left, none_right, t
 use Rattle.aos_operators.specs.declared.known.Class.{Class}
 use Rattle.aos_operators.specs.declared.known.Class.TheVariants.{Constant}
 use Rattle.aos_operators.specs.Known.{Answer, Spot, is_basic, is_number, is_set, fits, type_as, width_of}
+use Rattle.aos_check_expr.specs.Designators.{place_of, written}
+use Rattle.aos_check_expr.specs.Expressions.{expr, condition, designator, desig_alone}
 use Rattle.aos_operators.proofs.Inside.{Inside, IsPlaceOf, IsOf}
 use Rattle.aos_operators.proofs.Types.{as_integer, integer_basic, same_type}
 use Rattle.aos_operators.proofs.Sound.{not_both, IsSound, sound_number}
-use Rattle.aos_check_expr.specs.Designators.{place_of, written}
-use Rattle.aos_check_expr.specs.Expressions.{expr, condition, designator, desig_alone}
 use Rattle.aos_check_expr.proofs.Spots.{IsTyped, closed, opened, opened_row}
 use Rattle.aos_check_expr.proofs.Typing.{IsWhole, expr_sound, condition_sound}
 use Rattle.aos_check_stat.specs.Bodies.{changing, is_changed_set, is_amount, is_changed, changed_breaches, changed_by, amount, change_of, change_at, change_call, code_in, trap_code, assert_call, halt_call, refused}

@@ -29,14 +29,14 @@ use Rattle.aos_operators.specs.declared.known.Class.{Class}
 use Rattle.aos_operators.specs.declared.known.Class.TheVariants.{Unknown, Constant, Variable, ReadOnly, Computed, Procedure}
 use Rattle.aos_operators.specs.declared.known.Known.{Known}
 use Rattle.aos_operators.specs.Known.{Answer, Spot, Held, Stands, Value, passes, is as is_the, is_basic, is_long_text, fits, fits_type, object_number, type_as}
+use Rattle.aos_check_expr.specs.Designators as desig
+use Rattle.aos_check_expr.specs.Designators.{has_parts, is_opened, is_built, is_pointer_type, is_object_type, is_assignable, assigned, written, place_of, place_in}
+use Rattle.aos_check_expr.specs.Expressions.{is_characters, string_in, designator}
 use Rattle.aos_operators.proofs.Inside.{Inside, IsPlaceOf, IsOf, IsStatement}
 use Rattle.aos_operators.proofs.Good.{IsGood, IsKnownClass}
 use Rattle.aos_operators.proofs.Stored.{IsStored}
 use Rattle.aos_operators.proofs.Types.{id_as, id_above, as_named, wider, fits_includes}
 use Rattle.aos_operators.proofs.Sound.{IsSound, scalar_of}
-use Rattle.aos_check_expr.specs.Designators as desig
-use Rattle.aos_check_expr.specs.Designators.{has_parts, is_opened, is_built, is_pointer_type, is_object_type, is_assignable, assigned, written, place_of, place_in}
-use Rattle.aos_check_expr.specs.Expressions.{is_characters, string_in, designator}
 use Rattle.aos_check_expr.proofs.Objects.{IsMadeAs, pointer_kind, object_kind}
 use Rattle.aos_check_expr.proofs.Pointed.{made_there, made_pointed, number_back}
 use Rattle.aos_check_expr.proofs.Passed.{basic_fit, whole_place}

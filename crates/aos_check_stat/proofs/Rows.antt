@@ -19,16 +19,13 @@ use Rattle.aos_tree.specs.declared.stat.Stat.TheVariants as stat
 use Rattle.aos_tree.specs.declared.stat.Case.TheBlock.{hidden-the_row-Stat-0, hidden-the_row-Elsif-1, hidden-the_row-Case-2}
 use Rattle.aos_types.specs.declared.row.TypeId.{TypeId}
 use Rattle.aos_typed.specs.declared.tree.TArm.{TArm, out-TArm}
-use Rattle.aos_typed.specs.declared.tree.TCase.{TCase, out-TCase}
+use Rattle.aos_typed.specs.declared.tree.LabelRange.{LabelRange}
+use Rattle.aos_typed.specs.declared.tree.TCase.{TCase}
 use Rattle.aos_typed.specs.declared.tree.TStat.{TStat}
 use Rattle.aos_typed.specs.Program.{Stat, While, Repeat, Loop, For, Block as BlockOf, If, Arms, Arm, Otherwise, Cases, Else, OfLabels, Case as CaseOf, Stats, Then}
 use Rattle.aos_typed.specs.Seen.{seen_expr, seen_stat, seen_stats, seen_else, arms_of, cases_of}
 use Rattle.aos_typed.specs.declared.tree.TExpr.{TExpr}
 use Rattle.aos_typed.specs.declared.tree.TElse.{TElse}
-use Rattle.aos_typed.specs.declared.tree.TElse.TheViews as view
-use Rattle.aos_typed.proofs.Seen.{if_seen, case_seen}
-use Rattle.std.specs.declared.vec.Vec.{Vec}
-use Rattle.std.specs.declared.alloc.Global.{Global}
 use Rattle.aos_symbols.specs.declared.env.Env.{Env}
 use Rattle.aos_symbols.specs.declared.breach.Breach.{Breach}
 use Rattle.aos_symbols.specs.Breaches.{breach, first_after}
@@ -39,7 +36,7 @@ use Rattle.aos_check_expr.specs.Designators.{guard}
 use Rattle.aos_check_expr.specs.Expressions.{condition, known_type}
 use Rattle.aos_check_stat.specs.Bodies.{listed, modifier_breaches, are_exclusive, within_block, called_last, called_before, ended, Labels, label_in, selector, control, fitting, step_of, with_variable, narrowed_by, with_stat, stat_of, stat_in, stats_in, else_in, case_else_in, elsifs_in, cases_in}
 use Rattle.aos_check_stat.specs.Listed as parts
-use Rattle.aos_check_stat.specs.Listed.{onto}
+use Rattle.aos_made_stat.specs.Onto.{onto}
 
 module _ (e : Env) (in_loop : Bool) where
   stats_row : (n : _) (ts : List Stat) (r : Row_of-Stat n) → stats_in e in_loop ts r ≡ walk (stat_in e in_loop) ts (items-the_row-Stat n r)
@@ -182,14 +179,6 @@ pub onto_all : (bs : List TArm) (ss : Stats) → arms_of bs ss ≡ onto bs (Othe
 onto_all [] ss = refl
 onto_all (a ∷ bs) ss = let x = out-TArm a in ap (λ z. Arm (seen_expr x.test) (seen_stats x.body.items) z) (onto_all bs ss)
 
-pub onto_more : (bs : List TArm) (a : TArm) (others : Arms) → onto (bs ++ a ∷ []) others ≡ onto bs (let x = out-TArm a in Arm (seen_expr x.test) (seen_stats x.body.items) others)
-onto_more [] a others = refl
-onto_more (b ∷ bs) a others = let x = out-TArm b in ap (λ z. Arm (seen_expr x.test) (seen_stats x.body.items) z) (onto_more bs a others)
-
-pub cases_more : (bs : List TCase) (a : TCase) (others : Cases) → cases_of (bs ++ a ∷ []) others ≡ cases_of bs (let x = out-TCase a in OfLabels x.labels.items (seen_stats x.body.items) others)
-cases_more [] a others = refl
-cases_more (b ∷ bs) a others = let x = out-TCase b in ap (λ z. OfLabels x.labels.items (seen_stats x.body.items) z) (cases_more bs a others)
-
 -- what stands behind a call is refused behind what the call breaks, and the call stays
 pub ended_noted : (met : Option Breach) (first : Pos) (xs : List Selector) (j : Judged (Option Stat)) →
     first_after (first_after met j.breaches) (ended first xs (kept None)).breaches ≡ first_after met (ended first xs j).breaches
@@ -230,15 +219,11 @@ module _ (e : Env) (in_loop : Bool) where
       ∙ sym (arm_noted met (condition e x.condition).breaches (parts.listed_in e in_loop x.body.stats).breaches more)
       ∙ sym (ap (λ j. first_after met j.breaches) (arms_step e in_loop xs last i d lt))
 
-  pub arms_put : (xs : List Elsif) (i : ℕ) (d : Elsif) → i < length xs → (last : Judged Arms) (as' : List TArm) (a : TArm) →
-      seen_expr (out-TArm a).test ≡ (condition e (get_or xs i d).condition).answer → map seen_stat (out-TArm a).body.items ≡ (parts.listed_in e in_loop (get_or xs i d).body.stats).answer →
-      onto (as' ++ a ∷ []) (parts.arms_in e in_loop (drop (i + 1) xs) last).answer ≡ onto as' (parts.arms_in e in_loop (drop i xs) last).answer
-  arms_put xs i d lt last as' a test body =
-      let more = (parts.arms_in e in_loop (drop (i + 1) xs) last).answer in
-      onto_more as' a more
-      ∙ ap (λ t. onto as' (Arm t (seen_stats (out-TArm a).body.items) more)) test
-      ∙ ap (λ ss. onto as' (Arm (condition e (get_or xs i d).condition).answer ss more)) (stats_seen (out-TArm a).body.items ∙ ap listed body)
-      ∙ sym (ap (λ j. onto as' j.answer) (arms_step e in_loop xs last i d lt))
+  pub arms_put : (xs : List Elsif) (i : ℕ) (d : Elsif) → i < length xs → (last : Judged Arms) (as' more : List TArm) →
+      ((others : Arms) → onto more others ≡ onto as' (Arm (condition e (get_or xs i d).condition).answer (listed (parts.listed_in e in_loop (get_or xs i d).body.stats).answer) others)) →
+      onto more (parts.arms_in e in_loop (drop (i + 1) xs) last).answer ≡ onto as' (parts.arms_in e in_loop (drop i xs) last).answer
+  arms_put xs i d lt last as' more put =
+      put (parts.arms_in e in_loop (drop (i + 1) xs) last).answer ∙ sym (ap (λ j. onto as' j.answer) (arms_step e in_loop xs last i d lt))
 
   pub if_noted : (x : TreeStat) (p : Pos) (c : TreeExpr) (body : StatSeq) (xs : List Elsif) (o : Option StatSeq) → x ≡ stat.If p c body xs o →
       (met one two three : Option Breach) → one ≡ first_after met (parts.tested e in_loop c body.stats).breaches →
@@ -255,19 +240,15 @@ module _ (e : Env) (in_loop : Bool) where
       ∙ sym (ap (λ j. first_after met j.breaches) (stat_if e in_loop x p c body xs o is))
 
   pub if_answer : (x : TreeStat) (p : Pos) (c : TreeExpr) (body : StatSeq) (xs : List Elsif) (o : Option StatSeq) → x ≡ stat.If p c body xs o →
-      (first : TArm) (all : Vec TArm Global) (last : Vec TStat Global) → seen_expr (out-TArm first).test ≡ (condition e c).answer →
-      map seen_stat (out-TArm first).body.items ≡ (parts.listed_in e in_loop body.stats).answer →
-      ((l : Judged Arms) → onto all.items l.answer ≡ onto (first ∷ []) (parts.arms_in e in_loop xs l).answer) →
-      map seen_stat last.items ≡ (parts.behind_else e in_loop o).answer → Some (seen_stat (view.If p all last)) ≡ (stat_of e in_loop x).answer
-  if_answer x p c body xs o is first all last test ss more behind =
+      (s : TStat) (all : List TArm) (last : List TStat) → seen_stat s ≡ If p (arms_of all (seen_stats last)) →
+      ((l : Judged Arms) → onto all l.answer ≡ Arm (condition e c).answer (listed (parts.listed_in e in_loop body.stats).answer) (parts.arms_in e in_loop xs l).answer) →
+      map seen_stat last ≡ (parts.behind_else e in_loop o).answer → Some (seen_stat s) ≡ (stat_of e in_loop x).answer
+  if_answer x p c body xs o is s all last made more behind =
       let l = parts.last_arm e in_loop o in
-      let arms = (parts.arms_in e in_loop xs l).answer in
-      ap (λ s. Some s) (if_seen p all last
-      ∙ ap (λ z. If p z) (onto_all all.items (seen_stats last.items)
-      ∙ ap (λ z. onto all.items (Otherwise z)) (stats_seen last.items ∙ ap listed behind)
-      ∙ more l
-      ∙ ap (λ t. Arm t (seen_stats (out-TArm first).body.items) arms) test
-      ∙ ap (λ z. Arm (condition e c).answer z arms) (stats_seen (out-TArm first).body.items ∙ ap listed ss)))
+      ap (λ s. Some s) (made
+      ∙ ap (λ z. If p z) (onto_all all (seen_stats last)
+      ∙ ap (λ z. onto all (Otherwise z)) (stats_seen last ∙ ap listed behind)
+      ∙ more l))
       ∙ sym (ap (λ j. j.answer) (stat_if e in_loop x p c body xs o is))
 
   -- a label more, and the statements behind it
@@ -285,16 +266,17 @@ module _ (e : Env) (in_loop : Bool) where
       ∙ sym (ap (λ j. first_after met j.breaches) (cases_step e in_loop of ls xs last i d lt labels body is))
 
   pub cases_put : (of : Option TypeId) (ls : Labels) (xs : List Case) (i : ℕ) (d : Case) → i < length xs → (labels : List Label) (body : StatSeq) → get_or xs i d ≡ case.Arm labels body →
-      (last : Judged Cases) (all : Labels) → all ≡ (walk (label_in e of) ls labels).answer → (as' : List TCase) (a : TCase) →
-      (out-TCase a).labels.items ≡ drop (length ls) (walk (label_in e of) ls labels).answer → map seen_stat (out-TCase a).body.items ≡ (parts.listed_in e in_loop body.stats).answer →
-      cases_of (as' ++ a ∷ []) (parts.cases_of e in_loop of all (drop (i + 1) xs) last).answer ≡ cases_of as' (parts.cases_of e in_loop of ls (drop i xs) last).answer
-  cases_put of ls xs i d lt labels body is last all here as' a own ss =
+      (last : Judged Cases) (all : Labels) → all ≡ (walk (label_in e of) ls labels).answer → (as' done : List TCase) (own : List LabelRange) (ss : List TStat) →
+      ((others : Cases) → cases_of done others ≡ cases_of as' (OfLabels own (seen_stats ss) others)) →
+      own ≡ drop (length ls) (walk (label_in e of) ls labels).answer → map seen_stat ss ≡ (parts.listed_in e in_loop body.stats).answer →
+      cases_of done (parts.cases_of e in_loop of all (drop (i + 1) xs) last).answer ≡ cases_of as' (parts.cases_of e in_loop of ls (drop i xs) last).answer
+  cases_put of ls xs i d lt labels body is last all here as' done own ss put own_is ss_is =
       let w = walk (label_in e of) ls labels in
       let more = (parts.cases_of e in_loop of w.answer (drop (i + 1) xs) last).answer in
-      ap (λ z. cases_of (as' ++ a ∷ []) (parts.cases_of e in_loop of z (drop (i + 1) xs) last).answer) here
-      ∙ cases_more as' a more
-      ∙ ap (λ l. cases_of as' (OfLabels l (seen_stats (out-TCase a).body.items) more)) own
-      ∙ ap (λ z. cases_of as' (OfLabels (drop (length ls) w.answer) z more)) (stats_seen (out-TCase a).body.items ∙ ap listed ss)
+      ap (λ z. cases_of done (parts.cases_of e in_loop of z (drop (i + 1) xs) last).answer) here
+      ∙ put more
+      ∙ ap (λ l. cases_of as' (OfLabels l (seen_stats ss) more)) own_is
+      ∙ ap (λ z. cases_of as' (OfLabels (drop (length ls) w.answer) z more)) (stats_seen ss ∙ ap listed ss_is)
       ∙ sym (ap (λ j. cases_of as' j.answer) (cases_step e in_loop of ls xs last i d lt labels body is))
 
   pub case_noted : (x : TreeStat) (p : Pos) (c : TreeExpr) (xs : List Case) (o : Option StatSeq) → x ≡ stat.Case p c xs o →
@@ -314,14 +296,15 @@ module _ (e : Env) (in_loop : Bool) where
       ∙ sym (ap (λ j. first_after met j.breaches) (stat_case e in_loop x p c xs o is))
 
   pub case_answer : (x : TreeStat) (p : Pos) (c : TreeExpr) (xs : List Case) (o : Option StatSeq) → x ≡ stat.Case p c xs o →
-      (of : Option TypeId) → of ≡ (selector e c).answer.known.of → (v : TExpr) (all : Vec TCase Global) (last : TElse) → seen_expr v ≡ (selector e c).answer.typed →
-      ((l : Judged Cases) → cases_of all.items l.answer ≡ (parts.cases_of e in_loop of [] xs l).answer) →
-      seen_else last ≡ (parts.else_of_case e in_loop o).answer → Some (seen_stat (view.Case p v all last)) ≡ (stat_of e in_loop x).answer
-  case_answer x p c xs o is of of_is v all last value more behind =
+      (of : Option TypeId) → of ≡ (selector e c).answer.known.of → (s : TStat) (v : TExpr) (all : List TCase) (last : TElse) →
+      seen_stat s ≡ CaseOf p (seen_expr v) (cases_of all (seen_else last)) → seen_expr v ≡ (selector e c).answer.typed →
+      ((l : Judged Cases) → cases_of all l.answer ≡ (parts.cases_of e in_loop of [] xs l).answer) →
+      seen_else last ≡ (parts.else_of_case e in_loop o).answer → Some (seen_stat s) ≡ (stat_of e in_loop x).answer
+  case_answer x p c xs o is of of_is s v all last made value more behind =
       let l = parts.else_of_case e in_loop o in
-      ap (λ s. Some s) (case_seen p v all last
-      ∙ ap (λ z. CaseOf p z (cases_of all.items (seen_else last))) value
-      ∙ ap (λ z. CaseOf p (selector e c).answer.typed z) (ap (λ z. cases_of all.items z) behind
+      ap (λ s. Some s) (made
+      ∙ ap (λ z. CaseOf p z (cases_of all (seen_else last))) value
+      ∙ ap (λ z. CaseOf p (selector e c).answer.typed z) (ap (λ z. cases_of all z) behind
       ∙ more l
       ∙ ap (λ t. (parts.cases_of e in_loop t [] xs l).answer) of_is))
       ∙ sym (ap (λ j. j.answer) (stat_case e in_loop x p c xs o is))

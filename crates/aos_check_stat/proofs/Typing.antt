@@ -49,17 +49,17 @@ use Rattle.aos_symbols.proofs.Each.{Each}
 use Rattle.aos_symbols.proofs.Holds.{Holds, holds_bind, holds_walk, none_left, none_right, test_is, broken}
 use Rattle.aos_operators.specs.declared.known.Class.{Class}
 use Rattle.aos_operators.specs.declared.known.Class.TheVariants.{Unknown, Constant, Variable, ReadOnly, Computed, Procedure as ClassOf}
-use Rattle.aos_operators.specs.Known.{Answer, Spot, passes, is as is_the, object_number, type_as, is_long_text, is_number, is_char, width_of}
-use Rattle.aos_operators.proofs.Inside.{Inside, IsPlaceOf, IsOf, AreArguments, IsCalled, IsInitialized, IsCall, IsStatement, AreStatements, AreArms, AreCases}
-use Rattle.aos_operators.proofs.Sound.{sound_number}
 use Rattle.aos_check_expr.specs.declared.signatures.Heading.{Heading}
 use Rattle.aos_check_expr.specs.declared.signatures.Heading.TheVariants as heading
 use Rattle.aos_check_expr.specs.declared.designators.Head.{Head}
+use Rattle.aos_operators.specs.Known.{Answer, Spot, passes, is as is_the, object_number, type_as, is_long_text, is_number, is_char, width_of}
 use Rattle.aos_check_expr.specs.Designators as desig
 use Rattle.aos_check_expr.specs.Designators.{has_parts, is_opened, is_pointer_type, is_object_type, assigned, place_of, place_in}
 use Rattle.aos_check_expr.specs.Arguments.{Handing, arguments_for, listed as listed_arguments}
 use Rattle.aos_check_expr.specs.Expressions as judge_expr
 use Rattle.aos_check_expr.specs.Expressions.{is_opening, signature_of, text_rows, known_type, expr, condition, argument, designator, desig_alone}
+use Rattle.aos_operators.proofs.Inside.{Inside, IsPlaceOf, IsOf, AreArguments, IsCalled, IsInitialized, IsCall, IsStatement, AreStatements, AreArms, AreCases}
+use Rattle.aos_operators.proofs.Sound.{sound_number}
 use Rattle.aos_check_expr.proofs.Passed.{scalar_fits}
 use Rattle.aos_check_expr.proofs.Tested.{known_some}
 use Rattle.aos_check_expr.proofs.Spots.{AreParameters, IsResultOf, IsSigned, IsSpot, Part, IsProcedure, MayFind, plain_head, behind_head, behind_of_module, named_spot, spotted, refused_part}

@@ -50,10 +50,10 @@ use Rattle.aos_types.specs.declared.row.TypeId.{TypeId}
 use Rattle.aos_typed.specs.Open.{open_dimensions}
 use Rattle.aos_operators.specs.declared.known.Class.{Class}
 use Rattle.aos_operators.specs.declared.known.Class.TheVariants.{Unknown, Constant, Variable, ReadOnly, Computed, Procedure}
-use Rattle.aos_operators.specs.Known.{Answer, Spot, Held, Stands, Value, passes, is_number, is_char, is_set, fits, width_of, type_of, type_of_literal}
-use Rattle.aos_operators.specs.Operations.{number}
 use Rattle.aos_check_expr.specs.declared.signatures.Heading.{Heading}
 use Rattle.aos_check_expr.specs.declared.signatures.Heading.TheVariants as heading
+use Rattle.aos_operators.specs.Known.{Answer, Spot, Held, Stands, Value, passes, is_number, is_char, is_set, fits, width_of, type_of, type_of_literal}
+use Rattle.aos_operators.specs.Operations.{number}
 use Rattle.aos_check_expr.specs.declared.designators.Head.{Head}
 use Rattle.aos_check_expr.specs.Designators as desig
 use Rattle.aos_check_expr.specs.Designators.{has_parts, assigned, written, place_of, place_in}

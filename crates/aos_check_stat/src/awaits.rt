@@ -7,9 +7,9 @@ ghost use Rattle.aos_check_stat.specs.Bodies as judge;
 
 use aos_base::Pos;
 use aos_check_expr::condition;
+use aos_made_stat::MadeStat;
 use aos_symbols::{AWAIT_OUTSIDE, Breach, Env, note};
 use aos_tree::Expr;
-use aos_typed::TStat;
 use std::alloc::{AllocError, Global};
 
 /// Goes into a block that is exclusive or not, and gives whether an exclusive one stands round it.
@@ -37,7 +37,7 @@ pub fn await_of(
     env: &mut Env<'_>,
     at: Pos,
     test: &Expr,
-) -> Result<Option<TStat>, AllocError>
+) -> Result<Option<MadeStat>, AllocError>
     ensures env { OnOk result (env.new ≡ env.old) }
     ensures noted { OnOk result (found.new ≡
         first_after found.old (judge.await_of env.old at test.now).breaches) }
@@ -51,5 +51,6 @@ pub fn await_of(
     if !env.is_exclusive {
         note(found, AWAIT_OUTSIDE, at);
     }
-    Ok(Some(TStat::Await(at, 0, test.take())))
+    let one = MadeStat::await_of(alloc, at, 0, test)?;
+    Ok(Some(one))
 }

@@ -13,7 +13,6 @@ use aos_typed::TStat;
 use std::alloc::{AllocError, Global};
 
 /// The statements of a body, which may be active or not. A body that is END alone has none.
-#[tactic(auto, using(aos_symbols::proofs::Keeping::after_more, crate::proofs::Rows::stats_seen))]
 pub fn body_of(
     alloc: Global,
     found: &mut Option<Breach>,
@@ -40,7 +39,7 @@ pub fn body_of(
             env.is_exclusive = exclusive;
             let stats = stats_in(alloc, found, env, false, block.body.stats.as_slice())?;
             env.is_exclusive = around;
-            Ok(stats)
+            Ok(stats.take())
         },
     }
 }

@@ -15,9 +15,9 @@ use crate::routines::{assert_call, change_call, halt_call};
 use crate::texts::copy_call;
 use aos_base::Pos;
 use aos_check_expr::{is_of_module, plain};
+use aos_made_stat::MadeStat;
 use aos_symbols::{Breach, Env, Lookup, Meaning, NOT_EXPORTED, Routine, Symbol, UNKNOWN};
 use aos_tree::{Desig, Expr, Selector};
-use aos_typed::TStat;
 use std::alloc::{AllocError, Global};
 
 /// A predeclared procedure with these arguments, in a call that begins at a place.
@@ -28,7 +28,7 @@ fn routine_call(
     routine: Routine,
     at: Pos,
     arguments: &[Expr],
-) -> Result<Option<TStat>, AllocError>
+) -> Result<Option<MadeStat>, AllocError>
     ensures noted { OnOk result (found.new ≡
         first_after found.old (judge.routine_call env.now routine at arguments.now).breaches) }
     ensures answer { IfOk result (λ s.
@@ -55,7 +55,7 @@ fn routine_selectors(
     routine: Routine,
     at: Pos,
     selectors: &[Selector],
-) -> Result<Option<TStat>, AllocError>
+) -> Result<Option<MadeStat>, AllocError>
     ensures noted { OnOk result (found.new ≡ first_after found.old
         (judge.ended at (judge.behind_arguments selectors.now)
         (judge.routine_call env.now routine at (judge.arguments selectors.now))).breaches) }
@@ -75,7 +75,7 @@ fn called_meaning(
     env: &Env<'_>,
     symbol: Symbol,
     desig: &Desig,
-) -> Result<Option<TStat>, AllocError>
+) -> Result<Option<MadeStat>, AllocError>
     ensures noted { OnOk result (found.new ≡
         first_after found.old (judge.called_meaning env.now symbol symbol.means desig.now).breaches) }
     ensures answer { IfOk result (λ s. option_map seen_stat s ≡
@@ -106,7 +106,7 @@ pub fn called(
     found: &mut Option<Breach>,
     env: &Env<'_>,
     desig: &Desig,
-) -> Result<Option<TStat>, AllocError>
+) -> Result<Option<MadeStat>, AllocError>
     ensures noted { OnOk result (found.new ≡
         first_after found.old
         (judge.called env.now (scopes.lookup env.now desig.now.name) desig.now).breaches) }

@@ -4,6 +4,7 @@ ghost use Rattle.std.specs.Prelude.{◌≡◌, OnOk, IfOk};
 ghost use Rattle.aos_typed.specs.Seen.{seen_expr, seen_place};
 ghost use Rattle.aos_symbols.specs.Breaches.{first_after};
 ghost use Rattle.aos_check_stat.specs.Bodies as judge;
+ghost use Rattle.aos_check_stat.specs.Listed as listed;
 
 use crate::refusals::is_variable;
 use aos_base::Pos;
@@ -11,12 +12,22 @@ use aos_check_expr::{access, expr, place_of_variable, refuse_written};
 use aos_made::{MadePlace, Typed};
 use aos_operators::{Class, fits, is_number, type_of_literal};
 use aos_symbols::{
-    Breach, Env, Lookup, Meaning, NOT_BUILT, NOT_EXPORTED, Symbol, UNKNOWN, WRONG_FOR, note,
+    Breach, Env, Lookup, Meaning, NOT_BUILT, NOT_EXPORTED, Symbol, UNFIT, UNKNOWN, WRONG_FOR, note,
 };
 use aos_tree::{Expr, Name};
 use aos_typed::Literal;
 use aos_types::TypeId;
 use std::alloc::{AllocError, Global};
+
+/// FOR without its statements: its variable with its type, its first and last values, and its step.
+#[derive(Drop)]
+pub struct Counted {
+    pub variable: MadePlace,
+    pub of: Option<TypeId>,
+    pub first: Typed,
+    pub last: Typed,
+    pub step: i64,
+}
 
 /// What breaks a rule is no variable.
 fn lost(
@@ -80,7 +91,7 @@ fn control_meant(
 }
 
 /// The variable of FOR, by its name, with its type: an integer variable.
-pub fn control(
+fn control(
     alloc: Global,
     found: &mut Option<Breach>,
     env: &Env<'_>,
@@ -100,7 +111,7 @@ pub fn control(
 
 /// A value that must fit a variable of a type, or else it breaks a rule at a place.
 #[tactic(auto, using(aos_symbols::proofs::Keeping::after_more))]
-pub fn fitting(
+fn fitting(
     alloc: Global,
     found: &mut Option<Breach>,
     env: &Env<'_>,
@@ -146,7 +157,7 @@ fn step_in(class: Class) -> i64
 
 /// The step of a variable of a type, refused at a place; 1 where none is written.
 #[tactic(auto, using(aos_symbols::proofs::Keeping::after_more))]
-pub fn step_of(
+fn step_of(
     alloc: Global,
     found: &mut Option<Breach>,
     env: &Env<'_>,
@@ -168,4 +179,35 @@ pub fn step_of(
             Ok(step_in(class))
         },
     }
+}
+
+/// What stands before DO in a FOR: the name of its variable, its first and last values, and its step, if one is written; `:=` stands
+/// at a place.
+#[tactic(auto, using(aos_symbols::proofs::Keeping::after_more))]
+pub fn counting(
+    alloc: Global,
+    found: &mut Option<Breach>,
+    env: &Env<'_>,
+    name: Name,
+    assigned: Pos,
+    from: &Expr,
+    to: &Expr,
+    by: &Option<Expr>,
+) -> Result<Counted, AllocError>
+    ensures noted { OnOk result (found.new ≡ first_after found.old
+        (listed.counting env.now name assigned from.now to.now by.now).breaches) }
+    ensures answer { IfOk result (λ r. listed.seen_counted r ≡
+        (listed.counting env.now name assigned from.now to.now by.now).answer) }
+{
+    let (variable, of) = control(alloc, found, env, name)?;
+    let first = fitting(alloc, found, env, of, UNFIT, assigned, from)?;
+    let last = fitting(alloc, found, env, of, WRONG_FOR, name.pos, to)?;
+    let step = step_of(alloc, found, env, name.pos, of, by)?;
+    Ok(Counted {
+        variable,
+        of,
+        first,
+        last,
+        step,
+    })
 }

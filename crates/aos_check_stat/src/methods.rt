@@ -11,14 +11,14 @@ use crate::procedures::perform;
 use crate::refusals::refused;
 use aos_base::Pos;
 use aos_check_expr::{Bound, Part, bound_part, bracketed, follow_selectors, plain, spot_of_part};
+use aos_made_stat::MadeStat;
 use aos_operators::Class;
 use aos_symbols::{Breach, Env, WRONG_CALL};
 use aos_tree::{Desig, Expr, Selector};
-use aos_typed::TStat;
 use std::alloc::{AllocError, Global};
 
 /// A call of what can't be called, which begins at a place.
-fn no_call(found: &mut Option<Breach>, at: Pos, class: Class) -> Option<TStat>
+fn no_call(found: &mut Option<Breach>, at: Pos, class: Class) -> Option<MadeStat>
     ensures noted { found.new ≡ first_after found.old (judge.no_call at class).breaches }
     ensures answer { option_map seen_stat result ≡ (judge.no_call at class).answer }
 {
@@ -40,7 +40,7 @@ fn called_spot(
     env: &Env<'_>,
     first: Pos,
     part: Part,
-) -> Result<Option<TStat>, AllocError>
+) -> Result<Option<MadeStat>, AllocError>
     ensures noted { OnOk result (found.new ≡ first_after found.old
         (judge.called_spot env.now first (kept (seen_part part))).breaches) }
     ensures answer { IfOk result (λ s. option_map seen_stat s ≡
@@ -58,7 +58,7 @@ fn perform_bound(
     first: Pos,
     bound: Bound,
     arguments: &[Expr],
-) -> Result<Option<TStat>, AllocError>
+) -> Result<Option<MadeStat>, AllocError>
     ensures noted { OnOk result (found.new ≡ first_after found.old
         (judge.perform_bound env.now first (seen_bound bound) arguments.now).breaches) }
     ensures answer { IfOk result (λ s. option_map seen_stat s ≡
@@ -75,7 +75,7 @@ fn called_alone(
     env: &Env<'_>,
     first: Pos,
     part: Part,
-) -> Result<Option<TStat>, AllocError>
+) -> Result<Option<MadeStat>, AllocError>
     ensures noted { OnOk result (found.new ≡ first_after found.old
         (judge.called_alone env.now first (seen_part part)).breaches) }
     ensures answer { IfOk result (λ s. option_map seen_stat s ≡
@@ -98,7 +98,7 @@ fn bracketed_spot(
     part: Part,
     at: Pos,
     arguments: &[Expr],
-) -> Result<Option<TStat>, AllocError>
+) -> Result<Option<MadeStat>, AllocError>
     ensures noted { OnOk result (found.new ≡ first_after found.old
         (judge.bracketed_spot env.now first (seen_part part) at arguments.now).breaches) }
     ensures answer { IfOk result (λ s. option_map seen_stat s ≡
@@ -117,7 +117,7 @@ fn called_with(
     part: Part,
     at: Pos,
     arguments: &[Expr],
-) -> Result<Option<TStat>, AllocError>
+) -> Result<Option<MadeStat>, AllocError>
     ensures noted { OnOk result (found.new ≡ first_after found.old
         (judge.called_with env.now first (seen_part part) at arguments.now).breaches) }
     ensures answer { IfOk result (λ s. option_map seen_stat s ≡
@@ -141,7 +141,7 @@ fn called_whole(
     found: &mut Option<Breach>,
     env: &Env<'_>,
     desig: &Desig,
-) -> Result<Option<TStat>, AllocError>
+) -> Result<Option<MadeStat>, AllocError>
     ensures noted { OnOk result (found.new ≡ first_after found.old
         (judge.called_whole env.now desig.now).breaches) }
     ensures answer { IfOk result (λ s. option_map seen_stat s ≡
@@ -170,7 +170,7 @@ fn called_before(
     desig: &Desig,
     at: Pos,
     arguments: &[Expr],
-) -> Result<Option<TStat>, AllocError>
+) -> Result<Option<MadeStat>, AllocError>
     ensures noted { OnOk result (found.new ≡ first_after found.old
         (judge.called_before env.now desig.now at arguments.now).breaches) }
     ensures answer { IfOk result (λ s. option_map seen_stat s ≡
@@ -190,7 +190,7 @@ pub fn called_value(
     found: &mut Option<Breach>,
     env: &Env<'_>,
     desig: &Desig,
-) -> Result<Option<TStat>, AllocError>
+) -> Result<Option<MadeStat>, AllocError>
     ensures noted { OnOk result (found.new ≡
         first_after found.old (judge.called_value env.now desig.now).breaches) }
     ensures answer { IfOk result (λ s.

@@ -15,10 +15,11 @@ use aos_check_expr::{
     place_of, target_of,
 };
 use aos_made::MadeArguments;
+use aos_made_stat::{MadeExprs, MadeStat};
 use aos_operators::{Class, Spot, is_number};
 use aos_symbols::{ARGUMENT_COUNT, Breach, Env, Method, NOT_BUILT, READ_ONLY, WRONG_NEW, note};
 use aos_tree::{Desig, Expr};
-use aos_typed::{TExpr, TStat, open_array};
+use aos_typed::open_array;
 use aos_types::{Signature, TypeId};
 use std::alloc::{AllocError, Global};
 
@@ -95,19 +96,19 @@ fn put_length(
     env: &Env<'_>,
     at: Pos,
     of: Option<TypeId>,
-    lengths: &mut Vec<TExpr>,
+    lengths: &mut MadeExprs,
     part: &Expr,
 ) -> Result<(), AllocError>
     ensures noted { OnOk result (found.new ≡ first_after found.old
-        (judge.with_length env.now at of (map seen_expr lengths.old.items) part.now).breaches) }
-    ensures answer { OnOk result (map seen_expr lengths.new.items ≡
-        (judge.with_length env.now at of (map seen_expr lengths.old.items) part.now).answer) }
+        (judge.with_length env.now at of (map seen_expr lengths.old) part.now).breaches) }
+    ensures answer { OnOk result (map seen_expr lengths.new ≡
+        (judge.with_length env.now at of (map seen_expr lengths.old) part.now).answer) }
 {
     let value = expr(alloc, found, env, part)?;
     if !may_be_length(of, value.known.of) {
         note(found, WRONG_NEW, at);
     }
-    lengths.push(value.typed.take())?;
+    lengths.push(value.typed)?;
     Ok(())
 }
 
@@ -120,13 +121,13 @@ fn lengths_of(
     at: Pos,
     of: Option<TypeId>,
     parts: &[Expr],
-) -> Result<Vec<TExpr>, AllocError>
+) -> Result<MadeExprs, AllocError>
     ensures noted { OnOk result (found.new ≡ first_after found.old
         (walk (judge.with_length env.now at of) [] parts.now).breaches) }
-    ensures answer { IfOk result (λ ns. map seen_expr ns.items ≡
+    ensures answer { IfOk result (λ ns. map seen_expr ns ≡
         (walk (judge.with_length env.now at of) [] parts.now).answer) }
 {
-    let mut lengths = Vec::new(alloc);
+    let mut lengths = MadeExprs::new(alloc);
     for part in parts {
         put_length(alloc, found, env, at, of, &mut lengths, part)?;
     }
@@ -151,7 +152,7 @@ fn new_lengths(
     at: Pos,
     spot: Spot,
     lengths: &[Expr],
-) -> Result<Option<TStat>, AllocError>
+) -> Result<Option<MadeStat>, AllocError>
     ensures noted { OnOk result (found.new ≡ first_after found.old
         (judge.new_lengths env.now at (seen_spot spot) lengths.now).breaches) }
     ensures answer { IfOk result (λ s. option_map seen_stat s ≡
@@ -161,7 +162,8 @@ fn new_lengths(
     refuse_count(found, env, at, of, lengths.len());
     let made = made_type(env, of)?;
     let lengths = lengths_of(alloc, found, env, at, of, lengths)?;
-    Ok(Some(TStat::Make(at, place_of(spot.held), made, lengths)))
+    let one = MadeStat::make(alloc, at, place_of(spot.held), made, lengths)?;
+    Ok(Some(one))
 }
 
 /// What an initializer with this signature is handed, in NEW at a place.
@@ -249,7 +251,7 @@ fn new_object(
     at: Pos,
     spot: Spot,
     arguments: &[Expr],
-) -> Result<Option<TStat>, AllocError>
+) -> Result<Option<MadeStat>, AllocError>
     ensures noted { OnOk result (found.new ≡ first_after found.old
         (judge.new_object env.now at (seen_spot spot) arguments.now).breaches) }
     ensures answer { IfOk result (λ s. option_map seen_stat s ≡
@@ -259,7 +261,8 @@ fn new_object(
     let initializer = initializer_of(env, of)?;
     let made = made_type(env, of)?;
     let given = initialized(alloc, found, env, at, initializer, arguments)?;
-    Ok(Some(TStat::New(at, place_of(spot.held), made, given.take())))
+    let one = MadeStat::object(alloc, at, place_of(spot.held), made, given)?;
+    Ok(Some(one))
 }
 
 /// NEW of a designator that begins at `first`, with these arguments, in a call that begins at a place.
@@ -272,7 +275,7 @@ fn new_with(
     first: Pos,
     spot: Spot,
     arguments: &[Expr],
-) -> Result<Option<TStat>, AllocError>
+) -> Result<Option<MadeStat>, AllocError>
     ensures noted { OnOk result (found.new ≡ first_after found.old
         (judge.new_with env.now at first (seen_spot spot) arguments.now).breaches) }
     ensures answer { IfOk result (λ s. option_map seen_stat s ≡
@@ -296,7 +299,7 @@ fn new_of(
     first: Pos,
     variable: Option<&Desig>,
     arguments: &[Expr],
-) -> Result<Option<TStat>, AllocError>
+) -> Result<Option<MadeStat>, AllocError>
     ensures noted { OnOk result (found.new ≡ first_after found.old
         (judge.new_of env.now at first (option_copied variable.entry) arguments.now).breaches) }
     ensures answer { IfOk result (λ s. option_map seen_stat s ≡
@@ -316,7 +319,7 @@ pub fn new_call(
     env: &Env<'_>,
     at: Pos,
     arguments: &[Expr],
-) -> Result<Option<TStat>, AllocError>
+) -> Result<Option<MadeStat>, AllocError>
     ensures noted { OnOk result (found.new ≡
         first_after found.old (judge.new_call env.now at arguments.now).breaches) }
     ensures answer { IfOk result

@@ -1,7 +1,8 @@
 // Calls of the procedures of module Out.
 
 ghost use Rattle.std.specs.Prelude.{◌≡◌, OnOk, IfOk, option_map};
-ghost use Rattle.aos_typed.specs.Seen.{seen_call, seen_stat};
+ghost use Rattle.aos_typed.specs.Program.{Ln, Open};
+ghost use Rattle.aos_typed.specs.Seen.{seen_stat};
 ghost use Rattle.aos_symbols.specs.Breaches.{first_after};
 ghost use Rattle.aos_check_stat.specs.Bodies as judge;
 
@@ -9,9 +10,9 @@ use crate::refusals::{arguments, behind_arguments, refuse_behind, refused};
 use crate::texts::text_argument;
 use aos_base::Pos;
 use aos_check_expr::{char_argument, number_argument, text_rows};
+use aos_made_stat::MadeStat;
 use aos_symbols::{ARGUMENT_COUNT, Breach, Env, OTHER_KIND, UNKNOWN, is_word};
 use aos_tree::{Expr, Name, Selector};
-use aos_typed::{OutCall, TStat};
 use std::alloc::{AllocError, Global};
 
 /// Out.Int of these arguments, in a call that begins at a place.
@@ -22,7 +23,7 @@ fn int_call(
     env: &Env<'_>,
     at: Pos,
     arguments: &[Expr],
-) -> Result<Option<TStat>, AllocError>
+) -> Result<Option<MadeStat>, AllocError>
     ensures noted { OnOk result (found.new ≡
         first_after found.old (judge.int_call env.now at arguments.now).breaches) }
     ensures answer { IfOk result
@@ -32,7 +33,8 @@ fn int_call(
         [number, width] => {
             let number = number_argument(alloc, found, env, number)?;
             let width = number_argument(alloc, found, env, width)?;
-            Ok(Some(TStat::Out(at, OutCall::Int(number.take(), width.take()))))
+            let one = MadeStat::out_number(alloc, at, number, width)?;
+            Ok(Some(one))
         },
         _ => Ok(refused(found, ARGUMENT_COUNT, at)),
     }
@@ -46,7 +48,7 @@ fn char_call(
     env: &Env<'_>,
     at: Pos,
     arguments: &[Expr],
-) -> Result<Option<TStat>, AllocError>
+) -> Result<Option<MadeStat>, AllocError>
     ensures noted { OnOk result (found.new ≡
         first_after found.old (judge.char_call env.now at arguments.now).breaches) }
     ensures answer { IfOk result
@@ -55,7 +57,8 @@ fn char_call(
     match arguments {
         [character] => {
             let character = char_argument(alloc, found, env, character)?;
-            Ok(Some(TStat::Out(at, OutCall::Char(character.take()))))
+            let one = MadeStat::out_char(alloc, at, character)?;
+            Ok(Some(one))
         },
         _ => Ok(refused(found, ARGUMENT_COUNT, at)),
     }
@@ -69,7 +72,7 @@ fn string_call(
     env: &Env<'_>,
     at: Pos,
     arguments: &[Expr],
-) -> Result<Option<TStat>, AllocError>
+) -> Result<Option<MadeStat>, AllocError>
     ensures noted { OnOk result (found.new ≡
         first_after found.old (judge.string_call env.now at arguments.now).breaches) }
     ensures answer { IfOk result
@@ -79,27 +82,46 @@ fn string_call(
         [text] => {
             let text = text_argument(alloc, found, env, text)?;
             let rows = text_rows(alloc, env, text)?;
-            Ok(Some(TStat::Out(at, OutCall::String(rows.take()))))
+            let one = MadeStat::out_text(alloc, at, rows)?;
+            Ok(Some(one))
         },
         _ => Ok(refused(found, ARGUMENT_COUNT, at)),
     }
 }
 
-/// A procedure of Out that has no arguments, in a call that begins at a place.
-fn plain_call(
+/// Out.Ln of these arguments, in a call that begins at a place.
+fn line_call(
+    alloc: Global,
     found: &mut Option<Breach>,
-    call: OutCall,
     at: Pos,
     arguments: &[Expr],
-) -> Option<TStat>
-    ensures noted { found.new ≡
-        first_after found.old (judge.plain_call (seen_call call) at arguments.now).breaches }
-    ensures answer { option_map seen_stat result ≡
-        (judge.plain_call (seen_call call) at arguments.now).answer }
+) -> Result<Option<MadeStat>, AllocError>
+    ensures noted { OnOk result (found.new ≡
+        first_after found.old (judge.plain_call Ln at arguments.now).breaches) }
+    ensures answer { IfOk result
+        (λ s. option_map seen_stat s ≡ (judge.plain_call Ln at arguments.now).answer) }
 {
     match arguments {
-        [] => Some(TStat::Out(at, call)),
-        _ => refused(found, ARGUMENT_COUNT, at),
+        [] => Ok(Some(MadeStat::out_line(alloc, at)?)),
+        _ => Ok(refused(found, ARGUMENT_COUNT, at)),
+    }
+}
+
+/// Out.Open of these arguments, in a call that begins at a place.
+fn open_call(
+    alloc: Global,
+    found: &mut Option<Breach>,
+    at: Pos,
+    arguments: &[Expr],
+) -> Result<Option<MadeStat>, AllocError>
+    ensures noted { OnOk result (found.new ≡
+        first_after found.old (judge.plain_call Open at arguments.now).breaches) }
+    ensures answer { IfOk result
+        (λ s. option_map seen_stat s ≡ (judge.plain_call Open at arguments.now).answer) }
+{
+    match arguments {
+        [] => Ok(Some(MadeStat::out_open(alloc, at)?)),
+        _ => Ok(refused(found, ARGUMENT_COUNT, at)),
     }
 }
 
@@ -111,7 +133,7 @@ fn out_call(
     at: Pos,
     name: Name,
     arguments: &[Expr],
-) -> Result<Option<TStat>, AllocError>
+) -> Result<Option<MadeStat>, AllocError>
     ensures noted { OnOk result (found.new ≡
         first_after found.old (judge.out_call env.now at name arguments.now).breaches) }
     ensures answer { IfOk result
@@ -128,10 +150,10 @@ fn out_call(
         return string_call(alloc, found, env, at, arguments);
     }
     if is_word(text, "Ln", name) {
-        return Ok(plain_call(found, OutCall::Ln, at, arguments));
+        return line_call(alloc, found, at, arguments);
     }
     if is_word(text, "Open", name) {
-        return Ok(plain_call(found, OutCall::Open, at, arguments));
+        return open_call(alloc, found, at, arguments);
     }
     Ok(refused(found, UNKNOWN, name.pos))
 }
@@ -144,7 +166,7 @@ pub fn out_selectors(
     env: &Env<'_>,
     at: Pos,
     selectors: &[Selector],
-) -> Result<Option<TStat>, AllocError>
+) -> Result<Option<MadeStat>, AllocError>
     ensures noted { OnOk result (found.new ≡
         first_after found.old (judge.out_selectors env.now at selectors.now).breaches) }
     ensures answer { IfOk result

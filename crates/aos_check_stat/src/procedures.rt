@@ -13,11 +13,11 @@ use aos_check_expr::{
     typed_for,
 };
 use aos_made::MadeCallee;
+use aos_made_stat::MadeStat;
 use aos_symbols::{
     Breach, Env, Lookup, Meaning, NOT_BUILT, Symbol, WRONG_CALL, WRONG_RETURN, note,
 };
 use aos_tree::{Desig, Expr, Selector};
-use aos_typed::TStat;
 use aos_types::{Gives, Signature, TypeId};
 use std::alloc::{AllocError, Global};
 
@@ -31,7 +31,7 @@ fn perform_with(
     callee: MadeCallee,
     signature: &Signature,
     arguments: &[Expr],
-) -> Result<Option<TStat>, AllocError>
+) -> Result<Option<MadeStat>, AllocError>
     ensures noted { OnOk result (found.new ≡ first_after found.old
         (judge.perform_with env.now at (seen_callee callee) signature.now arguments.now).breaches) }
     ensures answer { IfOk result (λ s. option_map seen_stat s ≡
@@ -39,7 +39,8 @@ fn perform_with(
 {
     let parameters = signature.parameters.as_slice();
     let handing = arguments_for(alloc, found, env, at, parameters, arguments)?;
-    Ok(Some(TStat::Perform(at, callee.take(), handing.given.take())))
+    let one = MadeStat::perform(alloc, at, callee, handing.given)?;
+    Ok(Some(one))
 }
 
 /// A call of a procedure with these arguments, which begins at a place: a function gives a value.
@@ -51,7 +52,7 @@ fn perform_signed(
     callee: MadeCallee,
     signature: &Signature,
     arguments: &[Expr],
-) -> Result<Option<TStat>, AllocError>
+) -> Result<Option<MadeStat>, AllocError>
     ensures noted { OnOk result (found.new ≡ first_after found.old
         (judge.perform_signed env.now at (seen_callee callee) signature.now arguments.now).breaches) }
     ensures answer { IfOk result (λ s. option_map seen_stat s ≡
@@ -72,7 +73,7 @@ pub fn perform(
     callee: MadeCallee,
     heading: Heading,
     arguments: &[Expr],
-) -> Result<Option<TStat>, AllocError>
+) -> Result<Option<MadeStat>, AllocError>
     ensures noted { OnOk result (found.new ≡ first_after found.old
         (judge.perform env.now at (seen_callee callee) heading arguments.now).breaches) }
     ensures answer { IfOk result (λ s. option_map seen_stat s ≡
@@ -94,7 +95,7 @@ pub fn performed(
     symbol: Symbol,
     number: u32,
     selectors: &[Selector],
-) -> Result<Option<TStat>, AllocError>
+) -> Result<Option<MadeStat>, AllocError>
     ensures noted { OnOk result (found.new ≡ first_after found.old
         (judge.performed env.now at symbol number selectors.now).breaches) }
     ensures answer { IfOk result (λ s. option_map seen_stat s ≡
@@ -116,7 +117,7 @@ fn called_member(
     member: Lookup,
     more: &[Selector],
     desig: &Desig,
-) -> Result<Option<TStat>, AllocError>
+) -> Result<Option<MadeStat>, AllocError>
     ensures noted { OnOk result (found.new ≡ first_after found.old
         (judge.called_member env.now member more.now desig.now).breaches) }
     ensures answer { IfOk result (λ s. option_map seen_stat s ≡
@@ -141,7 +142,7 @@ pub fn called_in_module(
     head: Head,
     selectors: &[Selector],
     desig: &Desig,
-) -> Result<Option<TStat>, AllocError>
+) -> Result<Option<MadeStat>, AllocError>
     ensures noted { OnOk result (found.new ≡ first_after found.old
         (judge.called_in_module env.now head selectors.now desig.now).breaches) }
     ensures answer { IfOk result (λ s. option_map seen_stat s ≡
@@ -175,7 +176,7 @@ fn return_value(
     at: Pos,
     of: Option<TypeId>,
     value: &Expr,
-) -> Result<Option<TStat>, AllocError>
+) -> Result<Option<MadeStat>, AllocError>
     ensures noted { OnOk result (found.new ≡ first_after found.old
         (judge.return_value env.now at of value.now).breaches) }
     ensures answer { IfOk result (λ s. option_map seen_stat s ≡
@@ -188,7 +189,8 @@ fn return_value(
     if !may_be_value(env, of) {
         note(found, NOT_BUILT, at);
     }
-    Ok(Some(TStat::Return(at, Some(typed_for(env, of, value).take()))))
+    let one = MadeStat::give(alloc, at, typed_for(env, of, value))?;
+    Ok(Some(one))
 }
 
 /// RETURN at a place, with a value or without.
@@ -199,14 +201,14 @@ pub fn return_of(
     env: &Env<'_>,
     at: Pos,
     value: &Option<Expr>,
-) -> Result<Option<TStat>, AllocError>
+) -> Result<Option<MadeStat>, AllocError>
     ensures noted { OnOk result (found.new ≡ first_after found.old
         (judge.return_of env.now at (judge.gives_here env.now) value.now).breaches) }
     ensures answer { IfOk result (λ s. option_map seen_stat s ≡
         (judge.return_of env.now at (judge.gives_here env.now) value.now).answer) }
 {
     match (gives_here(env), value) {
-        (Gives::Nothing, None) => Ok(Some(TStat::Return(at, None))),
+        (Gives::Nothing, None) => Ok(Some(MadeStat::leave(alloc, at)?)),
         (Gives::Nothing, Some(value)) => {
             let _value = expr(alloc, found, env, value)?;
             Ok(refused(found, WRONG_RETURN, at))

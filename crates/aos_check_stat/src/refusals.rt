@@ -10,14 +10,15 @@ ghost use Rattle.aos_symbols.specs.Judged.{kept};
 ghost use Rattle.aos_check_stat.specs.Bodies as judge;
 
 use aos_base::Pos;
+use aos_made_stat::MadeStat;
 use aos_symbols::{
     Breach, NOT_BUILT, WRONG_CALL, WRONG_MODIFIER, WRONG_SELECTOR, is_active, is_word, note,
 };
 use aos_tree::{Expr, Modifier, Selector};
-use aos_typed::{TExpr, TPlace, TStat};
+use aos_typed::{TExpr, TPlace};
 
 /// A statement that breaks a rule at a place, which is none.
-pub fn refused(found: &mut Option<Breach>, rule: u16, at: Pos) -> Option<TStat>
+pub fn refused(found: &mut Option<Breach>, rule: u16, at: Pos) -> Option<MadeStat>
     ensures noted { found.new ≡ first_after found.old (judge.refused rule at).breaches }
     ensures answer { option_map seen_stat result ≡ (judge.refused rule at).answer }
 {
@@ -26,7 +27,7 @@ pub fn refused(found: &mut Option<Breach>, rule: u16, at: Pos) -> Option<TStat>
 }
 
 /// A statement that isn't built.
-pub fn not_yet(found: &mut Option<Breach>, at: Pos) -> Option<TStat>
+pub fn not_yet(found: &mut Option<Breach>, at: Pos) -> Option<MadeStat>
     ensures noted { found.new ≡ first_after found.old (judge.not_yet at).breaches }
     ensures answer { option_map seen_stat result ≡ (judge.not_yet at).answer }
 {

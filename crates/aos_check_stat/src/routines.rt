@@ -11,12 +11,13 @@ use crate::refusals::refused;
 use aos_base::Pos;
 use aos_check_expr::{condition, desig_alone, designator, expr, place_of, refuse_written};
 use aos_made::Typed;
+use aos_made_stat::MadeStat;
 use aos_operators::{Class, Spot, fits, is_number, is_set, width_of};
 use aos_symbols::{
     ARGUMENT_COUNT, ARGUMENT_TYPE, Breach, Env, NO_VARIABLE, NOT_CONSTANT, Routine, note,
 };
 use aos_tree::{Desig, Expr};
-use aos_typed::{Change, Literal, TStat};
+use aos_typed::{Change, Literal};
 use aos_types::TypeId;
 use std::alloc::{AllocError, Global};
 
@@ -105,7 +106,7 @@ fn change_of(
     first: Pos,
     spot: Spot,
     value: Option<&Expr>,
-) -> Result<Option<TStat>, AllocError>
+) -> Result<Option<MadeStat>, AllocError>
     ensures noted { OnOk result (found.new ≡ first_after found.old
         (judge.change_of env.now routine at first (seen_spot spot) (option_copied value.entry)).breaches) }
     ensures answer { IfOk result (λ s. option_map seen_stat s ≡
@@ -114,7 +115,8 @@ fn change_of(
     refuse_changed(found, routine, first, &spot);
     let value = amount(alloc, found, env, routine, spot.known.of, value)?;
     let change = changing(routine, spot.known.of);
-    Ok(Some(TStat::Change(at, change, place_of(spot.held), value.take())))
+    let one = MadeStat::change(alloc, at, change, place_of(spot.held), value)?;
+    Ok(Some(one))
 }
 
 /// A change of an argument, which is a designator or not, in a call that begins at a place.
@@ -128,7 +130,7 @@ fn change_at(
     argument: &Expr,
     variable: Option<&Desig>,
     value: Option<&Expr>,
-) -> Result<Option<TStat>, AllocError>
+) -> Result<Option<MadeStat>, AllocError>
     ensures noted { OnOk result (found.new ≡ first_after found.old
         (judge.change_at env.now routine at argument.now (option_copied variable.entry) (option_copied value.entry)).breaches) }
     ensures answer { IfOk result (λ s. option_map seen_stat s ≡
@@ -151,7 +153,7 @@ pub fn change_call(
     routine: Routine,
     at: Pos,
     arguments: &[Expr],
-) -> Result<Option<TStat>, AllocError>
+) -> Result<Option<MadeStat>, AllocError>
     ensures noted { OnOk result (found.new ≡
         first_after found.old (judge.change_call env.now routine at arguments.now).breaches) }
     ensures answer { IfOk result
@@ -236,7 +238,7 @@ pub fn assert_call(
     env: &Env<'_>,
     at: Pos,
     arguments: &[Expr],
-) -> Result<Option<TStat>, AllocError>
+) -> Result<Option<MadeStat>, AllocError>
     ensures noted { OnOk result (found.new ≡
         first_after found.old (judge.assert_call env.now at arguments.now).breaches) }
     ensures answer { IfOk result
@@ -245,12 +247,14 @@ pub fn assert_call(
     match arguments {
         [test] => {
             let test = condition(alloc, found, env, test)?;
-            Ok(Some(TStat::Assert(at, test.take(), 0)))
+            let one = MadeStat::assert(alloc, at, test, 0)?;
+            Ok(Some(one))
         },
         [test, code] => {
             let test = condition(alloc, found, env, test)?;
             let code = trap_code(alloc, found, env, code)?;
-            Ok(Some(TStat::Assert(at, test.take(), code)))
+            let one = MadeStat::assert(alloc, at, test, code)?;
+            Ok(Some(one))
         },
         _ => Ok(refused(found, ARGUMENT_COUNT, at)),
     }
@@ -264,7 +268,7 @@ pub fn halt_call(
     env: &Env<'_>,
     at: Pos,
     arguments: &[Expr],
-) -> Result<Option<TStat>, AllocError>
+) -> Result<Option<MadeStat>, AllocError>
     ensures noted { OnOk result (found.new ≡
         first_after found.old (judge.halt_call env.now at arguments.now).breaches) }
     ensures answer { IfOk result
@@ -273,7 +277,8 @@ pub fn halt_call(
     match arguments {
         [code] => {
             let code = trap_code(alloc, found, env, code)?;
-            Ok(Some(TStat::Halt(at, code)))
+            let one = MadeStat::halt(alloc, at, code)?;
+            Ok(Some(one))
         },
         _ => Ok(refused(found, ARGUMENT_COUNT, at)),
     }

@@ -1,34 +1,32 @@
 // Statements.
 
 ghost use Rattle.std.specs.Prelude.{◌≡◌, OnOk, IfOk, [], map, option_map};
-ghost use Rattle.aos_typed.specs.declared.tree.TArm.{out-TArm};
-ghost use Rattle.aos_typed.specs.Program.{Arms, Cases};
-ghost use Rattle.aos_typed.specs.Seen.{seen_expr, seen_stat, seen_else, cases_of};
+ghost use Rattle.aos_typed.specs.Program.{Arm, Arms, Cases};
+ghost use Rattle.aos_typed.specs.Seen.{seen_stat, seen_else, cases_of};
 ghost use Rattle.aos_symbols.specs.Breaches.{first_after};
 ghost use Rattle.aos_symbols.specs.Judged.{Judged};
 ghost use Rattle.aos_operators.specs.Seen.{seen_answer, seen_spot};
 ghost use Rattle.aos_check_expr.specs.Expressions as expressions;
 ghost use Rattle.aos_check_stat.specs.Bodies as judge;
 ghost use Rattle.aos_check_stat.specs.Listed as listed;
-ghost use Rattle.aos_check_stat.specs.Listed.{onto};
+ghost use Rattle.aos_made_stat.specs.Onto.{onto};
 
 use crate::awaits::{await_of, enter_block, leave_block};
 use crate::calls::called;
 use crate::labels::{Labels, labels_in, selector};
-use crate::loops::{control, fitting, step_of};
+use crate::loops::{Counted, counting};
 use crate::procedures::return_of;
 use crate::refusals::{are_exclusive, refuse_modifiers, refused};
 use crate::texts::{put_text, text_to, value_fits};
-use crate::withs::{enter_with, leave_with, with_stat, with_variable};
+use crate::withs::{enter_with, guarded_variable, leave_with, with_stat};
 use aos_base::Pos;
 use aos_check_expr::{
-    condition, designator, expr, guard, has_parts, known_type, place_in, place_of, refuse_assigned,
-    typed_for,
+    condition, designator, expr, has_parts, place_in, place_of, refuse_assigned, typed_for,
 };
+use aos_made_stat::{MadeArms, MadeCases, MadeElse, MadeStat, MadeStats};
 use aos_operators::{Answer, Spot, type_of, width_of};
-use aos_symbols::{Breach, EXIT_OUTSIDE, Env, UNFIT, WRONG_FOR, note};
+use aos_symbols::{Breach, EXIT_OUTSIDE, Env, UNFIT, note};
 use aos_tree::{Block, Case, Desig, Elsif, Expr, Name, Qualident, Stat, StatSeq};
-use aos_typed::{TArm, TCase, TElse, TStat};
 use aos_types::TypeId;
 use std::alloc::{AllocError, Global};
 
@@ -58,7 +56,7 @@ fn assigned_stat(
     first: Pos,
     spot: Spot,
     value: Answer,
-) -> Result<TStat, AllocError>
+) -> Result<MadeStat, AllocError>
     ensures { IfOk result (λ s. seen_stat s ≡
         judge.assigned_stat env.now first (seen_spot spot) (seen_answer value)) }
 {
@@ -69,15 +67,11 @@ fn assigned_stat(
     let of = type_of(to);
     if let Some(known) = to {
         if has_parts(env, known) {
-            return Ok(TStat::Copy(first, of, place_of(spot.held), place_in(value.typed)));
+            return MadeStat::copy(alloc, first, of, place_of(spot.held), place_in(value.typed));
         }
     }
-    Ok(TStat::Assign(
-        first,
-        of,
-        place_of(spot.held),
-        typed_for(env, to, value).take(),
-    ))
+    let value = typed_for(env, to, value);
+    MadeStat::assign(alloc, first, of, place_of(spot.held), value)
 }
 
 /// An assignment, with `:=` at a place.
@@ -89,7 +83,7 @@ fn assign(
     desig: &Desig,
     at: Pos,
     value: &Expr,
-) -> Result<Option<TStat>, AllocError>
+) -> Result<Option<MadeStat>, AllocError>
     ensures noted { OnOk result (found.new ≡
         first_after found.old (judge.assign env.now desig.now at value.now).breaches) }
     ensures answer { IfOk result
@@ -100,13 +94,14 @@ fn assign(
     refuse_assigned(found, env, first, &spot);
     let value = expr(alloc, found, env, value)?;
     refuse_unfit(alloc, found, env, at, &spot, &value)?;
-    Ok(Some(assigned_stat(alloc, env, first, spot, value)?))
+    let one = assigned_stat(alloc, env, first, spot, value)?;
+    Ok(Some(one))
 }
 
 /// Puts a statement behind those before it, if it is one.
-fn put(stats: &mut Vec<TStat>, one: Option<TStat>) -> Result<(), AllocError>
-    ensures { OnOk result (map seen_stat stats.new.items ≡
-        judge.put (map seen_stat stats.old.items) (option_map seen_stat one)) }
+fn put(stats: &mut MadeStats, one: Option<MadeStat>) -> Result<(), AllocError>
+    ensures { OnOk result (map seen_stat stats.new ≡
+        judge.put (map seen_stat stats.old) (option_map seen_stat one)) }
 {
     if let Some(one) = one {
         stats.push(one)?;
@@ -115,27 +110,33 @@ fn put(stats: &mut Vec<TStat>, one: Option<TStat>) -> Result<(), AllocError>
 }
 
 /// EXIT at a place, which leaves a LOOP.
-fn exit_of(found: &mut Option<Breach>, in_loop: bool, at: Pos) -> Option<TStat>
-    ensures noted { found.new ≡ first_after found.old (judge.exit_of in_loop at).breaches }
-    ensures answer { option_map seen_stat result ≡ (judge.exit_of in_loop at).answer }
+fn exit_of(
+    alloc: Global,
+    found: &mut Option<Breach>,
+    in_loop: bool,
+    at: Pos,
+) -> Result<Option<MadeStat>, AllocError>
+    ensures noted { OnOk result (found.new ≡
+        first_after found.old (judge.exit_of in_loop at).breaches) }
+    ensures answer { IfOk result
+        (λ s. option_map seen_stat s ≡ (judge.exit_of in_loop at).answer) }
 {
-    if in_loop {
-        Some(TStat::Exit(at))
-    } else {
-        refused(found, EXIT_OUTSIDE, at)
+    if !in_loop {
+        return Ok(refused(found, EXIT_OUTSIDE, at));
     }
+    let one = MadeStat::exit(alloc, at)?;
+    Ok(Some(one))
 }
 
 /// The statement of the typed program that a statement is, in a LOOP or in none; the empty one is none.
 #[cycle(statements)]
-#[tactic(auto, using(crate::proofs::Rows::stat_while, crate::proofs::Rows::stat_repeat, crate::proofs::Rows::stat_loop, crate::proofs::Rows::stat_block, crate::proofs::Rows::stat_for, crate::proofs::Rows::stat_with))]
 fn stat_of(
     alloc: Global,
     found: &mut Option<Breach>,
     env: &mut Env<'_>,
     in_loop: bool,
     stat: &Stat,
-) -> Result<Option<TStat>, AllocError>
+) -> Result<Option<MadeStat>, AllocError>
     ensures env { OnOk result (env.new ≡ env.old) }
     ensures noted { OnOk result (found.new ≡
         first_after found.old (judge.stat_of env.old in_loop stat.now).breaches) }
@@ -147,23 +148,24 @@ fn stat_of(
         Stat::Assign(desig, at, value) => assign(alloc, found, env, desig, *at, value),
         Stat::Call(desig) => called(alloc, found, env, desig),
         Stat::Block(block) => block_of(alloc, found, env, in_loop, block),
-        Stat::Exit(at) => Ok(exit_of(found, in_loop, *at)),
+        Stat::Exit(at) => exit_of(alloc, found, in_loop, *at),
         Stat::Return(at, value) => return_of(alloc, found, env, *at, value),
         Stat::Await(at, test) => await_of(alloc, found, env, *at, test),
         Stat::If(at, test, body, arms, last) => {
-            let first = arm_of(alloc, found, env, in_loop, body, test)?;
-            let mut all = Vec::new(alloc);
-            all.push(first)?;
+            let mut all = MadeArms::new(alloc);
+            put_arm(alloc, found, env, in_loop, body, test, &mut all)?;
             put_arms(alloc, found, env, in_loop, arms.as_slice(), &mut all)?;
             let last = else_of(alloc, found, env, in_loop, last)?;
-            Ok(Some(TStat::If(*at, all, last)))
+            let one = MadeStat::if_of(alloc, *at, all, last)?;
+            Ok(Some(one))
         }
         Stat::Case(at, value, arms, last) => {
             let value = selector(alloc, found, env, value)?;
             let of = value.known.of;
             let all = cases_in(alloc, found, env, in_loop, arms.as_slice(), of)?;
             let last = case_else(alloc, found, env, in_loop, last)?;
-            Ok(Some(TStat::Case(*at, value.typed.take(), all, last)))
+            let one = MadeStat::case_of(alloc, *at, value.typed, all, last)?;
+            Ok(Some(one))
         }
         Stat::While(at, test, body) => while_of(alloc, found, env, in_loop, *at, body, test),
         Stat::Repeat(at, body, test) => repeat_of(alloc, found, env, in_loop, *at, body, test),
@@ -179,30 +181,29 @@ fn stat_of(
     }
 }
 
-/// An arm of IF: its statements, and the test before them.
+/// Puts an arm of IF behind others: its statements, and the test before them.
 #[cycle(statements)]
 #[tactic(auto, using(aos_symbols::proofs::Keeping::after_more))]
-fn arm_of(
+fn put_arm(
     alloc: Global,
     found: &mut Option<Breach>,
     env: &mut Env<'_>,
     in_loop: bool,
     body: &StatSeq,
     test: &Expr,
-) -> Result<TArm, AllocError>
+    arms: &mut MadeArms,
+) -> Result<(), AllocError>
     ensures env { OnOk result (env.new ≡ env.old) }
     ensures noted { OnOk result (found.new ≡ first_after found.old
         (listed.tested env.old in_loop test.now body.now.stats).breaches) }
-    ensures test { IfOk result (λ a. seen_expr (out-TArm a).test ≡ (expressions.condition env.old test.now).answer) }
-    ensures body { IfOk result (λ a. map seen_stat (out-TArm a).body.items ≡
-        (listed.listed_in env.old in_loop body.now.stats).answer) }
+    ensures answer { OnOk result ((others : Arms) → onto arms.new others ≡ onto arms.old
+        (Arm (expressions.condition env.old test.now).answer
+        (judge.listed (listed.listed_in env.old in_loop body.now.stats).answer) others)) }
 {
     let test = condition(alloc, found, env, test)?;
     let body = stats_in(alloc, found, env, in_loop, body.stats.as_slice())?;
-    Ok(TArm {
-        test: test.take(),
-        body,
-    })
+    arms.push(test, body)?;
+    Ok(())
 }
 
 /// Puts the arms of ELSIFs behind others, whatever stands behind them.
@@ -213,17 +214,24 @@ fn put_arms(
     env: &mut Env<'_>,
     in_loop: bool,
     elsifs: &[Elsif],
-    arms: &mut Vec<TArm>,
+    arms: &mut MadeArms,
 ) -> Result<(), AllocError>
     ensures env { OnOk result (env.new ≡ env.old) }
     ensures noted { OnOk result ((last : Judged Arms) → first_after found.new last.breaches ≡
         first_after found.old (listed.arms_in env.old in_loop elsifs.now last).breaches) }
-    ensures answer { OnOk result ((last : Judged Arms) → onto arms.new.items last.answer ≡
-        onto arms.old.items (listed.arms_in env.old in_loop elsifs.now last).answer) }
+    ensures answer { OnOk result ((last : Judged Arms) → onto arms.new last.answer ≡
+        onto arms.old (listed.arms_in env.old in_loop elsifs.now last).answer) }
 {
     for elsif in elsifs {
-        let arm = arm_of(alloc, found, env, in_loop, &elsif.body, &elsif.condition)?;
-        arms.push(arm)?;
+        put_arm(
+            alloc,
+            found,
+            env,
+            in_loop,
+            &elsif.body,
+            &elsif.condition,
+            arms,
+        )?;
     }
     Ok(())
 }
@@ -236,15 +244,15 @@ fn else_of(
     env: &mut Env<'_>,
     in_loop: bool,
     otherwise: &Option<StatSeq>,
-) -> Result<Vec<TStat>, AllocError>
+) -> Result<MadeStats, AllocError>
     ensures env { OnOk result (env.new ≡ env.old) }
     ensures noted { OnOk result (found.new ≡
         first_after found.old (listed.behind_else env.old in_loop otherwise.now).breaches) }
     ensures answer { IfOk result (λ ss.
-        map seen_stat ss.items ≡ (listed.behind_else env.old in_loop otherwise.now).answer) }
+        map seen_stat ss ≡ (listed.behind_else env.old in_loop otherwise.now).answer) }
 {
     match otherwise {
-        None => Ok(Vec::new(alloc)),
+        None => Ok(MadeStats::new(alloc)),
         Some(body) => stats_in(alloc, found, env, in_loop, body.stats.as_slice()),
     }
 }
@@ -258,36 +266,36 @@ fn cases_in(
     in_loop: bool,
     arms: &[Case],
     of: Option<TypeId>,
-) -> Result<Vec<TCase>, AllocError>
+) -> Result<MadeCases, AllocError>
     ensures env { OnOk result (env.new ≡ env.old) }
     ensures noted { OnOk result ((last : Judged Cases) → first_after found.new last.breaches ≡
         first_after found.old (listed.cases_of env.old in_loop of [] arms.now last).breaches) }
-    ensures answer { IfOk result (λ all. (last : Judged Cases) → cases_of all.items last.answer ≡
+    ensures answer { IfOk result (λ all. (last : Judged Cases) → cases_of all last.answer ≡
         (listed.cases_of env.old in_loop of [] arms.now last).answer) }
 {
     let mut labels = Labels::new(alloc);
-    let mut all = Vec::new(alloc);
+    let mut all = MadeCases::new(alloc);
     for arm in arms {
         let Case::Arm(own, body) = arm else {
             continue;
         };
         let own = labels_in(alloc, found, env, of, &mut labels, own.as_slice())?;
         let body = stats_in(alloc, found, env, in_loop, body.stats.as_slice())?;
-        all.push(TCase { labels: own, body })?;
+        all.push(own, body)?;
     }
     Ok(all)
 }
 
 /// ELSE of CASE, if there is one.
 #[cycle(statements)]
-#[tactic(auto, using(aos_symbols::proofs::Keeping::after_more, crate::proofs::Rows::stats_seen, aos_typed::proofs::Seen::else_seen))]
+#[tactic(auto, using(aos_symbols::proofs::Keeping::after_more, crate::proofs::Rows::stats_seen))]
 fn case_else(
     alloc: Global,
     found: &mut Option<Breach>,
     env: &mut Env<'_>,
     in_loop: bool,
     otherwise: &Option<StatSeq>,
-) -> Result<TElse, AllocError>
+) -> Result<MadeElse, AllocError>
     ensures env { OnOk result (env.new ≡ env.old) }
     ensures noted { OnOk result (found.new ≡
         first_after found.old (listed.else_of_case env.old in_loop otherwise.now).breaches) }
@@ -295,17 +303,17 @@ fn case_else(
         seen_else o ≡ (listed.else_of_case env.old in_loop otherwise.now).answer) }
 {
     match otherwise {
-        None => Ok(TElse::Missing),
+        None => Ok(MadeElse::missing()),
         Some(body) => {
             let body = stats_in(alloc, found, env, in_loop, body.stats.as_slice())?;
-            Ok(TElse::Else(body))
+            Ok(MadeElse::of(body))
         },
     }
 }
 
 /// WHILE.
 #[cycle(statements)]
-#[tactic(auto, using(aos_symbols::proofs::Keeping::after_more, crate::proofs::Rows::stats_seen, aos_typed::proofs::Seen::while_seen))]
+#[tactic(auto, using(aos_symbols::proofs::Keeping::after_more))]
 fn while_of(
     alloc: Global,
     found: &mut Option<Breach>,
@@ -314,7 +322,7 @@ fn while_of(
     at: Pos,
     body: &StatSeq,
     test: &Expr,
-) -> Result<Option<TStat>, AllocError>
+) -> Result<Option<MadeStat>, AllocError>
     ensures env { OnOk result (env.new ≡ env.old) }
     ensures noted { OnOk result (found.new ≡ first_after found.old
         (listed.while_of env.old in_loop at test.now body.now.stats).breaches) }
@@ -323,12 +331,12 @@ fn while_of(
 {
     let test = condition(alloc, found, env, test)?;
     let body = stats_in(alloc, found, env, in_loop, body.stats.as_slice())?;
-    Ok(Some(TStat::While(at, test.take(), body)))
+    let one = MadeStat::while_of(alloc, at, test, body)?;
+    Ok(Some(one))
 }
 
 /// REPEAT.
 #[cycle(statements)]
-#[tactic(auto, using(aos_symbols::proofs::Keeping::after_more, crate::proofs::Rows::stats_seen, aos_typed::proofs::Seen::repeat_seen))]
 fn repeat_of(
     alloc: Global,
     found: &mut Option<Breach>,
@@ -337,7 +345,7 @@ fn repeat_of(
     at: Pos,
     body: &StatSeq,
     test: &Expr,
-) -> Result<Option<TStat>, AllocError>
+) -> Result<Option<MadeStat>, AllocError>
     ensures env { OnOk result (env.new ≡ env.old) }
     ensures noted { OnOk result (found.new ≡ first_after found.old
         (listed.repeat_of env.old in_loop at body.now.stats test.now).breaches) }
@@ -346,19 +354,20 @@ fn repeat_of(
 {
     let body = stats_in(alloc, found, env, in_loop, body.stats.as_slice())?;
     let test = condition(alloc, found, env, test)?;
-    Ok(Some(TStat::Repeat(at, body, test.take())))
+    let one = MadeStat::repeat_of(alloc, at, body, test)?;
+    Ok(Some(one))
 }
 
 /// LOOP.
 #[cycle(statements)]
-#[tactic(auto, using(aos_symbols::proofs::Keeping::after_more, crate::proofs::Rows::stats_seen, aos_typed::proofs::Seen::loop_seen))]
+#[tactic(auto, using(aos_symbols::proofs::Keeping::after_more))]
 fn loop_of(
     alloc: Global,
     found: &mut Option<Breach>,
     env: &mut Env<'_>,
     at: Pos,
     body: &StatSeq,
-) -> Result<Option<TStat>, AllocError>
+) -> Result<Option<MadeStat>, AllocError>
     ensures env { OnOk result (env.new ≡ env.old) }
     ensures noted { OnOk result (found.new ≡ first_after found.old
         (listed.loop_of env.old at body.now.stats).breaches) }
@@ -366,12 +375,13 @@ fn loop_of(
         (listed.loop_of env.old at body.now.stats).answer) }
 {
     let body = stats_in(alloc, found, env, true, body.stats.as_slice())?;
-    Ok(Some(TStat::Loop(at, body)))
+    let one = MadeStat::loop_of(alloc, at, body)?;
+    Ok(Some(one))
 }
 
 /// FOR, with its variable, its first and last values, its step, if one is written, and its statements.
 #[cycle(statements)]
-#[tactic(auto, using(aos_symbols::proofs::Keeping::after_more, crate::proofs::Rows::stats_seen, aos_typed::proofs::Seen::for_seen))]
+#[tactic(auto, using(aos_symbols::proofs::Keeping::after_more))]
 fn for_of(
     alloc: Global,
     found: &mut Option<Breach>,
@@ -384,27 +394,29 @@ fn for_of(
     from: &Expr,
     to: &Expr,
     by: &Option<Expr>,
-) -> Result<Option<TStat>, AllocError>
+) -> Result<Option<MadeStat>, AllocError>
     ensures env { OnOk result (env.new ≡ env.old) }
-    ensures noted { OnOk result (found.new ≡ first_after found.old
-        (listed.for_of env.old in_loop at name assigned from.now to.now by.now body.now.stats).breaches) }
-    ensures answer { IfOk result (λ s. option_map seen_stat s ≡
-        (listed.for_of env.old in_loop at name assigned from.now to.now by.now body.now.stats).answer) }
+    ensures noted { OnOk result (found.new ≡ first_after found.old (listed.for_of env.old in_loop
+        at name assigned from.now to.now by.now body.now.stats).breaches) }
+    ensures answer { IfOk result (λ s. option_map seen_stat s ≡ (listed.for_of env.old in_loop
+        at name assigned from.now to.now by.now body.now.stats).answer) }
 {
-    let (place, of) = control(alloc, found, env, name)?;
-    let from = fitting(alloc, found, env, of, UNFIT, assigned, from)?;
-    let to = fitting(alloc, found, env, of, WRONG_FOR, name.pos, to)?;
-    let step = step_of(alloc, found, env, name.pos, of, by)?;
+    let head = counting(alloc, found, env, name, assigned, from, to, by)?;
+    let Counted {
+        variable,
+        of,
+        first,
+        last,
+        step,
+    } = head;
     let body = stats_in(alloc, found, env, in_loop, body.stats.as_slice())?;
-    let variable = place.take();
-    let first = from.take();
-    let last = to.take();
-    Ok(Some(TStat::For(at, width_of(of), variable, first, last, step, body)))
+    let one = MadeStat::for_of(alloc, at, width_of(of), variable, first, last, step, body)?;
+    Ok(Some(one))
 }
 
 /// WITH, whose `:` stands at the second place.
 #[cycle(statements)]
-#[tactic(auto, using(aos_symbols::proofs::Keeping::after_more, crate::proofs::Rows::stats_seen))]
+#[tactic(auto, using(aos_symbols::proofs::Keeping::after_more))]
 fn with_of(
     alloc: Global,
     found: &mut Option<Breach>,
@@ -415,32 +427,30 @@ fn with_of(
     colon: Pos,
     of: Qualident,
     body: &StatSeq,
-) -> Result<Option<TStat>, AllocError>
+) -> Result<Option<MadeStat>, AllocError>
     ensures env { OnOk result (env.new ≡ env.old) }
     ensures noted { OnOk result (found.new ≡ first_after found.old
         (listed.with_of env.old in_loop at variable colon of body.now.stats).breaches) }
     ensures answer { IfOk result (λ s. option_map seen_stat s ≡
         (listed.with_of env.old in_loop at variable colon of body.now.stats).answer) }
 {
-    let whole = with_variable(alloc, found, env, variable)?;
-    let t = known_type(found, env, of);
-    let guarded = guard(alloc, found, env, colon, whole, t)?;
+    let (guarded, t) = guarded_variable(alloc, found, env, variable, colon, of)?;
     let around = enter_with(alloc, env, variable, t)?;
     let body = stats_in(alloc, found, env, in_loop, body.stats.as_slice())?;
     leave_with(env, around);
-    Ok(Some(with_stat(at, guarded.held, body)))
+    let one = with_stat(alloc, at, guarded.held, body)?;
+    Ok(Some(one))
 }
 
 /// A block of statements.
 #[cycle(statements)]
-#[tactic(auto, using(aos_symbols::proofs::Keeping::after_more, crate::proofs::Rows::stats_seen, aos_typed::proofs::Seen::block_seen))]
 fn block_of(
     alloc: Global,
     found: &mut Option<Breach>,
     env: &mut Env<'_>,
     in_loop: bool,
     block: &Block,
-) -> Result<Option<TStat>, AllocError>
+) -> Result<Option<MadeStat>, AllocError>
     ensures env { OnOk result (env.new ≡ env.old) }
     ensures noted { OnOk result (found.new ≡ first_after found.old
         (listed.block_of env.old in_loop block.now).breaches) }
@@ -454,7 +464,8 @@ fn block_of(
     let around = enter_block(env, exclusive);
     let body = stats_in(alloc, found, env, in_loop, block.body.stats.as_slice())?;
     leave_block(env, around);
-    Ok(Some(TStat::Block(block.pos, exclusive, body)))
+    let one = MadeStat::block(alloc, block.pos, exclusive, body)?;
+    Ok(Some(one))
 }
 
 /// The statements of a sequence.
@@ -466,14 +477,14 @@ pub fn stats_in(
     env: &mut Env<'_>,
     in_loop: bool,
     stats: &[Stat],
-) -> Result<Vec<TStat>, AllocError>
+) -> Result<MadeStats, AllocError>
     ensures env { OnOk result (env.new ≡ env.old) }
     ensures noted { OnOk result (found.new ≡
         first_after found.old (listed.listed_in env.old in_loop stats.now).breaches) }
     ensures answer { IfOk result (λ ss.
-        map seen_stat ss.items ≡ (listed.listed_in env.old in_loop stats.now).answer) }
+        map seen_stat ss ≡ (listed.listed_in env.old in_loop stats.now).answer) }
 {
-    let mut all = Vec::new(alloc);
+    let mut all = MadeStats::new(alloc);
     for stat in stats {
         let one = stat_of(alloc, found, env, in_loop, stat)?;
         put(&mut all, one)?;

@@ -4,9 +4,9 @@ ghost use Rattle.std.specs.Prelude.{◌≡◌, OnOk, IfOk, option_map};
 ghost use Rattle.std.specs.Option.{option_copied};
 ghost use Rattle.aos_typed.specs.Seen.{seen_stat};
 ghost use Rattle.aos_symbols.specs.Breaches.{first_after};
+ghost use Rattle.aos_check_expr.specs.Expressions as expression;
 ghost use Rattle.aos_operators.specs.Known.{passes};
 ghost use Rattle.aos_operators.specs.Seen.{seen_answer, seen_spot};
-ghost use Rattle.aos_check_expr.specs.Expressions as expression;
 ghost use Rattle.aos_check_stat.specs.Bodies as judge;
 
 use crate::refusals::refused;
@@ -16,10 +16,11 @@ use aos_check_expr::{
     may_be_text, place_of, refuse_written, text_for, text_rows,
 };
 use aos_made::MadePlace;
+use aos_made_stat::MadeStat;
 use aos_operators::{Answer, Known, Spot};
 use aos_symbols::{ARGUMENT_COUNT, ARGUMENT_TYPE, Breach, Env, NO_VARIABLE, note};
 use aos_tree::{Desig, Expr};
-use aos_typed::{TStat, TextConstant};
+use aos_typed::TextConstant;
 use std::alloc::{AllocError, Global};
 
 /// The string constant that is stored in an array of characters.
@@ -54,14 +55,14 @@ pub fn put_text(
     strict: bool,
     value: Answer,
     spot: Spot,
-) -> Result<TStat, AllocError>
+) -> Result<MadeStat, AllocError>
     ensures { IfOk result (λ s. seen_stat s ≡
         judge.put_text env.now at strict (seen_answer value) (seen_spot spot)) }
 {
     let from = text_rows(alloc, env, value)?;
     let place = MadePlace::new(alloc, place_of(spot.held))?;
     let to = array_rows(alloc, env, 1, spot.known.of, place)?;
-    Ok(TStat::PutText(at, strict, from.take(), to.take()))
+    MadeStat::put_text(alloc, at, strict, from, to)
 }
 
 /// An argument that must be a text.
@@ -105,7 +106,7 @@ fn copied(
     value: Answer,
     second: Pos,
     spot: Spot,
-) -> Result<Option<TStat>, AllocError>
+) -> Result<Option<MadeStat>, AllocError>
     ensures noted { OnOk result (found.new ≡ first_after found.old
         (judge.copied env.now at (seen_answer value) second (seen_spot spot)).breaches) }
     ensures answer { IfOk result (λ s. option_map seen_stat s ≡
@@ -115,7 +116,8 @@ fn copied(
     if !may_be_characters(env, spot.known) {
         note(found, ARGUMENT_TYPE, second);
     }
-    Ok(Some(put_text(alloc, env, at, false, value, spot)?))
+    let one = put_text(alloc, env, at, false, value, spot)?;
+    Ok(Some(one))
 }
 
 /// COPY to an argument, which is a designator or not, in a call that begins at a place.
@@ -128,7 +130,7 @@ fn copied_to(
     value: Answer,
     argument: &Expr,
     variable: Option<&Desig>,
-) -> Result<Option<TStat>, AllocError>
+) -> Result<Option<MadeStat>, AllocError>
     ensures noted { OnOk result (found.new ≡ first_after found.old
         (judge.copied_to env.now at (seen_answer value) argument.now (option_copied variable.entry)).breaches) }
     ensures answer { IfOk result (λ s. option_map seen_stat s ≡
@@ -151,7 +153,7 @@ pub fn copy_call(
     env: &Env<'_>,
     at: Pos,
     arguments: &[Expr],
-) -> Result<Option<TStat>, AllocError>
+) -> Result<Option<MadeStat>, AllocError>
     ensures noted { OnOk result (found.new ≡
         first_after found.old (judge.copy_call env.now at arguments.now).breaches) }
     ensures answer { IfOk result

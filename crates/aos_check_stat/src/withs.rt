@@ -5,13 +5,14 @@ ghost use Rattle.aos_typed.specs.Seen.{seen_stat, seen_stats};
 ghost use Rattle.aos_symbols.specs.Breaches.{first_after};
 ghost use Rattle.aos_operators.specs.Seen.{seen_held, seen_spot};
 ghost use Rattle.aos_check_stat.specs.Bodies as judge;
+ghost use Rattle.aos_check_stat.specs.Listed as listed;
 
 use aos_base::Pos;
-use aos_check_expr::{Head, is_module, member, named, plain, refused_at};
+use aos_check_expr::{Head, guard, is_module, known_type, member, named, plain, refused_at};
+use aos_made_stat::{MadeStat, MadeStats};
 use aos_operators::{Held, Spot};
 use aos_symbols::{Breach, Env, Lookup, Meaning, Narrowed, WRONG_WITH};
 use aos_tree::{Items, Qualident};
-use aos_typed::TStat;
 use aos_types::TypeId;
 use std::alloc::{AllocError, Global};
 
@@ -60,7 +61,7 @@ fn with_part(
 }
 
 /// The variable of a WITH.
-pub fn with_variable(
+fn with_variable(
     alloc: Global,
     found: &mut Option<Breach>,
     env: &Env<'_>,
@@ -78,6 +79,27 @@ pub fn with_variable(
     } else {
         with_part(alloc, found, env, plain(env, name.first))
     }
+}
+
+/// The variable of a WITH, guarded with the type that is named behind `:`, which stands at a place; and that type.
+#[tactic(auto, using(aos_symbols::proofs::Keeping::after_more))]
+pub fn guarded_variable(
+    alloc: Global,
+    found: &mut Option<Breach>,
+    env: &Env<'_>,
+    name: Qualident,
+    colon: Pos,
+    of: Qualident,
+) -> Result<(Spot, Option<TypeId>), AllocError>
+    ensures noted { OnOk result (found.new ≡ first_after found.old
+        (listed.guarded_variable env.now name colon of).breaches) }
+    ensures answer { IfOk result (λ r.
+        (seen_spot r.0, r.1) ≡ (listed.guarded_variable env.now name colon of).answer) }
+{
+    let whole = with_variable(alloc, found, env, name)?;
+    let t = known_type(found, env, of);
+    let guarded = guard(alloc, found, env, colon, whole, t)?;
+    Ok((guarded, t))
 }
 
 fn head_of_with(env: &Env<'_>, name: Qualident) -> Head
@@ -133,11 +155,17 @@ pub fn leave_with(env: &mut Env<'_>, around: Option<Items<Narrowed>>)
 }
 
 /// WITH of a guarded object, or of a guarded record.
-pub fn with_stat(at: Pos, held: Held, body: Vec<TStat>) -> TStat
-    ensures { seen_stat result ≡ judge.with_stat at (seen_held held) (seen_stats body.items) }
+pub fn with_stat(
+    alloc: Global,
+    at: Pos,
+    held: Held,
+    body: MadeStats,
+) -> Result<MadeStat, AllocError>
+    ensures { IfOk result (λ s.
+        seen_stat s ≡ judge.with_stat at (seen_held held) (seen_stats body)) }
 {
     match held {
-        Held::Stands(record) => TStat::WithRecord(at, record.take(), body),
-        Held::Value(object) => TStat::With(at, object.take(), body),
+        Held::Stands(record) => MadeStat::with_record(alloc, at, record, body),
+        Held::Value(object) => MadeStat::with_of(alloc, at, object, body),
     }
 }

@@ -38,11 +38,12 @@ returns-in_ok-stats-in-Some-clause-answer c =
     let flag = c.are_exclusive-exclusive.ensures
     ∙ ap (λ w. judge.are_exclusive w c.as_slice-modifiers.result.now) c.text-text.ensures
     ∙ ap (judge.are_exclusive e.here.text) c.as_slice-modifiers.ensures in
-    c.in_ok-stats-in-Some.ensures.answer
+    ap (map seen_stat) c.take.ensures
+    ∙ c.in_ok-stats-in-Some.ensures.answer
     ∙ ap (λ x. (parts.listed_in (judge.in_region x e) false c.as_slice.result.now).answer) flag
     ∙ ap (λ l. (parts.listed_in (judge.within_body b.modifiers e) false l).answer) c.as_slice.ensures
     ∙ sym (ap (λ o. (judge.body_of e c.args.may_be_active o).answer) c.in-Some.is)
 
 pub returns-in_ok-stats-in-Some-clause-listed : goal.returns-in_ok-stats-in-Some-clause-listed
 returns-in_ok-stats-in-Some-clause-listed c =
-    stats_seen c.in_ok-stats-in-Some.stats.items ∙ ap judge.listed (returns-in_ok-stats-in-Some-clause-answer c)
+    stats_seen c.take.result.items ∙ ap judge.listed (returns-in_ok-stats-in-Some-clause-answer c)

@@ -8,6 +8,6 @@ use Rattle.aos_check_stat.proofs.news.lengths_of.Given as goal
 
 abbrev pub invariant-loop-part : goal.invariant-loop-part
 invariant-loop-part l = record {
-  noted : first_after l.found (walk (with_length l.env l.at l.of) (map seen_expr l.lengths.items) (drop l.part-index l.parts)).breaches ≡ first_after l.initial.found (walk (with_length l.env l.at l.of) [] l.parts).breaches;
-  answer : (walk (with_length l.env l.at l.of) (map seen_expr l.lengths.items) (drop l.part-index l.parts)).answer ≡ (walk (with_length l.env l.at l.of) [] l.parts).answer;
+  noted : first_after l.found (walk (with_length l.env l.at l.of) (map seen_expr l.lengths) (drop l.part-index l.parts)).breaches ≡ first_after l.initial.found (walk (with_length l.env l.at l.of) [] l.parts).breaches;
+  answer : (walk (with_length l.env l.at l.of) (map seen_expr l.lengths) (drop l.part-index l.parts)).answer ≡ (walk (with_length l.env l.at l.of) [] l.parts).answer;
 }
