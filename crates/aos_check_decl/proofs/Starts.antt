@@ -9,28 +9,19 @@ use Rattle.aos_symbols.specs.Breaches.{first_after}
 use Rattle.aos_symbols.specs.Judged.{kept, bind}
 use Rattle.aos_symbols.specs.Declarations.{all_type_defs}
 use Rattle.aos_symbols.specs.Home.{Home}
-use Rattle.aos_symbols.specs.Entries.{home_of}
 use Rattle.aos_check_decl.specs.declared.aliases.Target.{Target}
 use Rattle.aos_check_decl.specs.Aliases.{targets, numbers, first_rows}
 use Rattle.aos_check_decl.specs.Headings.{headings}
 use Rattle.aos_check_decl.specs.Limits.{limits}
-use Rattle.aos_check_decl.specs.Pass.{own_numbers, entered, begun, declare}
+use Rattle.aos_check_decl.specs.Pass.{own_numbers, entered, numbered, begun, declare}
 use Rattle.aos_check_decl.specs.Told.{Told}
 use Rattle.aos_check_decl.proofs.Telling.{bound}
 
 module _ (number : ℕ) (before : List Home) (types : List TypeRow) (text : List ℕ) (m : Module) where
   -- with the numbers that names stand for, and the rows of the definitions
-  pub started : (ns : List (Option TypeId)) (ts : List Target) (ms : List (Option TypeId)) {env : Env} {h : Home} {rows : List TypeRow} →
-      env ≡ entered number before types text m ns → h ≡ home_of text env.before ms m → ms ≡ numbers (length types) ts →
-      rows ≡ env.types ++ first_rows (length env.types) ts →
-      record env { here = h; types = rows } ≡ entered number before (types ++ first_rows (length types) ts) text m (numbers (length types) ts)
-  started ns ts ms {env = env} {rows = rows} env_is here_is numbers_are rows_are =
-      let here = home_of text before (numbers (length types) ts) m in
-      let all = types ++ first_rows (length types) ts in
-      ap (λ (z : Home). record env { here = z; types = rows })
-      (here_is ∙ ap (λ (e : Env). home_of text e.before ms m) env_is ∙ ap (λ (ns : List (Option TypeId)). home_of text before ns m) numbers_are)
-      ∙ ap (λ (z : List TypeRow). record env { here = here; types = z }) (rows_are ∙ ap (λ (e : Env). e.types ++ first_rows (length e.types) ts) env_is)
-      ∙ ap (λ (e : Env). record e { here = here; types = all }) env_is
+  pub started : (ns : List (Option TypeId)) (ts : List Target) {env : Env} → env ≡ entered number before types text m ns →
+      numbered text m ts env ≡ entered number before (types ++ first_rows (length types) ts) text m (numbers (length types) ts)
+  started ns ts is = ap (numbered text m ts) is
 
   -- the environment from what the names for other types lead to
   pub begun_bound : (ts : List Target) {env : Env} {found behind : Option Breach} →

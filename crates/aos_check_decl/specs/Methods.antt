@@ -1,5 +1,5 @@
 -- What is judged of methods once all headings are met: rule 22, and their slots.
-use Rattle.std.specs.Prelude.{ℕ, List, [], map, Bool, true, ◌&&◌, Option, Some, None}
+use Rattle.std.specs.Prelude.{ℕ, List, [], map, Bool, true, Option, Some, None}
 use Rattle.std.specs.List.{flat_map}
 use Rattle.aos_tree.specs.declared.name.Name.{Name}
 use Rattle.aos_tree.specs.declared.decl.TypeDef.{TypeDef}

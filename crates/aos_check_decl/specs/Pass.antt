@@ -10,6 +10,7 @@ use Rattle.aos_symbols.specs.Declarations.{all_type_defs}
 use Rattle.aos_symbols.specs.Home.{Home}
 use Rattle.aos_symbols.specs.Entries.{home_of}
 use Rattle.aos_symbols.specs.Env as env
+use Rattle.aos_check_decl.specs.declared.aliases.Target.{Target}
 use Rattle.aos_check_decl.specs.Aliases.{targets, numbers, first_rows}
 use Rattle.aos_check_decl.specs.Headings.{headings}
 use Rattle.aos_check_decl.specs.Limits.{limits}
@@ -34,6 +35,10 @@ entered number before types text m numbers =
       is_exclusive = false;
       is_condition = false;
     }
+
+-- with the numbers that its definitions of types stand for, and the rows of these types
+abbrev pub numbered : List ℕ → Module → List Target → Env → Env
+numbered text m ts e = record e { here = home_of text e.before (numbers (length e.types) ts) m; types = e.types ++ first_rows (length e.types) ts }
 
 -- the names that stand for other types are told before any declaration is met, and all types have their numbers
 abbrev pub begun : ℕ → List Home → List TypeRow → List ℕ → Module → Judged Env

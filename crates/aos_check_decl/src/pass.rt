@@ -1,12 +1,12 @@
 // The second pass over a module.
 
-ghost use Rattle.std.specs.Prelude.{◌≡◌, ◌+◌, ◌≤◌, ◌^◌, length, OnOk, IfOk, IsTrue};
+ghost use Rattle.std.specs.Prelude.{◌≡◌, ◌+◌, ◌<◌, ◌≤◌, ◌^◌, length, OnOk, IfOk, IsTrue};
 ghost use Rattle.aos_symbols.specs.Breaches.{first_after};
 ghost use Rattle.aos_symbols.specs.Declarations.{all_type_defs};
 ghost use Rattle.aos_check_decl.specs.Told.{Tells};
 ghost use Rattle.aos_check_decl.specs.Pass as judge;
 
-use crate::aliases::{add_rows, numbers_of, targets_of};
+use crate::aliases::{Target, add_rows, numbers_of, targets_of};
 use crate::limits::limits;
 use crate::procedures::{count_types, headings};
 use aos_base::NoMemory;
@@ -85,6 +85,65 @@ fn entered<'a>(
     })
 }
 
+/// The number of the next type.
+fn next_number(types: &Types) -> Result<u32, NoMemory>
+    ensures { IfOk result (λ n. n ≡ length types.now) }
+{
+    match u32::try_from(types.len()) {
+        Ok(number) => Ok(number),
+        Err(_) => Err(NoMemory),
+    }
+}
+
+/// The definitions of types of these declarations, each with its own number, of which the first is this.
+fn numbers_for(alloc: Global, first: u32, decls: &[Decl]) -> Result<Vec<Option<TypeId>>, NoMemory>
+    ensures { IfOk result (λ numbers.
+        numbers.items ≡ judge.own_numbers first (length (all_type_defs decls.now))) }
+{
+    let count = count_all_types(alloc, decls)?;
+    if !have_numbers(first, count as usize) {
+        return Err(NoMemory);
+    }
+    Ok(own_numbers(alloc, first, count)?)
+}
+
+/// A module's environment, in which each of its definitions of types has a number of its own.
+fn first_env<'a>(
+    alloc: Global,
+    before: Items<Home<'a>>,
+    types: Types,
+    text: &'a [u8],
+    tree: &Module,
+) -> Result<Env<'a>, NoMemory>
+    requires { length before ≤ 64 }
+    ensures { IfOk result (λ e. e ≡ judge.entered
+        (length before.entry) before.entry types text.now tree.now
+        (judge.own_numbers (length types) (length (all_type_defs tree.now.decls)))) }
+{
+    let own = numbers_for(alloc, next_number(&types)?, tree.decls.as_slice())?;
+    entered(alloc, before, types, text, tree, &own)
+}
+
+/// The numbers that the module's definitions of types stand for, and the rows of these types.
+fn give_numbers<'a>(
+    alloc: Global,
+    env: &mut Env<'a>,
+    targets: &[Target],
+    text: &'a [u8],
+    tree: &Module,
+) -> Result<(), NoMemory>
+    requires { length env.now.before < 2 ^ 32 }
+    ensures { OnOk result (env.new ≡ judge.numbered text.now tree.now targets.now env.old) }
+{
+    let first = next_number(&env.types)?;
+    if !have_numbers(first, targets.len()) {
+        return Err(NoMemory);
+    }
+    let numbers = numbers_of(alloc, first, targets)?;
+    env.here = home_of(alloc, env.before.as_slice(), &numbers, text, tree)?;
+    add_rows(&mut env.types, targets)
+}
+
 /// A module's environment before any of its declarations is met; the types that its declarations define have their numbers.
 fn begin<'a>(
     alloc: Global,
@@ -98,23 +157,9 @@ fn begin<'a>(
     ensures { Tells result found.old found.new (λ e. e)
         (judge.begun (length before.entry) before.entry types text.now tree.now) }
 {
-    let Ok(first) = u32::try_from(types.len()) else {
-        return Err(NoMemory);
-    };
-    let decls = tree.decls.as_slice();
-    let count = count_all_types(alloc, decls)?;
-    if !have_numbers(first, count as usize) {
-        return Err(NoMemory);
-    }
-    let own = own_numbers(alloc, first, count)?;
-    let mut env = entered(alloc, before, types, text, tree, &own)?;
-    let targets = targets_of(alloc, found, &mut env, decls)?;
-    if !have_numbers(first, targets.len()) {
-        return Err(NoMemory);
-    }
-    let numbers = numbers_of(alloc, first, &targets)?;
-    env.here = home_of(alloc, env.before.as_slice(), &numbers, text, tree)?;
-    add_rows(&mut env.types, &targets)?;
+    let mut env = first_env(alloc, before, types, text, tree)?;
+    let targets = targets_of(alloc, found, &mut env, tree.decls.as_slice())?;
+    give_numbers(alloc, &mut env, &targets, text, tree)?;
     Ok(env)
 }
 
@@ -136,9 +181,7 @@ pub fn declare<'a>(
     ensures answer { IfOk result (λ e. e ≡
         (judge.declare (length before.entry) before.entry types text.now tree.now).answer) }
 {
-    let Ok(first) = u32::try_from(types.len()) else {
-        return Err(NoMemory);
-    };
+    let first = next_number(&types)?;
     let mut env = begin(alloc, found, before, types, text, tree)?;
     let decls = tree.decls.as_slice();
     headings(alloc, found, &mut env, decls)?;

@@ -11,7 +11,7 @@ use Rattle.aos_check_decl.proofs.Starts.{declare_bound}
 use Rattle.aos_check_decl.proofs.pass.declare.Goals as goal
 
 pub returns-in_err-env-clause-noted : goal.returns-in_err-env-clause-noted
-returns-in_err-env-clause-noted c = IfOk-from_err c.from_residual.result _ c.from_residual.ensures.0
+returns-in_err-env-clause-noted c = IfOk-from_err c.from_residual-in_err-env.result _ c.from_residual-in_err-env.ensures.0
 
 pub returns-in_err-headings-clause-noted : goal.returns-in_err-headings-clause-noted
 returns-in_err-headings-clause-noted c = IfOk-from_err c.from_residual-in_err-headings.result _ c.from_residual-in_err-headings.ensures.0
@@ -19,8 +19,8 @@ returns-in_err-headings-clause-noted c = IfOk-from_err c.from_residual-in_err-he
 pub returns-in_err-limits-clause-noted : goal.returns-in_err-limits-clause-noted
 returns-in_err-limits-clause-noted c = IfOk-from_err c.from_residual-in_err-limits.result _ c.from_residual-in_err-limits.ensures.0
 
-first_is : (c : goal.In_ok-limits) → c.in-Ok.first ≡ length c.args.types
-first_is c = c.in-Ok.ensures.1 ∙ c.len.ensures
+first_is : (c : goal.In_ok-limits) → c.in_ok-first.first ≡ length c.args.types
+first_is c = c.in_ok-first.ensures
 
 whole : (c : goal.In_ok-limits) →
     Told (declare (length c.args.before) c.args.before c.args.types c.args.text.now c.args.tree.now) c.args.found.now c.limits.new.found c.limits.new.env
