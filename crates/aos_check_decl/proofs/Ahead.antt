@@ -1,8 +1,9 @@
 -- How far names lead in many steps, and that two looks lead twice as far.
-use Rattle.std.proofs.Common.{◌≡◌, ℕ, zero, suc, ◌+◌, ◌*◌, ◌/◌, ◌%◌, ◌-◌, ◌<◌, ◌≤◌, Bool, true, false, nat_lt, List, [], ◌∷◌, length, map, Option, Some, None, slice_get, if◌then◌else◌, refl, sym, ap, ◌∙◌, ◌++◌, ◌⊎◌, inl, inr, arith}
+use Rattle.std.proofs.Common.{◌≡◌, ◌≢◌, ℕ, zero, suc, ◌+◌, ◌*◌, ◌/◌, ◌%◌, ◌-◌, ◌<◌, ◌≤◌, Bool, true, false, nat_lt, List, [], ◌∷◌, length, map, Option, Some, None, slice_get, if◌then◌else◌, eqb, refl, sym, ap, subst, ◌∙◌, ◌++◌, ◌⊎◌, inl, inr, arith}
 use Rattle.std.specs.List.{range_with_len}
 use Rattle.std.proofs.Math.Path.{ap₂}
 use Rattle.std.proofs.lemmas.Bool.{ltb-false, cases_lt}
+use Rattle.std.proofs.lemmas.Bool.Decides.{eqb_tells}
 use Rattle.std.proofs.Math.Nat.{suc-mul}
 use Rattle.std.proofs.lemmas.List.FromFn.{length-map-range_with_len, map-range_with_len_more}
 use Rattle.std.proofs.lemmas.Option.{slice_get_past}
@@ -10,7 +11,7 @@ use Rattle.aos_types.specs.declared.row.TypeId.{TypeId}
 use Rattle.aos_check_decl.specs.declared.aliases.Target.{Target}
 use Rattle.aos_check_decl.specs.declared.aliases.Target.TheVariants.{Own, Of, Nothing}
 use Rattle.aos_check_decl.specs.Aliases.{nil, step, follow, proper, numbers}
-use Rattle.aos_check_decl.specs.Ahead.{along, leap}
+use Rattle.aos_check_decl.specs.Ahead.{along, leap, reached_on}
 
 -- where a look at such numbers leads, and where one name leads
 abbrev led : TypeId → Option TypeId → TypeId
@@ -142,12 +143,15 @@ module _ (first : ℕ) (ts : List Target) where
             omega (arith, m, b));
       }
 
-  -- the numbers of definitions, once none is left
-  pub numbers_far : (reached ahead : List TypeId) (left : ℕ) → IsFar reached ahead left → left ≡ 0 → map (proper first ts) reached ≡ numbers first ts
-  numbers_far reached ahead left is none =
+  -- once none is left, as many names are followed as there are types
+  pub far_end : (reached ahead : List TypeId) (left : ℕ) → IsFar reached ahead left → left ≡ 0 → reached ≡ along first ts (length ts)
+  far_end reached ahead left is none =
       let all : is.done ≡ length ts = let a = ap (λ l. is.done + l * is.unit) (sym none) ∙ is.all in omega (arith, a) in
-      ap (map (proper first ts)) (is.reached_is ∙ ap (along first ts) all)
-      ∙ along_map (length ts) (range_with_len 0 (length ts))
+      is.reached_is ∙ ap (along first ts) all
+
+  -- the numbers of definitions are the proper ones among these
+  pub numbers_along : map (proper first ts) (along first ts (length ts)) ≡ numbers first ts
+  numbers_along = along_map (length ts) (range_with_len 0 (length ts))
 
   -- one round by the remainder of what is left
   odd_half : (n : ℕ) → n % 2 ≡ 1 → n ≡ suc (n / 2 + n / 2)
@@ -157,14 +161,16 @@ module _ (first : ℕ) (ts : List Target) where
   even_half : (n : ℕ) → (n % 2 ≡ 1 → ⊥) → n ≡ n / 2 + n / 2
   even_half n e = omega (arith, e)
 
-  -- one round where what is left is odd
-  pub odd_left : (reached ahead next further : List TypeId) (left : ℕ) → IsFar reached ahead left → left % 2 ≡ 1 →
-      next ≡ map (leap first ahead) reached → further ≡ map (leap first ahead) ahead → IsFar next further (left / 2)
-  odd_left reached ahead next further left is b g f =
-      odd_round reached ahead next further left (left / 2) is (odd_half left b) g f
+  -- one round, where what is left is odd, and where it is even
+  pub round : (reached ahead next further : List TypeId) (left : ℕ) → IsFar reached ahead left → next ≡ reached_on first ahead left reached →
+      further ≡ map (leap first ahead) ahead → IsFar next further (left / 2)
+  round reached ahead next further left is on f = by (eqb_tells (left % 2) 1)
+    where
+      is_next : {b : Bool} → eqb (left % 2) 1 ≡ b → next ≡ (if b then map (leap first ahead) reached else reached)
+      is_next tested = on ∙ ap (λ b. if b then map (leap first ahead) reached else reached) tested
 
-  -- one round where what is left is even
-  pub even_left : (reached ahead further : List TypeId) (left : ℕ) → IsFar reached ahead left → (left % 2 ≡ 1 → ⊥) →
-      further ≡ map (leap first ahead) ahead → IsFar reached further (left / 2)
-  even_left reached ahead further left is b f =
-      even_round reached ahead further left (left / 2) is (even_half left b) f
+      by : ((eqb (left % 2) 1 ≡ true) × (left % 2 ≡ 1)) ⊎ ((eqb (left % 2) 1 ≡ false) × (left % 2 ≢ 1)) → IsFar next further (left / 2)
+      by (inl odd) = odd_round reached ahead next further left (left / 2) is (odd_half left odd.1) (is_next odd.0) f
+      by (inr even) =
+          subst (λ (xs : List TypeId). IsFar xs further (left / 2)) (sym (is_next even.0))
+          (even_round reached ahead further left (left / 2) is (even_half left even.1) f)

@@ -33,5 +33,4 @@ pub mod Judging
 pub mod Telling
 pub mod Numbers
 pub mod Counted
-pub mod Starts
 mod Headed

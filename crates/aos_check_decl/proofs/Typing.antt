@@ -32,8 +32,8 @@ use Rattle.aos_symbols.specs.Scope.{Scope, find}
 use Rattle.std.specs.Map.{lookup}
 use Rattle.aos_symbols.specs.declared.home.ObjectScope.{ObjectScope}
 use Rattle.aos_symbols.specs.Home.{Home, object_of, scope_of, record_fields, fields_of}
-use Rattle.aos_symbols.specs.Names.{name_breaches}
-use Rattle.aos_symbols.specs.Entries as entries
+use Rattle.aos_check_names.specs.Names.{name_breaches}
+use Rattle.aos_entries.specs.Entries as entries
 use Rattle.aos_symbols.specs.Env as env
 use Rattle.aos_symbols.proofs.Each.{Each, implied}
 use Rattle.aos_symbols.proofs.Holds.{Holds, none_left, none_right}
@@ -53,7 +53,7 @@ use Rattle.aos_check_decl.proofs.TypingProcedures.{types_of, HasResult, HasMade,
 use Rattle.aos_check_decl.proofs.TypingTargets.{AreLed, IsGiven, targets_sound}
 use Rattle.aos_check_decl.proofs.TypingPlain.{headings_plain}
 use Rattle.aos_check_decl.proofs.TypingTypes.{Telling}
-use Rattle.aos_symbols.specs.Entries.{number_at}
+use Rattle.aos_entries.specs.Entries.{number_at}
 use Rattle.aos_check_decl.specs.Methods.{slot_meant, defined_type, definition_breaches, definition_slots}
 use Rattle.aos_check_decl.proofs.ObjectTypes.{IsObject}
 use Rattle.aos_check_decl.proofs.TypingStays.{all_same}

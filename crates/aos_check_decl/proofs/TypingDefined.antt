@@ -5,16 +5,16 @@ use Rattle.aos_tree.specs.declared.decl.TypeDef.{TypeDef}
 use Rattle.aos_tree.specs.declared.module.Import.{Import}
 use Rattle.aos_tree.specs.declared.module.Module.{Module}
 use Rattle.aos_types.specs.declared.row.TypeId.{TypeId}
-use Rattle.aos_symbols.specs.declared.entries.Sort.{Sort}
-use Rattle.aos_symbols.specs.declared.entries.Sort.TheVariants as sort
+use Rattle.aos_entries.specs.declared.entries.Sort.{Sort}
+use Rattle.aos_entries.specs.declared.entries.Sort.TheVariants as sort
 use Rattle.aos_symbols.specs.declared.scope.Entry.{Entry}
 use Rattle.aos_symbols.specs.declared.scope.Meaning.TheVariants as means
 use Rattle.aos_symbols.specs.Spelling.{word}
 use Rattle.aos_symbols.specs.Declarations.{def_names, constant_defs, type_defs, single_variables, procedure_defs}
 use Rattle.aos_symbols.specs.Scope.{Named, empty, find, has, with_names}
 use Rattle.aos_symbols.specs.Home.{Home}
-use Rattle.aos_symbols.specs.Names.{name_breaches}
-use Rattle.aos_symbols.specs.Entries.{number_at, numbered, types_from, import_entry, other_entries, own_scope}
+use Rattle.aos_check_names.specs.Names.{name_breaches}
+use Rattle.aos_entries.specs.Entries.{number_at, numbered, types_from, import_entry, other_entries, own_scope}
 use Rattle.aos_symbols.proofs.Each.{Each, joined, front, back, each_at}
 use Rattle.aos_symbols.proofs.Found.{found_is, each_found, some_found}
 use Rattle.aos_check_decl.proofs.TypingEntries.{own_names}

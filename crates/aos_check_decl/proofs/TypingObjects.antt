@@ -15,7 +15,7 @@ use Rattle.aos_symbols.specs.Declarations.{procedures, type_defs, single_variabl
 use Rattle.aos_symbols.specs.Scope.{Named}
 use Rattle.aos_symbols.specs.Home.{Home}
 use Rattle.aos_tree.specs.declared.decl.Decl.{items-the_row-Decl}
-use Rattle.aos_symbols.specs.Entries.{Objects, initial_of, numbered_objects, with_object, next_object, objects_of, number_at, inner_scope, scopes}
+use Rattle.aos_entries.specs.Entries.{Objects, initial_of, numbered_objects, with_object, next_object, objects_of, number_at, inner_scope, scopes}
 use Rattle.aos_symbols.proofs.Records.{lookup_here, lookup_other}
 use Rattle.aos_check_decl.proofs.ObjectTypes.{IsObject}
 use Rattle.aos_check_decl.proofs.TypingLists.{get_below}

@@ -18,7 +18,7 @@ use Rattle.aos_tree.specs.declared.decl.TypeExpr.TheVariants as type
 use Rattle.aos_tree.specs.declared.module.Module.{Module}
 use Rattle.aos_symbols.specs.Spelling.{word, is_word, are_same}
 use Rattle.aos_symbols.specs.Declarations.{def_names, constants_in, types_in, singles_in, procedures_in, constant_defs, type_defs, single_variables, procedure_defs, names_in, declared_names, formal_names, Procedure, whole_procedures_in, procedures, methods_in, all_procedures}
-use Rattle.aos_symbols.specs.Names.{module_names, declared_again, twice_after, twice, other_end, object_end, within_decl, within_decls, within_types, within_type, name_breaches}
+use Rattle.aos_check_names.specs.Names.{module_names, declared_again, twice_after, twice, other_end, object_end, within_decl, within_decls, within_types, within_type, name_breaches}
 use Rattle.aos_symbols.proofs.Each.{Each, joined, front, back, implied, each_at}
 use Rattle.aos_symbols.proofs.Holds.{none_left, none_right, test_is}
 use Rattle.aos_check_decl.proofs.TypingLists.{get_below, get_behind}

@@ -14,11 +14,11 @@ use Rattle.aos_symbols.specs.declared.env.Open.{Open}
 use Rattle.aos_symbols.specs.declared.env.Lookup.TheVariants.{NotExported, Found}
 use Rattle.aos_symbols.specs.declared.env.Env.{Env}
 use Rattle.aos_symbols.specs.Spelling.{word}
-use Rattle.aos_symbols.specs.declared.entries.Sort.TheVariants as sort
+use Rattle.aos_entries.specs.declared.entries.Sort.TheVariants as sort
 use Rattle.aos_symbols.specs.Declarations.{constant_defs, type_defs, all_type_defs, single_variables, formal_names, Procedure, all_procedures}
 use Rattle.aos_symbols.specs.Scope.{Named, Scope, empty, find, has, with_names}
 use Rattle.aos_symbols.specs.Home.{Home}
-use Rattle.aos_symbols.specs.Entries.{number_at, unmarked, numbered, types_from, import_entry, other_entries, procedure_scope, procedure_scopes, scopes}
+use Rattle.aos_entries.specs.Entries.{number_at, unmarked, numbered, types_from, import_entry, other_entries, procedure_scope, procedure_scopes, scopes}
 use Rattle.aos_symbols.specs.Env as env
 use Rattle.aos_symbols.proofs.Each.{Each, front, back, implied}
 use Rattle.aos_symbols.proofs.Found.{found_is, each_found, some_found}

@@ -19,7 +19,7 @@ use Rattle.aos_symbols.specs.Judged.{kept, walk}
 use Rattle.aos_symbols.specs.Declarations.{Procedure, all_procedures, type_defs, all_type_defs}
 use Rattle.aos_symbols.specs.declared.home.ObjectScope.{ObjectScope}
 use Rattle.aos_symbols.specs.Home.{Home, object_of}
-use Rattle.aos_symbols.specs.Entries.{number_at, scopes}
+use Rattle.aos_entries.specs.Entries.{number_at, scopes}
 use Rattle.aos_symbols.specs.Env as env
 use Rattle.aos_symbols.proofs.Each.{Each}
 use Rattle.aos_symbols.proofs.Holds.{Holds, holds_bind, none_first}

@@ -22,7 +22,7 @@ use Rattle.aos_symbols.specs.Declarations.{type_defs, all_procedures, local_type
 use Rattle.aos_symbols.specs.Scope.{Scope}
 use Rattle.aos_symbols.specs.Home.{Home}
 use Rattle.aos_symbols.specs.declared.home.ObjectScope.{ObjectScope}
-use Rattle.aos_symbols.specs.Entries.{number_at, scopes, objects_of}
+use Rattle.aos_entries.specs.Entries.{number_at, scopes, objects_of}
 use Rattle.aos_symbols.proofs.Told.{IsTold, basic, of_any, defined, IsFormalType, IsKnown, GoOn, known_on, told_behind, get_front, get_end}
 use Rattle.aos_check_decl.specs.declared.aliases.Target.{Target}
 use Rattle.aos_check_decl.specs.declared.aliases.Target.TheVariants.{Own, Of, Nothing}

@@ -24,10 +24,10 @@ use Rattle.aos_symbols.specs.declared.env.Env.{Env}
 use Rattle.aos_symbols.specs.Declarations.{type_defs, all_type_defs}
 use Rattle.aos_symbols.specs.Scope.{Scope}
 use Rattle.aos_symbols.specs.Home.{Home}
-use Rattle.aos_symbols.specs.Names.{name_breaches}
+use Rattle.aos_check_names.specs.Names.{name_breaches}
 use Rattle.std.specs.Map.{lookup}
 use Rattle.aos_symbols.specs.declared.home.ObjectScope.{ObjectScope}
-use Rattle.aos_symbols.specs.Entries.{objects_of}
+use Rattle.aos_entries.specs.Entries.{objects_of}
 use Rattle.aos_symbols.specs.Env as env
 use Rattle.aos_symbols.proofs.Each.{Each}
 use Rattle.aos_symbols.proofs.Told.{IsTold, GoOn, told_behind, IsLength, IsBase, IsObjectBase, IsResultType, AreToldParts, PartsAreTold}

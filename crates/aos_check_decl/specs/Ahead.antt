@@ -1,5 +1,5 @@
 -- How far names lead in many steps at once. What leads twice as far as these numbers is found by two looks at them.
-use Rattle.std.specs.Prelude.{ℕ, ◌+◌, ◌-◌, nat_lt, List, length, map, Option, Some, None, slice_get, if◌then◌else◌}
+use Rattle.std.specs.Prelude.{ℕ, ◌+◌, ◌-◌, ◌%◌, ◌==◌, nat_lt, List, length, map, Option, Some, None, slice_get, if◌then◌else◌}
 use Rattle.std.specs.List.{range_with_len}
 use Rattle.aos_types.specs.declared.row.TypeId.{TypeId}
 use Rattle.aos_check_decl.specs.declared.aliases.Target.{Target}
@@ -16,3 +16,7 @@ leap first ahead t = led (if nat_lt t.0 first then None else slice_get ahead (t.
     led : Option TypeId → TypeId
     led None = t
     led (Some u) = u
+
+-- where types lead that are reached already, by these numbers where an odd count of names is left
+abbrev pub reached_on : ℕ → List TypeId → (left : ℕ) → List TypeId → List TypeId
+reached_on first ahead left reached = if (left % 2) == 1 then map (leap first ahead) reached else reached

@@ -8,7 +8,7 @@ use Rattle.aos_symbols.specs.declared.env.Env.{Env}
 use Rattle.aos_symbols.specs.Judged.{Judged, kept, bind}
 use Rattle.aos_symbols.specs.Declarations.{all_type_defs}
 use Rattle.aos_symbols.specs.Home.{Home}
-use Rattle.aos_symbols.specs.Entries.{home_of}
+use Rattle.aos_entries.specs.Entries.{home_of}
 use Rattle.aos_symbols.specs.Env as env
 use Rattle.aos_check_decl.specs.declared.aliases.Target.{Target}
 use Rattle.aos_check_decl.specs.Aliases.{targets, numbers, first_rows}
@@ -40,14 +40,22 @@ entered number before types text m numbers =
 abbrev pub numbered : List ℕ → Module → List Target → Env → Env
 numbered text m ts e = record e { here = home_of text e.before (numbers (length e.types) ts) m; types = e.types ++ first_rows (length e.types) ts }
 
+-- a module's environment, in which each of its definitions of types has a number of its own
+abbrev pub first_env : ℕ → List Home → List TypeRow → List ℕ → Module → Env
+first_env number before types text m =
+    entered number before types text m (own_numbers (length types) (length (all_type_defs m.decls)))
+
 -- the names that stand for other types are told before any declaration is met, and all types have their numbers
+abbrev pub started : List ℕ → Module → Env → Judged Env
+started text m e = bind (targets e m.decls) (λ ts. kept (numbered text m ts e))
+
 abbrev pub begun : ℕ → List Home → List TypeRow → List ℕ → Module → Judged Env
-begun number before types text m =
-    let first = length types in
-    bind (targets (entered number before types text m (own_numbers first (length (all_type_defs m.decls)))) m.decls) (λ ts.
-    kept (entered number before (types ++ first_rows first ts) text m (numbers first ts)))
+begun number before types text m = started text m (first_env number before types text m)
+
+-- then the declarations, and what is judged of all types together
+abbrev pub filled : List ℕ → Module → Env → Judged Env
+filled text m e = bind (started text m e) (λ f. bind (headings f m.decls) (λ f. limits f (length e.types) m.decls))
 
 -- a module with this number, behind these modules, whose types these are
 abbrev pub declare : ℕ → List Home → List TypeRow → List ℕ → Module → Judged Env
-declare number before types text m =
-    bind (begun number before types text m) (λ e. bind (headings e m.decls) (λ e. limits e (length types) m.decls))
+declare number before types text m = filled text m (first_env number before types text m)

@@ -31,12 +31,12 @@ use Rattle.aos_symbols.specs.Judged.{Judged, judged, kept, bind, walk}
 use Rattle.aos_symbols.specs.Scope.{Scope, empty, with_name, with_variable}
 use Rattle.aos_symbols.specs.Declarations.{single_variables, procedure_defs}
 use Rattle.aos_symbols.specs.Home.{add_record, set_variables, object_of as object_here}
-use Rattle.aos_symbols.specs.Entries.{entry}
+use Rattle.aos_entries.specs.Entries.{entry}
 use Rattle.aos_symbols.specs.Env as env
-use Rattle.aos_check_expr.specs.Expressions.{constant, no_place}
+pub use Rattle.aos_rules.specs.TypeNames.{no_type, type_meant, type_found, type_of_out, type_in_module, qualified_type, named_type}
 use Rattle.aos_check_decl.specs.Variables.{constant_def}
 use Rattle.aos_check_decl.specs.Formals.{procedure_in}
-pub use Rattle.aos_check_expr.specs.TypeNames.{no_type, type_meant, type_found, type_of_out, type_in_module, qualified_type, named_type}
+use Rattle.aos_check_expr.specs.Expressions.{constant, no_place}
 pub use Rattle.aos_check_decl.specs.Met.{Met, met, refused_type, placed, claiming}
 
 abbrev pub is_empty : List Expr → Bool

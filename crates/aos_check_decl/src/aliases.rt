@@ -11,10 +11,11 @@ ghost use Rattle.aos_check_decl.specs.Aliases as judge;
 ghost use Rattle.aos_check_decl.specs.Ahead as far;
 ghost use Rattle.aos_check_decl.specs.Types as types;
 
-use crate::procedures::count_types;
+use crate::procedures::{count_types, next};
 use aos_base::NoMemory;
-use aos_check_expr::named_type;
-use aos_symbols::{Breach, Env, NOT_BUILT, all_procedures, note};
+use aos_entries::all_procedures;
+use aos_rules::named_type;
+use aos_symbols::{Breach, Env, NOT_BUILT, note};
 use aos_tree::{Decl, Proc, Qualident, TypeDef, TypeExpr};
 use aos_types::{TypeId, TypeRow, Types};
 use std::alloc::{AllocError, Global};
@@ -59,7 +60,6 @@ fn leads_to(found: &mut Option<Breach>, env: &Env<'_>, of: &TypeExpr) -> Target
 }
 
 /// What definitions lead to, behind those before them.
-#[tactic(auto, using(aos_symbols::proofs::Keeping::after_more, aos_symbols::proofs::Steps::walk_step, aos_symbols::proofs::Steps::walk_end))]
 fn add_targets(
     found: &mut Option<Breach>,
     env: &Env<'_>,
@@ -92,7 +92,6 @@ fn add_targets_of(
 }
 
 /// What the definitions of declarations lead to, behind those before them.
-#[tactic(auto, using(aos_symbols::proofs::Keeping::after_more, crate::proofs::Targets::types_end))]
 fn add_targets_in(
     found: &mut Option<Breach>,
     env: &Env<'_>,
@@ -129,7 +128,6 @@ fn add_targets_within(
 }
 
 /// What the definitions of procedures lead to, behind those before them.
-#[tactic(auto, using(aos_symbols::proofs::Keeping::after_more, crate::proofs::Targets::procedure_step, crate::proofs::Targets::procedures_end))]
 fn add_targets_of_procedures(
     alloc: Global,
     found: &mut Option<Breach>,
@@ -145,10 +143,7 @@ fn add_targets_of_procedures(
     let mut scope = first;
     for proc in procs {
         add_targets_within(alloc, found, env, scope, targets, proc.decls.as_slice())?;
-        let Some(next) = scope.checked_add(1) else {
-            return Err(NoMemory);
-        };
-        scope = next;
+        scope = next(scope)?;
     }
     Ok(())
 }
@@ -277,8 +272,56 @@ fn proper_ones(
         .collect(alloc)
 }
 
+/// As many more names as these numbers lead over, where the count of names that are left to follow is odd.
+fn reach_on(
+    alloc: Global,
+    first: u32,
+    ahead: &[TypeId],
+    reached: &mut Vec<TypeId>,
+    left: usize,
+) -> Result<(), AllocError>
+    ensures { OnOk result (reached.new.items ≡
+        far.reached_on first ahead.now left reached.old.items) }
+{
+    if left % 2 == 1 {
+        *reached = leaps(alloc, first, ahead, reached.as_slice())?;
+    }
+    Ok(())
+}
+
+/// Numbers that lead over twice as many names as these.
+fn double(alloc: Global, first: u32, ahead: &mut Vec<TypeId>) -> Result<(), AllocError>
+    ensures { OnOk result (ahead.new.items ≡
+        map (far.leap first ahead.old.items) ahead.old.items) }
+{
+    *ahead = leaps(alloc, first, ahead.as_slice(), ahead.as_slice())?;
+    Ok(())
+}
+
+/// Follows as many names as there are types. Each round knows where twice as many lead as the one before.
+fn follow_all(
+    alloc: Global,
+    first: u32,
+    targets: &[Target],
+    reached: &mut Vec<TypeId>,
+    ahead: &mut Vec<TypeId>,
+) -> Result<(), AllocError>
+    requires own { reached.old.items ≡ far.along first targets.now 0 }
+    requires one { ahead.old.items ≡ far.along first targets.now 1 }
+    ensures { OnOk result (reached.new.items ≡
+        far.along first targets.now (length targets.now)) }
+{
+    let mut left = targets.len();
+    while left > 0 {
+        reach_on(alloc, first, ahead.as_slice(), reached, left)?;
+        double(alloc, first, ahead)?;
+        left /= 2;
+    }
+    Ok(())
+}
+
 /// What the numbers of a module's definitions stand for, of which the first is this: as many names are followed as there are
-/// types. Each round knows where twice as many lead as the one before.
+/// types.
 pub(crate) fn numbers_of(
     alloc: Global,
     first: u32,
@@ -289,15 +332,8 @@ pub(crate) fn numbers_of(
 {
     let mut reached = own_types(alloc, first, targets.len())?;
     let mut ahead = steps(alloc, first, targets)?;
-    let mut left = targets.len();
-    while left > 0 {
-        if left % 2 == 1 {
-            reached = leaps(alloc, first, &ahead, &reached)?;
-        }
-        ahead = leaps(alloc, first, &ahead, &ahead)?;
-        left /= 2;
-    }
-    Ok(proper_ones(alloc, first, targets, &reached)?)
+    follow_all(alloc, first, targets, &mut reached, &mut ahead)?;
+    Ok(proper_ones(alloc, first, targets, reached.as_slice())?)
 }
 
 /// The row of a definition's number before any definition is met.

@@ -9,7 +9,7 @@ ghost use Rattle.aos_check_decl.specs.Formals as judge;
 
 use crate::types::{claim, place_row};
 use aos_base::{NoMemory, Pos};
-use aos_check_expr::{named_type, no_type};
+use aos_rules::{named_type, no_type};
 use aos_symbols::{Breach, Claim, Env, WRONG_MODIFIER, is_word};
 use aos_tree::{Formals, Name, Qualident, Section};
 use aos_types::{Gives, Items, Parameter, Signature, TypeId, TypeRow};

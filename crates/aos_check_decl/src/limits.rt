@@ -14,9 +14,9 @@ ghost use Rattle.aos_check_decl.specs.Limits as judge;
 use crate::claims::{drop_bases, note_claims};
 use crate::procedures::next;
 use aos_base::{NoMemory, Pos};
+use aos_entries::all_procedures;
 use aos_symbols::{
-    Breach, CONTAINS_ITSELF, Claim, Env, Home, Scope, TOO_MANY_SCALARS, WRONG_TYPE, all_procedures,
-    note,
+    Breach, CONTAINS_ITSELF, Claim, Env, Home, Scope, TOO_MANY_SCALARS, WRONG_TYPE, note,
 };
 use aos_tree::{Decl, Def, Formals, Proc, TypeDef, TypeExpr, VarDef};
 use aos_types::{Gives, MOST_SCALARS, TypeId, TypeRow, Types};

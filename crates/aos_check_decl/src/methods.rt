@@ -10,7 +10,8 @@ ghost use Rattle.aos_check_decl.specs.Told.{Tells};
 ghost use Rattle.aos_check_decl.specs.Methods as judge;
 
 use aos_base::NoMemory;
-use aos_symbols::{Breach, Env, Lookup, Meaning, WRONG_OVERRIDE, inner_decls, note};
+use aos_entries::inner_decls;
+use aos_symbols::{Breach, Env, Lookup, Meaning, WRONG_OVERRIDE, note};
 use aos_tree::{Decl, Items, Name, TypeDef};
 use aos_types::{Signature, TypeId, Types, may_stand};
 use std::alloc::{AllocError, Global};

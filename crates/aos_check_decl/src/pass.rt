@@ -1,8 +1,9 @@
 // The second pass over a module.
 
-ghost use Rattle.std.specs.Prelude.{◌≡◌, ◌+◌, ◌<◌, ◌≤◌, ◌^◌, length, OnOk, IfOk, IsTrue};
+ghost use Rattle.std.specs.Prelude.{◌≡◌, ◌+◌, ◌<◌, ◌≤◌, ◌^◌, ◌∷◌, [], length, OnOk, IfOk, IsTrue};
 ghost use Rattle.aos_symbols.specs.Breaches.{first_after};
 ghost use Rattle.aos_symbols.specs.Declarations.{all_type_defs};
+ghost use Rattle.aos_symbols.specs.Env as env_of;
 ghost use Rattle.aos_check_decl.specs.Told.{Tells};
 ghost use Rattle.aos_check_decl.specs.Pass as judge;
 
@@ -10,7 +11,8 @@ use crate::aliases::{Target, add_rows, numbers_of, targets_of};
 use crate::limits::limits;
 use crate::procedures::{count_types, headings};
 use aos_base::NoMemory;
-use aos_symbols::{Breach, Env, Home, Open, all_procedures, home_of};
+use aos_entries::{all_procedures, home_of};
+use aos_symbols::{Breach, Env, Home, Open};
 use aos_tree::{Decl, Items, Module};
 use aos_types::{TypeId, Types};
 use std::alloc::{AllocError, Global};
@@ -50,6 +52,18 @@ fn own_numbers(alloc: Global, first: u32, count: u32) -> Result<Vec<Option<TypeI
     Ok(numbers)
 }
 
+/// The path of a place in the module with this number, in no scope but the module's own.
+fn own_path(alloc: Global, number: u32) -> Result<Items<Open>, AllocError>
+    ensures { IfOk result (λ path. path ≡ env_of.own number ∷ []) }
+{
+    let mut path = Items::new(alloc);
+    path.push(Open {
+        home: number,
+        scope: 0,
+    })?;
+    Ok(path)
+}
+
 /// A module's environment, in which its definitions of types have these numbers, before any declaration is met.
 fn entered<'a>(
     alloc: Global,
@@ -64,12 +78,8 @@ fn entered<'a>(
         (length before.entry) before.entry types text.now tree.now numbers.now) }
 {
     let number = before.len() as u32;
+    let path = own_path(alloc, number)?;
     let here = home_of(alloc, before.as_slice(), numbers, text, tree)?;
-    let mut path = Items::new(alloc);
-    path.push(Open {
-        home: number,
-        scope: 0,
-    })?;
     Ok(Env {
         number,
         before,
@@ -95,11 +105,16 @@ fn next_number(types: &Types) -> Result<u32, NoMemory>
     }
 }
 
-/// The definitions of types of these declarations, each with its own number, of which the first is this.
-fn numbers_for(alloc: Global, first: u32, decls: &[Decl]) -> Result<Vec<Option<TypeId>>, NoMemory>
-    ensures { IfOk result (λ numbers.
-        numbers.items ≡ judge.own_numbers first (length (all_type_defs decls.now))) }
+/// The definitions of types of these declarations, each with its own number, behind those of this table.
+fn numbers_for(
+    alloc: Global,
+    types: &Types,
+    decls: &[Decl],
+) -> Result<Vec<Option<TypeId>>, NoMemory>
+    ensures { IfOk result (λ numbers. numbers.items ≡
+        judge.own_numbers (length types.now) (length (all_type_defs decls.now))) }
 {
+    let first = next_number(types)?;
     let count = count_all_types(alloc, decls)?;
     if !have_numbers(first, count as usize) {
         return Err(NoMemory);
@@ -116,11 +131,10 @@ fn first_env<'a>(
     tree: &Module,
 ) -> Result<Env<'a>, NoMemory>
     requires { length before ≤ 64 }
-    ensures { IfOk result (λ e. e ≡ judge.entered
-        (length before.entry) before.entry types text.now tree.now
-        (judge.own_numbers (length types) (length (all_type_defs tree.now.decls)))) }
+    ensures { IfOk result (λ e. e ≡ judge.first_env
+        (length before.entry) before.entry types text.now tree.now) }
 {
-    let own = numbers_for(alloc, next_number(&types)?, tree.decls.as_slice())?;
+    let own = numbers_for(alloc, &types, tree.decls.as_slice())?;
     entered(alloc, before, types, text, tree, &own)
 }
 
@@ -144,29 +158,45 @@ fn give_numbers<'a>(
     add_rows(&mut env.types, targets)
 }
 
-/// A module's environment before any of its declarations is met; the types that its declarations define have their numbers.
-fn begin<'a>(
+/// What the names for other types lead to, and the numbers of all types that the module defines, before any declaration is met.
+fn start<'a>(
     alloc: Global,
     found: &mut Option<Breach>,
-    before: Items<Home<'a>>,
-    types: Types,
+    env: &mut Env<'a>,
     text: &'a [u8],
     tree: &Module,
-) -> Result<Env<'a>, NoMemory>
-    requires { length before ≤ 64 }
-    ensures { Tells result found.old found.new (λ e. e)
-        (judge.begun (length before.entry) before.entry types text.now tree.now) }
+) -> Result<(), NoMemory>
+    requires { length env.now.before < 2 ^ 32 }
+    ensures { Tells result found.old found.new (λ _. env.new)
+        (judge.started text.now tree.now env.old) }
 {
-    let mut env = first_env(alloc, before, types, text, tree)?;
-    let targets = targets_of(alloc, found, &mut env, tree.decls.as_slice())?;
-    give_numbers(alloc, &mut env, &targets, text, tree)?;
-    Ok(env)
+    let targets = targets_of(alloc, found, env, tree.decls.as_slice())?;
+    give_numbers(alloc, env, &targets, text, tree)
+}
+
+/// What a module says, whose environment stands before its start: the names for other types, all declarations, and what is judged
+/// of its types together.
+fn fill<'a>(
+    alloc: Global,
+    found: &mut Option<Breach>,
+    env: &mut Env<'a>,
+    text: &'a [u8],
+    tree: &Module,
+) -> Result<(), NoMemory>
+    requires { length env.now.before < 2 ^ 32 }
+    ensures { Tells result found.old found.new (λ _. env.new)
+        (judge.filled text.now tree.now env.old) }
+{
+    let first = next_number(&env.types)?;
+    start(alloc, found, env, text, tree)?;
+    let decls = tree.decls.as_slice();
+    headings(alloc, found, env, decls)?;
+    limits(alloc, found, env, first, decls)
 }
 
 /// The second pass over a module behind these in load order, whose types these are: constants, types and headings, with the
 /// rules 14 to 26, and the environment behind them (Oberon-2 report, 5 to 7 and 10; Reali 2002). The
 /// first rule that is broken is taken down. Want of memory is the only error.
-#[tactic(auto, using(aos_symbols::proofs::Keeping::after_more))]
 pub fn declare<'a>(
     alloc: Global,
     found: &mut Option<Breach>,
@@ -181,10 +211,7 @@ pub fn declare<'a>(
     ensures answer { IfOk result (λ e. e ≡
         (judge.declare (length before.entry) before.entry types text.now tree.now).answer) }
 {
-    let first = next_number(&types)?;
-    let mut env = begin(alloc, found, before, types, text, tree)?;
-    let decls = tree.decls.as_slice();
-    headings(alloc, found, &mut env, decls)?;
-    limits(alloc, found, &mut env, first, decls)?;
+    let mut env = first_env(alloc, before, types, text, tree)?;
+    fill(alloc, found, &mut env, text, tree)?;
     Ok(env)
 }

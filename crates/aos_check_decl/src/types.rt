@@ -12,10 +12,12 @@ use crate::declarations::constant_defs;
 use crate::formals::procedure_type;
 use crate::objects::{add_types, place_object};
 use aos_base::{NoMemory, Pos};
-use aos_check_expr::{constant, named_type, no_type};
+use aos_check_expr::constant;
+use aos_entries::declare;
+use aos_rules::{named_type, no_type};
 use aos_symbols::{
     Breach, Claim, Env, Meaning, NOT_BUILT, NOT_CONSTANT, OBJECT_INSIDE, OPEN_ARRAY, Scope,
-    WRONG_TYPE, declare, note,
+    WRONG_TYPE, note,
 };
 use aos_tree::{Decl, Def, Expr, Fields, Items as Parts, Qualident, TypeExpr, VarDef};
 use aos_typed::Literal;

@@ -32,12 +32,13 @@ use Rattle.aos_operators.specs.declared.known.Class.TheVariants as class
 use Rattle.aos_operators.specs.declared.known.Known.{Known}
 use Rattle.aos_operators.specs.Known.{Answer, is_nil, is_basic, object_number, type_as, as_procedure}
 use Rattle.aos_types.specs.Signature.{same_signature, same_parameters}
-use Rattle.aos_check_expr.specs.Signatures.{formal, given_by, row_signature, type_signature}
-use Rattle.aos_types.specs.Signature as signatures
 use Rattle.aos_operators.proofs.Inside.{Inside, IsOf, IsNamed}
+use Rattle.aos_types.specs.Signature as signatures
 use Rattle.aos_operators.proofs.Types.{not_both, as_named, id_as, id_above}
 use Rattle.aos_operators.proofs.Sound.{IsScalar, IsClosedPlace, IsOpenPlace, IsWholeRead, IsCallable, IsOther, IsSound}
-use Rattle.aos_check_expr.specs.Designators as desig
+use Rattle.aos_rules.specs.Signatures.{formal, given_by, row_signature, type_signature}
+use Rattle.aos_rules.specs.Assignable as assignable
+use Rattle.aos_designators.specs.Designators as desig
 use Rattle.aos_check_expr.proofs.Whole.{IsWhole, IsParameterType, AreParameters, IsResultOf, IsSigned, parameter_type, told_element, opened_row}
 use Rattle.aos_check_expr.proofs.Naming.{IsNaming}
 use Rattle.aos_check_expr.proofs.Agreeing.{agree, agree_itself, results}
@@ -274,12 +275,12 @@ module _ (p : Inside) (e : Env) (whole : IsWhole p e) where
   signed_by (Some s) (Some r) = same_signature e.types s r
   signed_by s r = false
 
-  signed_is : (t : TypeId) (m n : ℕ) (o w : Option Signature) → env.signature e m n ≡ o → type_signature e t ≡ w → desig.is_signed_as e t m n ≡ signed_by o w
+  signed_is : (t : TypeId) (m n : ℕ) (o w : Option Signature) → env.signature e m n ≡ o → type_signature e t ≡ w → assignable.is_signed_as e t m n ≡ signed_by o w
   signed_is t m n (Some s) (Some r) i j = rw (i, j) refl
   signed_is t m n (Some s) None i j = rw (i, j) refl
   signed_is t m n None w i j = rw i refl
 
-  named_fits : (t : TypeId) (m n : ℕ) (x : Expr) → desig.is_signed_as e t m n ≡ true → IsNaming p e (class.Procedure m n) x → IsOf p x (type_as t)
+  named_fits : (t : TypeId) (m n : ℕ) (x : Expr) → assignable.is_signed_as e t m n ≡ true → IsNaming p e (class.Procedure m n) x → IsOf p x (type_as t)
   named_fits t m n x is naming = by (env.signature e m n) refl (type_signature e t) refl
     where
       by : (o : Option Signature) → env.signature e m n ≡ o → (w : Option Signature) → type_signature e t ≡ w → IsOf p x (type_as t)
@@ -293,7 +294,7 @@ module _ (p : Inside) (e : Env) (whole : IsWhole p e) where
       by None i w j = absurd (not_both (sym is ∙ signed_is t m n None w i j))
 
   -- the type that it fits is a procedure type
-  signed_procedural : (t : TypeId) (m n : ℕ) → desig.is_signed_as e t m n ≡ true → desig.is_procedural e t ≡ true
+  signed_procedural : (t : TypeId) (m n : ℕ) → assignable.is_signed_as e t m n ≡ true → desig.is_procedural e t ≡ true
   signed_procedural t m n is = by (type_signature e t) refl
     where
       by : (w : Option Signature) → type_signature e t ≡ w → desig.is_procedural e t ≡ true
@@ -307,11 +308,11 @@ module _ (p : Inside) (e : Env) (whole : IsWhole p e) where
           at None i = absurd (not_both (sym is ∙ signed_is t m n None None i j))
 
   -- what may be assigned to a variable that is of no procedure type is compatible with it
-  pub assignable_compatible : (t : TypeId) → desig.is_procedural e t ≡ false → (k : Known) → desig.is_assignable e k (Some t) ≡ true →
-      desig.is_compatible e k.of (Some t) ≡ true
+  pub assignable_compatible : (t : TypeId) → desig.is_procedural e t ≡ false → (k : Known) → assignable.is_assignable e k (Some t) ≡ true →
+      assignable.is_compatible e k.of (Some t) ≡ true
   assignable_compatible t other k = by k.class
     where
-      by : (c : Class) → desig.is_assignable e (record { of = k.of; class = c }) (Some t) ≡ true → desig.is_compatible e k.of (Some t) ≡ true
+      by : (c : Class) → assignable.is_assignable e (record { of = k.of; class = c }) (Some t) ≡ true → assignable.is_compatible e k.of (Some t) ≡ true
       by (class.Procedure m n) is = absurd (not_both (sym (signed_procedural t m n is) ∙ other))
       by (class.Constant v) is = is
       by class.Unknown is = is
@@ -346,11 +347,11 @@ module _ (p : Inside) (e : Env) (whole : IsWhole p e) where
         by (inl n) = absurd (not_both (sym (sound.none (nil_row p e whole sound.of (is_nil_row p e whole (row_of e.types sound.of) f there n))) ∙ some))
         by (inr h) = heading_of f there h
 
-    compatible_of : is_nil v.known.class ≡ false → desig.is_compatible e v.known.of (Some t) ≡ true → IsOf p v.typed (type_as t)
+    compatible_of : is_nil v.known.class ≡ false → assignable.is_compatible e v.known.of (Some t) ≡ true → IsOf p v.typed (type_as t)
     compatible_of some is = by (either_is (same e.types sound.of t || extends e.types sound.of t) (fit.fits_rows e.types (row_of e.types sound.of) (row_of e.types t)) fits)
       where
         fits : fit.fits e.types sound.of t ≡ true
-        fits = (by_table p e whole sound.of t (procedural_low t two.0 two.1 two.2) (sym (ap (λ o. desig.is_compatible e o (Some t)) sound.known) ∙ is)).2
+        fits = (by_table p e whole sound.of t (procedural_low t two.0 two.1 two.2) (sym (ap (λ o. assignable.is_compatible e o (Some t)) sound.known) ∙ is)).2
 
         shut : element_of (row_of e.types t) ≡ None
         shut = ap element_of two.2
@@ -369,10 +370,10 @@ module _ (p : Inside) (e : Env) (whole : IsWhole p e) where
         by (inl one) = alike (either_is (same e.types sound.of t) (extends e.types sound.of t) one)
         by (inr rows_fit) = rows (row_of e.types sound.of) refl (sym (ap (fit.fits_rows e.types (row_of e.types sound.of)) two.2) ∙ rows_fit)
 
-    procedural_of : IsNaming p e v.known.class v.typed → desig.is_assignable e v.known (Some t) ≡ true → IsOf p (as_procedure v) (type_as t)
+    procedural_of : IsNaming p e v.known.class v.typed → assignable.is_assignable e v.known (Some t) ≡ true → IsOf p (as_procedure v) (type_as t)
     procedural_of naming is = by (is_nil v.known.class) refl
       where
-        of_class : (c : Class) → IsNaming p e c v.typed → desig.is_assignable e (record { of = v.known.of; class = c }) (Some t) ≡ true → is_nil v.known.class ≡ false → IsOf p v.typed (type_as t)
+        of_class : (c : Class) → IsNaming p e c v.typed → assignable.is_assignable e (record { of = v.known.of; class = c }) (Some t) ≡ true → is_nil v.known.class ≡ false → IsOf p v.typed (type_as t)
         of_class (class.Procedure m n) naming is some = named_fits t m n v.typed is naming
         of_class (class.Constant l) naming is some = compatible_of some is
         of_class class.Unknown naming is some = compatible_of some is
@@ -384,7 +385,7 @@ module _ (p : Inside) (e : Env) (whole : IsWhole p e) where
         by true none = no_procedure
         by false some = of_class v.known.class naming is some
 
-  pub procedural_fits : (t : TypeId) → desig.is_procedural e t ≡ true → (v : Answer) → IsPart p e v → desig.is_assignable e v.known (Some t) ≡ true →
+  pub procedural_fits : (t : TypeId) → desig.is_procedural e t ≡ true → (v : Answer) → IsPart p e v → assignable.is_assignable e v.known (Some t) ≡ true →
       (is_value_type p.program.types (type_as t) ≡ true) × IsOf p (as_procedure v) (type_as t)
   procedural_fits t procedural v x is =
       let r = procedural_row t procedural in

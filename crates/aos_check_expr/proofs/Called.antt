@@ -19,12 +19,12 @@ use Rattle.aos_symbols.specs.Env as env
 use Rattle.aos_operators.proofs.Inside.{Inside, IsOf, IsCalled}
 use Rattle.aos_operators.specs.Known.{object_number, type_as}
 use Rattle.aos_operators.proofs.Types.{not_both, id_above}
-use Rattle.aos_check_expr.specs.declared.designators.Head.{Head}
-use Rattle.aos_check_expr.specs.declared.signatures.Heading.{Heading}
-use Rattle.aos_check_expr.specs.declared.signatures.Heading.TheVariants as heading
-use Rattle.aos_check_expr.specs.Signatures.{signature_of}
+use Rattle.aos_designators.specs.declared.designators.Head.{Head}
+use Rattle.aos_designators.specs.declared.methods.Heading.{Heading}
+use Rattle.aos_designators.specs.declared.methods.Heading.TheVariants as heading
+use Rattle.aos_designators.specs.Methods.{Bound}
+use Rattle.aos_check_expr.specs.Expressions.{signature_of}
 use Rattle.aos_check_expr.specs.Expressions as judge
-use Rattle.aos_check_expr.specs.Expressions.{Bound}
 use Rattle.aos_check_expr.proofs.Whole.{IsSigned, IsWhole}
 use Rattle.aos_check_expr.proofs.Callable.{signature_row, procedural_named, pattern_signed}
 use Rattle.aos_check_expr.proofs.Selves.{object_made, object_named, object_there, self_typed}

@@ -20,7 +20,8 @@ use Rattle.aos_operators.proofs.Inside.{Inside}
 use Rattle.aos_operators.specs.Known.{is, is_basic, is_integer, is_long_text, fits_type, type_as}
 use Rattle.aos_operators.proofs.Types.{not_both, same_type, integer_basic}
 use Rattle.aos_operators.proofs.Sound.{TakesObject}
-use Rattle.aos_check_expr.specs.Designators as desig
+use Rattle.aos_rules.specs.Assignable as assignable
+use Rattle.aos_designators.specs.Designators as desig
 use Rattle.aos_check_expr.proofs.Whole.{IsWhole, IsWritten}
 use Rattle.aos_check_expr.proofs.Objects.{either_is, first_is, IsMadeAs, IsReference, row_high, high_target, pointer_kind, object_kind, reference_kind, reference_typed, fits_itself}
 use Rattle.aos_check_expr.proofs.Pointed.{predeclared_unique, comes_object}
@@ -36,7 +37,7 @@ fit_low t u fit low = by (is_integer t) refl (is_integer u) refl fit
 
 module _ (p : Inside) (e : Env) (whole : IsWhole p e) where
   abbrev Fit : TypeId → TypeId → Type 0
-  Fit from to = desig.is_compatible e (Some from) (Some to) ≡ true
+  Fit from to = assignable.is_compatible e (Some from) (Some to) ≡ true
 
   -- the table decides where neither is basic
   pub by_table : (from to : TypeId) → is_basic to ≡ false → Fit from to → (is_basic from ≡ false) × (is_long_text from ≡ false) × (fits_of e.types from to ≡ true)

@@ -3,10 +3,6 @@ use Rattle.std.proofs.Common.{◌≡◌, ℕ, zero, suc, ◌+◌, ◌≤◌, ◌
 use Rattle.std.proofs.lemmas.Option.{none-some, same_Some}
 use Rattle.std.proofs.lemmas.List.{drop_all}
 use Rattle.aos_tree.specs.declared.expr.Expr.{Expr, out-Expr}
-use Rattle.aos_typed.specs.declared.tree.TArgument.{TArgument}
-use Rattle.aos_typed.specs.declared.tree.TArgument.TheVariants as argument
-use Rattle.aos_typed.specs.Program.{Arguments}
-use Rattle.aos_typed.specs.Seen.{seen_argument, seen_list}
 use Rattle.aos_types.specs.declared.signature.Parameter.{Parameter}
 use Rattle.aos_symbols.specs.declared.env.Env.{Env}
 use Rattle.aos_symbols.specs.declared.breach.Breach.{Breach}
@@ -14,8 +10,8 @@ use Rattle.aos_symbols.specs.Breaches.{first_after}
 use Rattle.aos_symbols.specs.Judged.{Judged, kept, bind}
 use Rattle.aos_symbols.proofs.Keeping.{after_more, after_two}
 use Rattle.aos_operators.specs.Known.{Answer}
-use Rattle.aos_check_expr.specs.Arguments.{desig_alone, given_as, listed, Handing, handed, handed_from}
-use Rattle.aos_check_expr.specs.Seen.{seen_given}
+use Rattle.aos_rules.specs.Arguments.{Handing, handed}
+use Rattle.aos_check_expr.specs.Expressions.{desig_alone, handed_from}
 
 drop_some : {X : Type 0} (xs : List X) (i : ℕ) (x : X) → slice_get xs i ≡ Some x → drop i xs ≡ x ∷ drop (suc i) xs
 drop_some [] i x is = absurd (none-some x is)
@@ -28,15 +24,6 @@ drop_none [] zero out = refl
 drop_none [] (suc i) out = refl
 drop_none (x ∷ xs) zero out = absurd (none-some x (sym out))
 drop_none (x ∷ xs) (suc i) out = drop_none xs i out
-
-as_given : (a : TArgument) (more : Arguments) → seen_argument a more ≡ given_as (seen_given a) more
-as_given (argument.Scalar e) more = refl
-as_given (argument.Whole p) more = refl
-as_given (argument.Opening r) more = refl
-
-pub as_listed : (as' : List TArgument) → seen_list as' ≡ listed (map seen_given as')
-as_listed [] = refl
-as_listed (a ∷ as') = as_given a (seen_list as') ∙ ap (λ more. given_as (seen_given a) more) (as_listed as')
 
 module _ (e : Env) (f : Expr → Judged Answer) where
   -- behind the first i arguments

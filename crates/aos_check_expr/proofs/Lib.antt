@@ -17,9 +17,6 @@ pub mod Worded
 pub mod Passed
 pub mod CallParts
 pub mod Typing
-pub mod Order
-pub mod Dimensions
 pub mod Handed
 pub mod Initials
-pub mod First
 pub mod Uncalled

@@ -23,7 +23,7 @@ use Rattle.aos_operators.proofs.Inside.{Inside, IsOf}
 use Rattle.aos_operators.specs.Known.{Answer, is, is_basic, is_of_any, type_as}
 use Rattle.aos_operators.proofs.Types.{not_both, same_type, basic_cases, integer_cases, as_named, id_above}
 use Rattle.aos_operators.proofs.Sound.{IsScalar, IsClosedPlace, IsOpenPlace, IsWholeRead, IsOther, IsObject, IsCallable, IsNamedAs, IsRoutine, TakesObject, IsSound}
-use Rattle.aos_check_expr.specs.Designators as desig
+use Rattle.aos_designators.specs.Designators as desig
 use Rattle.aos_check_expr.proofs.Whole.{IsWhole, IsWritten}
 
 pub either_is : (a b : Bool) → (a || b) ≡ true → (a ≡ true) ⊎ (b ≡ true)

@@ -41,12 +41,14 @@ use Rattle.aos_operators.proofs.Types.{same_type, id_above, as_named, as_basic, 
 use Rattle.aos_operators.proofs.Good.{IsGood, IsKnownClass}
 use Rattle.aos_operators.proofs.Stored.{IsStored}
 use Rattle.aos_operators.proofs.Sound.{not_both, IsScalar, IsClosedPlace, IsOpenPlace, IsWholeRead, IsOther, IsSound, scalar_of}
-use Rattle.aos_check_expr.specs.declared.signatures.Heading.{Heading}
-use Rattle.aos_check_expr.specs.Signatures.{signature_of}
-use Rattle.aos_check_expr.specs.Designators.{has_parts, is_opened, is_record_type, is_reference, is_procedural, is_value, is_compatible, is_assignable, typed_for, names_type, with_type, place_in}
-use Rattle.aos_check_expr.specs.Arrays as arrays
-use Rattle.aos_check_expr.specs.Arguments as judge
-use Rattle.aos_check_expr.specs.Arguments.{Given, Scalar, Whole, Opening, Handing, given_as, listed}
+use Rattle.aos_operators.specs.Kinds.{has_parts, is_opened, is_record_type, is_reference, is_procedural, is_value}
+use Rattle.aos_operators.specs.Places.{place_in}
+use Rattle.aos_rules.specs.Assignable.{is_compatible, is_assignable, typed_for}
+use Rattle.aos_rules.specs.Arguments.{names_type, with_type, Given, Scalar, Whole, Opening, Handing, given_as, listed}
+use Rattle.aos_rules.specs.Arrays as arrays
+use Rattle.aos_rules.specs.Arguments as judge
+use Rattle.aos_designators.specs.declared.methods.Heading.{Heading}
+use Rattle.aos_check_expr.specs.Expressions.{signature_of}
 use Rattle.aos_check_expr.specs.Expressions as calls
 use Rattle.aos_check_expr.proofs.Opens.{closed_row, all_behind, closed_dimensions, closed_element, next_dimensions, next_element}
 use Rattle.aos_check_expr.proofs.Whole.{IsWritten}
@@ -607,15 +609,15 @@ module _ (p : Inside) (e : Env) where
       (y : Given) × (g.given ≡ h.given ++ y ∷ []) × ((more : Arguments) (rest : List Parameter) → AreArguments p more rest → AreArguments p (given_as y more) (a ∷ rest)))
 
   handed_part : (ps : List Formal) (js : List (Judged Answer)) → Each (Holds (Part p e)) js → (xs : List Expr) (h : Handing) → length ps ≡ length xs → length js ≡ length xs →
-      Holds (Handed h ps) (judge.handed_from e h ps js xs)
+      Holds (Handed h ps) (calls.handed_from e h ps js xs)
   handed_part [] js parts [] h many same = λ none. (refl, λ whole as' are. ([], sym (append-nil h.given), are))
   handed_part [] js parts (x ∷ xs) h many same = absurd (omega (arith, many))
   handed_part (f ∷ ps) js parts [] h many same = absurd (omega (arith, many))
   handed_part (f ∷ ps) [] parts (x ∷ xs) h many same = absurd (omega (arith, same))
   handed_part (f ∷ ps) (j ∷ js) parts (x ∷ xs) h many same =
-      let d = is_some (judge.desig_alone x) in
+      let d = is_some (calls.desig_alone x) in
       let at = (out-Expr x).pos in
-      holds_bind (One h f) (Handed h (f ∷ ps)) (bind j (λ a. judge.handed e h f d at a)) (λ g. judge.handed_from e g ps js xs)
+      holds_bind (One h f) (Handed h (f ∷ ps)) (bind j (λ a. judge.handed e h f d at a)) (λ g. calls.handed_from e g ps js xs)
       (holds_bind (Part p e) (One h f) j (λ a. judge.handed e h f d at a) parts.0 (λ a part none. one d a part (no_breach (judge.argument_rule e f d a.known) at none)))
       (λ g is none. all g is (handed_part ps js parts.1 xs g (omega (arith, many)) (omega (arith, same)) none))
     where
@@ -655,7 +657,7 @@ module _ (p : Inside) (e : Env) where
     where
       by : (b : Bool) → (length ps == length xs) ≡ b →
           Holds (λ (g : Handing). (g.are_kept ≡ true) × (IsWhole p e → (as' : List Parameter) → AreParameters e ps as' → AreArguments p (listed g.given) as'))
-          (if b then judge.handed_from e (judge.nothing_handed true) ps js xs else judged (breach 34 first) (judge.nothing_handed false))
+          (if b then calls.handed_from e (judge.nothing_handed true) ps js xs else judged (breach 34 first) (judge.nothing_handed false))
       by true many = λ none.
           let r = handed_part ps js parts xs (judge.nothing_handed true) (eqb-true (length ps) (length xs) many) same none in
           (r.0, λ whole as' are. let g = r.1 whole as' are in subst (λ l. AreArguments p (listed l) as') (sym g.1) g.2)

@@ -25,7 +25,7 @@ use Rattle.aos_operators.proofs.Inside.{Inside, IsOf}
 use Rattle.aos_operators.specs.Known.{is, is_basic, is_of_any, type_as, object_number}
 use Rattle.aos_operators.proofs.Types.{not_both, same_type, as_named, id_above}
 use Rattle.aos_operators.proofs.Sound.{IsObject, TakesObject}
-use Rattle.aos_check_expr.specs.Designators as desig
+use Rattle.aos_designators.specs.Designators as desig
 use Rattle.aos_check_expr.proofs.Opens.{OpensFall, open_is, next_dimensions, next_element}
 use Rattle.aos_check_expr.proofs.Whole.{IsTyped, closed, opened, IsWhole, IsWritten, opened_row, elements_id}
 use Rattle.aos_check_expr.proofs.Objects.{either_is, first_is, IsMadeAs, IsReference, row_high, high_row, high_target, pointer_kind, reference_kind, reference_typed, of_own_type, of_any_type}

@@ -20,8 +20,11 @@ use Rattle.aos_symbols.specs.declared.env.Env.{Env}
 use Rattle.aos_symbols.specs.Judged.{Judged, bind, walk}
 use Rattle.aos_operators.specs.Known.{Answer, Spot}
 use Rattle.aos_operators.specs.Operations.{no_elements}
-use Rattle.aos_check_expr.specs.Designators.{plain, read}
-use Rattle.aos_check_expr.specs.Expressions.{expr, relation, relation_if, simple, addition, additions, term, product, products, factor, elements, element, Part, Begun, spot_of_part, selected, as_part, designator, selectors, selector, indices, index, indexed, arguments, bracketed, added, is_test, tested, qualident_in, related_by, signed, opposite, whole_set, with_element, with_span}
+use Rattle.aos_operators.specs.Forms.{added, is_test, signed, opposite, whole_set, with_element, with_span}
+use Rattle.aos_rules.specs.Relations.{tested, related_by}
+use Rattle.aos_designators.specs.Designators.{plain, read}
+use Rattle.aos_designators.specs.Methods.{Part, Begun, spot_of_part, selected, as_part}
+use Rattle.aos_check_expr.specs.Expressions.{expr, relation, relation_if, simple, addition, additions, term, product, products, factor, elements, element, designator, selectors, selector, indices, index, indexed, arguments, bracketed, qualident_in}
 
 -- a list of two
 pub two_items : {X : Type 0} (xs : List X) (x y d d' : X) → 2 ≤ length xs → length xs < 3 → x ≡ get_or xs 0 d → y ≡ get_or xs 1 d' → xs ≡ x ∷ y ∷ []

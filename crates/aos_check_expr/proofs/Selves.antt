@@ -23,7 +23,7 @@ use Rattle.aos_operators.proofs.Inside.{Inside, IsOf}
 use Rattle.aos_operators.specs.Known.{is_basic, is_of_any, object_number, type_as}
 use Rattle.aos_operators.proofs.Types.{not_both, as_named, id_as, id_above}
 use Rattle.aos_operators.proofs.Sound.{IsObject}
-use Rattle.aos_check_expr.specs.Designators as desig
+use Rattle.aos_designators.specs.Designators as desig
 use Rattle.aos_check_expr.proofs.Whole.{IsTyped, closed, IsFieldScope, IsWhole}
 use Rattle.aos_check_expr.proofs.Objects.{IsMadeAs, row_high, high_row, object_kind, reference_typed, of_own_type}
 

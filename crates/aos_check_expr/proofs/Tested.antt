@@ -28,8 +28,8 @@ use Rattle.aos_operators.proofs.Types.{not_both, same_type}
 use Rattle.aos_operators.proofs.Good.{IsGood, IsKnownClass, joint_good, class_of_known}
 use Rattle.aos_operators.proofs.Stored.{IsMade, not_stored, made_of}
 use Rattle.aos_operators.proofs.Sound.{IsScalar, IsClosedPlace, IsOpenPlace, IsWholeRead, IsOther, IsSound, plain_sound, answered_plain}
-use Rattle.aos_check_expr.specs.Designators as desig
-use Rattle.aos_check_expr.specs.TypeNames.{last_name}
+use Rattle.aos_rules.specs.TypeNames.{last_name}
+use Rattle.aos_designators.specs.Designators as desig
 use Rattle.aos_check_expr.specs.Expressions as judge
 use Rattle.aos_check_expr.proofs.Naming.{naming_made}
 use Rattle.aos_check_expr.proofs.Parts.{class_answered, related_objects}

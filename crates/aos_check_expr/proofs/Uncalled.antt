@@ -60,12 +60,12 @@ use Rattle.aos_operators.specs.declared.operations.Step.{Step}
 use Rattle.aos_operators.specs.declared.operations.Operation.{Operation}
 use Rattle.aos_operators.specs.Known.{Answer, Spot, Held, Stands, Value, read_from, type_as, typed_as, is_basic, is_nil, is_number, value_class, as_procedure}
 use Rattle.aos_operators.specs.Operations as op
-use Rattle.aos_check_expr.specs.declared.calls.Taking.TheVariants as taking
-use Rattle.aos_check_expr.specs.declared.designators.Head.{Head}
-use Rattle.aos_check_expr.specs.declared.signatures.Heading.{Heading}
-use Rattle.aos_check_expr.specs.declared.signatures.Heading.TheVariants as heading
-use Rattle.aos_check_expr.specs.Arguments.{Given}
-use Rattle.aos_check_expr.specs.Designators as desig
+use Rattle.aos_rules.specs.declared.functions.Taking.TheVariants as taking
+use Rattle.aos_rules.specs.Arguments.{Given}
+use Rattle.aos_designators.specs.declared.designators.Head.{Head}
+use Rattle.aos_designators.specs.declared.methods.Heading.{Heading}
+use Rattle.aos_designators.specs.declared.methods.Heading.TheVariants as heading
+use Rattle.aos_designators.specs.Designators as desig
 use Rattle.aos_check_expr.specs.Expressions as judge
 
 -- What calls nothing.

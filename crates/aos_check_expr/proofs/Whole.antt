@@ -43,7 +43,7 @@ use Rattle.aos_operators.proofs.Inside.{Inside, IsPlaceOf, AreRows}
 use Rattle.aos_operators.specs.Known.{Spot, is_basic, object_number, type_as, type_of}
 use Rattle.aos_operators.proofs.Good.{HasGood}
 use Rattle.aos_operators.proofs.Types.{not_both, id_as}
-use Rattle.aos_check_expr.specs.Designators as desig
+use Rattle.aos_designators.specs.Designators as desig
 use Rattle.aos_check_expr.proofs.Opens.{OpensFall, OpensStand, IsVariableNumber, some_there, behind_all}
 
 -- a variable has the type that is known of it, or is an open array, with its rows

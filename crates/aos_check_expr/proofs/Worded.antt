@@ -45,7 +45,8 @@ use Rattle.aos_operators.proofs.Types.{same_type}
 use Rattle.aos_operators.proofs.Good.{IsGood, MayBe, IsKnownClass, natural_below, joint_good, class_of_known}
 use Rattle.aos_operators.proofs.Stored.{IsMade, not_stored, made_of}
 use Rattle.aos_operators.proofs.Sound.{not_both, IsScalar, IsClosedPlace, IsOpenPlace, IsWholeRead, IsOther, IsObject, IsRoutine, IsSound, basic_some, plain_sound, answered_plain}
-use Rattle.aos_check_expr.specs.Designators.{place_in, is_opened, rows_of}
+use Rattle.aos_operators.specs.Places.{place_in, rows_of}
+use Rattle.aos_operators.specs.Kinds.{is_opened}
 use Rattle.aos_check_expr.specs.Expressions as judge
 use Rattle.aos_check_expr.proofs.Opens.{closed_row, closed_dimensions, closed_element, next_dimensions, next_element}
 use Rattle.aos_check_expr.proofs.Naming.{naming_made}

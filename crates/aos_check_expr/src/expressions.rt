@@ -6,23 +6,17 @@ ghost use Rattle.aos_symbols.specs.Breaches.{first_after};
 ghost use Rattle.aos_symbols.specs.Judged.{walk};
 ghost use Rattle.aos_operators.specs.Operations as operations;
 ghost use Rattle.aos_operators.specs.Seen.{seen_answer, seen_spot};
+ghost use Rattle.aos_designators.specs.Seen.{seen_bound, seen_part};
+ghost use Rattle.aos_rules.specs.Seen.{seen_handing};
 ghost use Rattle.aos_check_expr.specs.Expressions as judge;
-ghost use Rattle.aos_check_expr.specs.Seen.{seen_bound, seen_handing, seen_part};
 
-use crate::arguments::{Handing, hand, nothing_handed};
-use crate::calls::{
-    Limit, Taking, desig_alone, function_value, guard_type, limit_called, not_called, qualident_in,
-    step_in, value_of_one, value_of_two,
-};
-use crate::designators::{Head, is_module, named, plain, read};
-use crate::lengths::{len_alone, len_in};
-use crate::methods::{Bound, Part, bound_part, followed_part, pointed, selected, spot_of_part};
-use crate::references::guarded;
-use crate::relations::{related, tested};
-use crate::selectors::element as element_of;
-use crate::signatures::{Heading, signature_at};
-use crate::variables::is_of_module;
+use crate::calls::{desig_alone, guard_type, limit_called, not_called, qualident_in};
+use crate::signatures::signature_at;
 use aos_base::Pos;
+use aos_designators::{
+    Bound, Head, Heading, Part, bound_part, element as element_of, followed_part, guarded,
+    is_module, is_of_module, named, plain, pointed, read, selected, spot_of_part,
+};
 use aos_made::MadeCallee;
 use aos_operators::forms::{
     added, byte_of, character, is_test, multiplied, number, opposite, signed, string, whole_set,
@@ -30,6 +24,10 @@ use aos_operators::forms::{
 };
 use aos_operators::{
     Answer, Spot, constant_answer, is_integer, operations, refused, refused_value, spot_of,
+};
+use aos_rules::{
+    Handing, Limit, Taking, function_value, hand, len_alone, len_in, nothing_handed, related,
+    step_in, tested, value_of_one, value_of_two,
 };
 use aos_symbols::{
     ARGUMENT_COUNT, Breach, Env, Function, Lookup, Meaning, NOT_CONSTANT, Symbol, WRONG_CALL, note,

@@ -1,62 +1,14 @@
 // The signatures of what is called: of procedures, and of procedure types.
 
-ghost use Rattle.std.specs.Prelude.{◌≡◌, IfOk, map};
+ghost use Rattle.std.specs.Prelude.{◌≡◌, IfOk};
 ghost use Rattle.aos_symbols.specs.Env as scopes;
-ghost use Rattle.aos_check_expr.specs.Signatures as judge;
+ghost use Rattle.aos_check_expr.specs.Expressions as judge;
 
+use aos_designators::Heading;
+use aos_rules::type_signature;
 use aos_symbols::Env;
-use aos_types::{Gives, Items, Parameter, Signature, TypeId, TypeRow};
+use aos_types::{Items, Parameter, Signature};
 use std::alloc::{AllocError, Global};
-
-/// Where the signature of what is called stands: it is that of a procedure, by the number of the module that declares it and its own
-/// among that module's signatures, or that of a procedure type.
-#[derive(Clone, Copy)]
-pub enum Heading {
-    Declared(u32, u32),
-    OfType(TypeId),
-}
-
-/// The parameters of the procedures that have these formals.
-fn formals_of(alloc: Global, formals: &[(bool, TypeId)]) -> Result<Items<Parameter>, AllocError>
-    ensures { IfOk result (λ ps. ps ≡ map judge.formal formals.now) }
-{
-    let mut parameters = Items::new(alloc);
-    for formal in formals {
-        parameters.push(Parameter {
-            by_reference: formal.0,
-            of: Some(formal.1),
-        })?;
-    }
-    Ok(parameters)
-}
-
-/// What the procedures give that have this result.
-fn given_by(given: Option<TypeId>) -> Gives
-    ensures { result ≡ judge.given_by given }
-{
-    match given {
-        None => Gives::Nothing,
-        Some(of) => Gives::Value(Some(of)),
-    }
-}
-
-/// The signature of a procedure type, where the type is one.
-pub fn type_signature(
-    alloc: Global,
-    env: &Env<'_>,
-    of: TypeId,
-) -> Result<Option<Signature>, AllocError>
-    ensures { IfOk result (λ s. s ≡ judge.type_signature env.now of) }
-{
-    match env.row(Some(of)) {
-        Some(TypeRow::Procedure(formals, given)) => Ok(Some(Signature {
-            parameters: formals_of(alloc, formals.as_slice())?,
-            gives: given_by(*given),
-            is_initializer: false,
-        })),
-        _ => Ok(None),
-    }
-}
 
 /// The same parameters once more.
 fn copied(alloc: Global, all: &[Parameter]) -> Result<Items<Parameter>, AllocError>

@@ -5,9 +5,6 @@ use Rattle.aos_base.specs.declared.text.Pos.{Pos}
 use Rattle.aos_tree.specs.declared.name.Name.{Name}
 use Rattle.aos_tree.specs.declared.name.Qualident.{Qualident}
 use Rattle.aos_tree.specs.declared.expr.Expr.{Expr as TreeExpr}
-use Rattle.aos_tree.specs.declared.expr.Desig.{Desig}
-use Rattle.aos_tree.specs.declared.expr.Selector.{Selector, items_hidden-the_row-Expr-4}
-use Rattle.aos_tree.specs.declared.expr.Selector.TheVariants as s
 use Rattle.aos_tree.specs.declared.stat.Block.{Block}
 use Rattle.aos_tree.specs.declared.stat.Elsif.{Elsif}
 use Rattle.aos_tree.specs.declared.stat.Case.{Case}
@@ -28,13 +25,14 @@ use Rattle.aos_typed.specs.declared.tree.TExpr.{TExpr}
 use Rattle.aos_typed.specs.declared.tree.TElse.{TElse}
 use Rattle.aos_symbols.specs.declared.env.Env.{Env}
 use Rattle.aos_symbols.specs.declared.breach.Breach.{Breach}
-use Rattle.aos_symbols.specs.Breaches.{breach, first_after}
+use Rattle.aos_symbols.specs.Breaches.{first_after}
 use Rattle.aos_symbols.specs.Judged.{Judged, judged, kept, bind, walk}
 use Rattle.aos_symbols.proofs.Keeping.{after_more}
 use Rattle.aos_operators.specs.Known.{width_of}
-use Rattle.aos_check_expr.specs.Designators.{guard}
-use Rattle.aos_check_expr.specs.Expressions.{condition, known_type}
-use Rattle.aos_check_stat.specs.Bodies.{listed, modifier_breaches, are_exclusive, within_block, called_last, called_before, ended, Labels, label_in, selector, control, fitting, step_of, with_variable, narrowed_by, with_stat, stat_of, stat_in, stats_in, else_in, case_else_in, elsifs_in, cases_in}
+use Rattle.aos_rules.specs.TypeNames.{known_type}
+use Rattle.aos_designators.specs.Designators.{guard}
+use Rattle.aos_check_expr.specs.Expressions.{condition}
+use Rattle.aos_check_stat.specs.Bodies.{listed, modifier_breaches, are_exclusive, within_block, Labels, label_in, selector, control, fitting, step_of, with_variable, narrowed_by, with_stat, stat_of, stat_in, stats_in, else_in, case_else_in, elsifs_in, cases_in}
 use Rattle.aos_check_stat.specs.Listed as parts
 use Rattle.aos_made_stat.specs.Onto.{onto}
 
@@ -179,22 +177,6 @@ pub onto_all : (bs : List TArm) (ss : Stats) → arms_of bs ss ≡ onto bs (Othe
 onto_all [] ss = refl
 onto_all (a ∷ bs) ss = let x = out-TArm a in ap (λ z. Arm (seen_expr x.test) (seen_stats x.body.items) z) (onto_all bs ss)
 
--- what stands behind a call is refused behind what the call breaks, and the call stays
-pub ended_noted : (met : Option Breach) (first : Pos) (xs : List Selector) (j : Judged (Option Stat)) →
-    first_after (first_after met j.breaches) (ended first xs (kept None)).breaches ≡ first_after met (ended first xs j).breaches
-ended_noted met first [] j = refl
-ended_noted met first (s.Field p n ∷ more) j = sym (after_more met j.breaches (breach 42 p))
-ended_noted met first (s.Index' p shape row ∷ more) j = sym (after_more met j.breaches (breach 42 p))
-ended_noted met first (s.Follow p ∷ more) j = sym (after_more met j.breaches (breach 42 p))
-ended_noted met first (s.Paren' p shape row ∷ more) j = sym (after_more met j.breaches (breach 36 first))
-
-pub ended_answer : (first : Pos) (xs : List Selector) (j : Judged (Option Stat)) → (ended first xs j).answer ≡ j.answer
-ended_answer first [] j = refl
-ended_answer first (s.Field p n ∷ more) j = refl
-ended_answer first (s.Index' p shape row ∷ more) j = refl
-ended_answer first (s.Follow p ∷ more) j = refl
-ended_answer first (s.Paren' p shape row ∷ more) j = refl
-
 -- the code's statements are seen as the list of what each is seen as
 pub stats_seen : (ss : List TStat) → seen_stats ss ≡ listed (map seen_stat ss)
 stats_seen [] = refl
@@ -308,7 +290,3 @@ module _ (e : Env) (in_loop : Bool) where
       ∙ more l
       ∙ ap (λ t. (parts.cases_of e in_loop t [] xs l).answer) of_is))
       ∙ sym (ap (λ j. j.answer) (stat_case e in_loop x p c xs o is))
-
--- a call with a bracket that stands last
-pub called_bracket : (e : Env) (d : Desig) (x : Selector) (p : Pos) (es : List TreeExpr) → x ≡ s.Paren p es → called_last e d (Some x) ≡ called_before e d p es
-called_bracket e d x p es same = ap (λ y. called_last e d (Some y)) same ∙ ap (called_before e d p) (items_hidden-the_row-Expr-4 es)

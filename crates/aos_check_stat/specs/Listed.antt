@@ -16,8 +16,9 @@ use Rattle.aos_symbols.specs.declared.env.Env.{Env}
 use Rattle.aos_symbols.specs.Judged.{Judged, judged, kept, bind, walk}
 use Rattle.aos_typed.specs.Seen.{seen_place, seen_expr}
 use Rattle.aos_operators.specs.Known.{Spot, width_of}
-use Rattle.aos_check_expr.specs.Designators.{guard}
-use Rattle.aos_check_expr.specs.Expressions.{condition, known_type}
+use Rattle.aos_rules.specs.TypeNames.{known_type}
+use Rattle.aos_designators.specs.Designators.{guard}
+use Rattle.aos_check_expr.specs.Expressions.{condition}
 use Rattle.aos_check_stat.specs.declared.loops.Counted.{Counted}
 use Rattle.aos_check_stat.specs.Bodies.{listed, modifier_breaches, are_exclusive, within_block, Labels, label_in, selector, Control, control, fitting, step_of, with_variable, narrowed_by, with_stat, stat_in}
 

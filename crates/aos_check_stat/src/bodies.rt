@@ -5,7 +5,7 @@ ghost use Rattle.aos_typed.specs.Seen.{seen_stat, seen_stats};
 ghost use Rattle.aos_symbols.specs.Breaches.{first_after};
 ghost use Rattle.aos_check_stat.specs.Bodies as judge;
 
-use crate::refusals::{are_exclusive, refuse_modifiers};
+use crate::modifiers::{are_exclusive, refuse_modifiers};
 use crate::statements::stats_in;
 use aos_symbols::{Breach, Env};
 use aos_tree::Block;

@@ -3,18 +3,12 @@
 
 mod awaits;
 pub mod bodies;
-mod calls;
 mod labels;
 mod loops;
-mod methods;
-mod news;
-mod out;
-mod procedures;
-mod refusals;
-mod routines;
+mod modifiers;
+mod returns;
 mod statements;
-mod texts;
 mod withs;
 
 pub use bodies::body_of;
-pub use refusals::are_exclusive;
+pub use modifiers::are_exclusive;

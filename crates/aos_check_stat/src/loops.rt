@@ -1,21 +1,24 @@
 // FOR: its variable, its values and its step.
 
 ghost use Rattle.std.specs.Prelude.{◌≡◌, OnOk, IfOk};
+ghost use Rattle.aos_typed.specs.declared.tree.TType.TheVariants.{Boolean};
+ghost use Rattle.aos_typed.specs.Program.{Field};
 ghost use Rattle.aos_typed.specs.Seen.{seen_expr, seen_place};
+ghost use Rattle.aos_typed.specs.WellTyped.{is_variable as is_variable_place};
 ghost use Rattle.aos_symbols.specs.Breaches.{first_after};
 ghost use Rattle.aos_check_stat.specs.Bodies as judge;
 ghost use Rattle.aos_check_stat.specs.Listed as listed;
 
-use crate::refusals::is_variable;
 use aos_base::Pos;
-use aos_check_expr::{access, expr, place_of_variable, refuse_written};
+use aos_check_expr::expr;
+use aos_designators::{access, place_of_variable, refuse_written};
 use aos_made::{MadePlace, Typed};
 use aos_operators::{Class, fits, is_number, type_of_literal};
 use aos_symbols::{
     Breach, Env, Lookup, Meaning, NOT_BUILT, NOT_EXPORTED, Symbol, UNFIT, UNKNOWN, WRONG_FOR, note,
 };
 use aos_tree::{Expr, Name};
-use aos_typed::Literal;
+use aos_typed::{Literal, TExpr, TPlace};
 use aos_types::TypeId;
 use std::alloc::{AllocError, Global};
 
@@ -27,6 +30,27 @@ pub struct Counted {
     pub first: Typed,
     pub last: Typed,
     pub step: i64,
+}
+
+/// Whether what a field is of is SELF.
+fn is_of_self(whole: &TPlace) -> bool
+    ensures { result ≡ is_variable_place (Field (seen_place whole.now) Boolean 0) }
+{
+    match whole {
+        TPlace::Deref(object, _) => matches!(&**object, TExpr::SelfRef),
+        _ => false,
+    }
+}
+
+/// Whether a place is no part of another variable; a field of SELF is none.
+fn is_variable(place: &TPlace) -> bool
+    ensures { result ≡ is_variable_place (seen_place place.now) }
+{
+    match place {
+        TPlace::ModuleVar(_, _) | TPlace::Local(_) | TPlace::Passed(_) => true,
+        TPlace::Field(whole, _, _) => is_of_self(whole),
+        _ => false,
+    }
 }
 
 /// What breaks a rule is no variable.

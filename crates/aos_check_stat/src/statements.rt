@@ -12,19 +12,18 @@ ghost use Rattle.aos_check_stat.specs.Listed as listed;
 ghost use Rattle.aos_made_stat.specs.Onto.{onto};
 
 use crate::awaits::{await_of, enter_block, leave_block};
-use crate::calls::called;
 use crate::labels::{Labels, labels_in, selector};
 use crate::loops::{Counted, counting};
-use crate::procedures::return_of;
-use crate::refusals::{are_exclusive, refuse_modifiers, refused};
-use crate::texts::{put_text, text_to, value_fits};
+use crate::modifiers::{are_exclusive, refuse_modifiers};
+use crate::returns::return_of;
 use crate::withs::{enter_with, guarded_variable, leave_with, with_stat};
 use aos_base::Pos;
-use aos_check_expr::{
-    condition, designator, expr, has_parts, place_in, place_of, refuse_assigned, typed_for,
-};
+use aos_check_call::{called, put_text, refused, text_to, value_fits};
+use aos_check_expr::{condition, designator, expr};
+use aos_designators::refuse_assigned;
 use aos_made_stat::{MadeArms, MadeCases, MadeElse, MadeStat, MadeStats};
-use aos_operators::{Answer, Spot, type_of, width_of};
+use aos_operators::{Answer, Spot, has_parts, place_in, place_of, type_of, width_of};
+use aos_rules::typed_for;
 use aos_symbols::{Breach, EXIT_OUTSIDE, Env, UNFIT, note};
 use aos_tree::{Block, Case, Desig, Elsif, Expr, Name, Qualident, Stat, StatSeq};
 use aos_types::TypeId;

@@ -8,9 +8,10 @@ ghost use Rattle.aos_check_stat.specs.Bodies as judge;
 ghost use Rattle.aos_check_stat.specs.Listed as listed;
 
 use aos_base::Pos;
-use aos_check_expr::{Head, guard, is_module, known_type, member, named, plain, refused_at};
+use aos_designators::{Head, guard, is_module, member, named, plain, refused_at};
 use aos_made_stat::{MadeStat, MadeStats};
 use aos_operators::{Held, Spot};
+use aos_rules::known_type;
 use aos_symbols::{Breach, Env, Lookup, Meaning, Narrowed, WRONG_WITH};
 use aos_tree::{Items, Qualident};
 use aos_types::TypeId;

@@ -18,7 +18,7 @@ use Rattle.aos_symbols.specs.declared.breach.Breach.{Breach}
 use Rattle.aos_symbols.specs.declared.env.Env.{Env}
 use Rattle.aos_symbols.specs.Breaches.{first}
 use Rattle.aos_symbols.specs.Judged.{Judged, judged}
-use Rattle.aos_symbols.specs.Names.{name_breaches}
+use Rattle.aos_check_names.specs.Names.{name_breaches}
 use Rattle.aos_symbols.specs.Outcome.{Outcome, refused, went, then, in_turn, decided, passed}
 use Rattle.aos_check_decl.specs.Pass.{declare}
 use Rattle.aos_compile.specs.Modules.{World, bodies, elaborated, extended, no_modules}

@@ -12,7 +12,7 @@ use Rattle.aos_symbols.specs.declared.env.Env.{Env}
 use Rattle.aos_symbols.specs.Breaches.{first}
 use Rattle.aos_symbols.specs.Outcome.{Outcome, refused, went, then, decided, passed, in_turn}
 use Rattle.aos_symbols.specs.Judged.{judged}
-use Rattle.aos_symbols.specs.Names.{name_breaches}
+use Rattle.aos_check_names.specs.Names.{name_breaches}
 use Rattle.aos_symbols.proofs.Holds.{same_went, then_went}
 use Rattle.aos_check_decl.specs.Pass.{declare}
 use Rattle.aos_compile.specs.Modules.{World, Bodies, spelling, bodies, module_of, extended, elaborated}

@@ -5,7 +5,7 @@ use Rattle.std.proofs.lemmas.List.{length-append, drop_more}
 use Rattle.aos_tree.specs.declared.module.Module.{Module as Tree}
 use Rattle.aos_symbols.specs.declared.env.Env.{Env}
 use Rattle.aos_symbols.specs.Judged.{Judged, judged}
-use Rattle.aos_symbols.specs.Names.{name_breaches}
+use Rattle.aos_check_names.specs.Names.{name_breaches}
 use Rattle.aos_symbols.specs.Outcome.{Outcome, refused, went, then, passed, in_turn}
 use Rattle.aos_check_decl.specs.Pass.{declare}
 use Rattle.aos_compile.specs.declared.compile_err.CompileErr.{CompileErr}

@@ -18,12 +18,12 @@ use Rattle.aos_tree.specs.declared.decl.Decl.{Decl, Row_of-TypeDef, end_of-TypeD
 use Rattle.aos_tree.specs.declared.decl.Decl.TheVariants as decl
 use Rattle.aos_symbols.specs.declared.scope.Entry.{Entry}
 use Rattle.aos_symbols.specs.declared.scope.Meaning.TheVariants as means
-use Rattle.aos_symbols.specs.declared.entries.Sort.{Sort}
-use Rattle.aos_symbols.specs.declared.entries.Sort.TheVariants as sort
+use Rattle.aos_entries.specs.declared.entries.Sort.{Sort}
+use Rattle.aos_entries.specs.declared.entries.Sort.TheVariants as sort
 use Rattle.aos_symbols.specs.Spelling.{word, is_word, are_same}
 use Rattle.aos_symbols.specs.Declarations.{def_names, constants_in, singles_in, procedures_in, types_in, constant_defs, type_defs, single_variables, procedure_defs, names_in, declared_names, inner_decls}
-use Rattle.aos_symbols.specs.Entries.{entry, numbered, inner_type, other_entries}
-use Rattle.aos_symbols.specs.Names.{declared_again, twice_after, twice, object_end, within_decl, within_decls, within_types, within_type}
+use Rattle.aos_entries.specs.Entries.{entry, numbered, inner_type, other_entries}
+use Rattle.aos_check_names.specs.Names.{declared_again, twice_after, twice, object_end, within_decl, within_decls, within_types, within_type}
 use Rattle.aos_symbols.specs.Scope.{Named, Scope, empty, find, has, with_names, is_procedure, methods_of}
 use Rattle.aos_symbols.proofs.Each.{Each, joined}
 use Rattle.aos_symbols.proofs.Holds.{none_left, none_right, test_is}

@@ -12,7 +12,7 @@ use Rattle.aos_tree.specs.declared.decl.TypeExpr.TheVariants as type
 use Rattle.aos_types.specs.declared.row.TypeId.{TypeId}
 use Rattle.aos_symbols.specs.declared.home.ObjectScope.{ObjectScope}
 use Rattle.aos_symbols.specs.Declarations.{Procedure, procedures, methods_in, all_procedures, type_defs, inner_decls}
-use Rattle.aos_symbols.specs.Entries.{number_at, initial_of, numbered_objects, with_object, next_object, objects_of}
+use Rattle.aos_entries.specs.Entries.{number_at, initial_of, numbered_objects, with_object, next_object, objects_of}
 pub use Rattle.aos_check_decl.proofs.ObjectTypes.{IsObject}
 
 -- Entries by numbers.

@@ -16,7 +16,7 @@ use Rattle.aos_typed.specs.Methods.{initial_slot}
 use Rattle.aos_typed.specs.Program.{Stats, Method as TypedMethod, ObjectType, Module}
 use Rattle.aos_symbols.specs.declared.scope.Meaning.{Meaning}
 use Rattle.aos_symbols.specs.declared.scope.Meaning.TheVariants as means
-use Rattle.aos_symbols.specs.declared.entries.Sort.TheVariants as sort
+use Rattle.aos_entries.specs.declared.entries.Sort.TheVariants as sort
 use Rattle.aos_symbols.specs.declared.home.ObjectScope.{ObjectScope}
 use Rattle.aos_types.specs.declared.signature.Signature.{Signature}
 use Rattle.aos_symbols.specs.declared.env.Symbol.{Symbol}
@@ -24,7 +24,7 @@ use Rattle.aos_symbols.specs.declared.env.Method.{Method}
 use Rattle.aos_symbols.specs.declared.env.Env.{Env}
 use Rattle.aos_symbols.specs.Spelling.{word}
 use Rattle.aos_symbols.specs.Declarations.{Procedure, whole_procedures_in, procedures_in, procedures, procedure_defs, methods_in, all_procedures, type_defs, inner_decls}
-use Rattle.aos_symbols.specs.Entries.{numbered, initial_from}
+use Rattle.aos_entries.specs.Entries.{numbered, initial_from}
 use Rattle.aos_symbols.specs.Home.{Home, slot_at}
 use Rattle.aos_symbols.specs.Scope.{Named, Scope, find, is_procedure, place_of, places_in}
 use Rattle.aos_symbols.specs.Env as env

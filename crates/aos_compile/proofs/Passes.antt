@@ -1,7 +1,8 @@
 -- What the passes of a module give, one after another.
-use Rattle.std.proofs.Common.{◌≡◌, ◌<◌, ℕ, suc, Bor, List, [], ◌∷◌, ◌++◌, ◌+◌, length, map, Option, Some, None, get_or, drop, append-nil, arith, refl, ap, ◌∙◌, sym}
+use Rattle.std.proofs.Common.{◌≡◌, ◌<◌, ℕ, suc, Bor, List, [], ◌∷◌, ◌++◌, ◌+◌, length, map, Option, Some, None, get_or, drop, append-nil, arith, refl, ap, ap₂, ◌∙◌, sym, subst}
 use Rattle.aos_tree.specs.declared.decl.TypeDef.{TypeDef}
 use Rattle.aos_tree.specs.declared.module.Module.{Module as Tree}
+use Rattle.aos_types.specs.declared.row.TypeRow.{TypeRow}
 use Rattle.aos_typed.specs.declared.tree.TStat.{TStat}
 use Rattle.aos_typed.specs.Program.{Procedure as TypedProcedure, Then}
 use Rattle.aos_typed.specs.Seen.{seen_stat, seen_stats}
@@ -11,16 +12,16 @@ use Rattle.aos_symbols.specs.declared.home.ObjectScope.{ObjectScope}
 use Rattle.aos_symbols.specs.Home.{Home, slot_at}
 use Rattle.aos_symbols.specs.Judged.{Judged, walk, judged}
 use Rattle.aos_symbols.specs.Breaches.{first, first_after}
-use Rattle.aos_symbols.specs.Outcome.{Outcome, went, refused, then, passed, decided}
+use Rattle.aos_symbols.specs.Outcome.{Outcome, went, refused, then, passed, decided, refusal_of}
 use Rattle.aos_symbols.specs.Declarations.{seen_types}
-use Rattle.aos_symbols.specs.Names.{name_breaches}
+use Rattle.aos_check_names.specs.Names.{name_breaches}
 use Rattle.aos_symbols.proofs.Keeping.{after_more}
 use Rattle.aos_check_decl.specs.Pass.{declare}
 use Rattle.aos_check_stat.specs.Bodies.{listed}
 use Rattle.aos_compile.specs.declared.compile_err.CompileErr.{CompileErr}
 use Rattle.aos_compile.specs.declared.compile_err.CompileErr.TheVariants.{Refused, NoMemory}
 use Rattle.aos_compile.specs.Elaborates.{OnRefused}
-use Rattle.aos_compile.specs.Modules.{World, Beside, Bodies, bodies, defined_object, slotted, beside_in, object_in, extended, elaborated}
+use Rattle.aos_compile.specs.Modules.{World, Programs, Beside, Bodies, bodies, defined_object, slotted, beside_in, object_in, programs, with_module, extended, behind_headings, behind_names, elaborated}
 use Rattle.aos_compile.proofs.Kept.{before_kept}
 use Rattle.aos_compile.proofs.Pairs.{drop_item}
 
@@ -64,44 +65,71 @@ slotted_more h o k (p ∷ ps) q =
     (slotted_more h o (suc k) ps q
     ∙ ap (λ n. slotted h o (suc k) ps ++ record { slot = slot_at h o n; procedure = q } ∷ []) (let same : suc k + length ps ≡ k + suc (length ps) = omega arith in same))
 
--- a pass that goes gives its answer
-decided_is : {A : Type 0} (file : ℕ) (found : Option Breach) (a b : A) → decided file found a ≡ went b → a ≡ b
-decided_is file None a b h = cc
-decided_is file (Some x) a b h = absurd cc
+module _ (file : ℕ) (p : Programs) (v : Env) (m : Tree) where
+  -- a rule that the pass over headings breaks refuses
+  pub headings_refused : (b : Breach) (e : CompileErr) {found : Option Breach} → found ≡ Some b → e ≡ Refused (refusal_of file b) →
+      OnRefused e (λ r. behind_headings file found p v m ≡ refused r)
+  headings_refused b e {found = found} is told =
+      subst (λ (e : CompileErr). OnRefused e (λ r. behind_headings file found p v m ≡ refused r)) (sym told) (ap (λ f. behind_headings file f p v m) is)
 
-passed_is : {A : Type 0} (file : ℕ) (j : Judged A) (b : A) → passed file j ≡ went b → j.answer ≡ b
-passed_is file j b h = decided_is file (first j.breaches) j.answer b h
+  none_found : {found : Option Breach} → found ≡ None → behind_headings file found p v m ≡ then (passed file (bodies v m)) (λ b. went (with_module p v m b))
+  none_found is = ap (λ f. behind_headings file f p v m) is
+
+  -- and so does one that bodies break
+  pub bodies_refused : (e : CompileErr) {found : Option Breach} → found ≡ None → OnRefused e (λ r. passed file (bodies v m) ≡ refused r) →
+      OnRefused e (λ r. behind_headings file found p v m ≡ refused r)
+  bodies_refused (Refused r) is h = none_found is ∙ ap (λ o. then o (λ b. went (with_module p v m b))) h
+  bodies_refused NoMemory is h = tt
+
+  pub module_went : (b : Bodies) {found : Option Breach} {q : Programs} → found ≡ None → passed file (bodies v m) ≡ went b → q ≡ with_module p v m b →
+      behind_headings file found p v m ≡ went q
+  module_went b is h told = none_found is ∙ ap (λ o. then o (λ b. went (with_module p v m b))) h ∙ ap (λ q. went q) (sym told)
 
 module _ (w : World) (file : ℕ) (text : List ℕ) (m : Tree) where
   abbrev declares : Judged Env
   declares = declare (length w.before) w.before w.types text m
 
-  abbrev behind_headings : Env → Outcome World
-  behind_headings e = then (passed file (bodies e m)) (λ b. went (extended w e m b))
+  abbrev behind : Env → Outcome World
+  behind e = then (passed file (bodies e m)) (λ b. went (extended w e m b))
 
-  abbrev behind_names : Outcome World
-  behind_names = then (passed file declares) behind_headings
+  -- the programs with a module more, beside what the modules behind it see
+  abbrev beside : Env → Programs → World
+  beside e p = record { before = e.before ++ e.here ∷ []; types = e.types; modules = p.modules; objects = p.objects }
 
-  names_told : first (name_breaches text m) ≡ None → elaborated w file text m ≡ behind_names
-  names_told h = ap (λ f. then (decided file f (tt {0})) (λ names. behind_names)) h
+  pub names_told : first (name_breaches text m) ≡ None → elaborated w file text m ≡ behind_names w file text m
+  names_told h = ap (λ f. then (decided file f (tt {0})) (λ names. behind_names w file text m)) h
 
-  headings_told : (e : Env) → first (name_breaches text m) ≡ None → passed file declares ≡ went e → elaborated w file text m ≡ behind_headings e
-  headings_told e a b = names_told a ∙ ap (λ o. then o behind_headings) b
+  pub behind_refused : (e : CompileErr) → first (name_breaches text m) ≡ None → OnRefused e (λ r. behind_names w file text m ≡ refused r) →
+      OnRefused e (λ r. elaborated w file text m ≡ refused r)
+  behind_refused (Refused r) none h = names_told none ∙ h
+  behind_refused NoMemory none h = tt
 
-  -- the modules before are those of the environment
-  same_before : (v : Env) → passed file declares ≡ went v → v.before ≡ w.before
-  same_before v h = ap (λ (z : Env). z.before) (sym (passed_is file declares v h)) ∙ before_kept (length w.before) w.before w.types text m
+  then_beside : (e : Env) → e.before ≡ w.before → (o : Outcome Bodies) →
+      then (then o (λ b. went (with_module (programs w) e m b))) (λ p. went (beside e p)) ≡ then o (λ b. went (extended w e m b))
+  then_beside e same (refused r) = refl
+  then_beside e same (went b) = ap (λ hs. went (extended (record w { before = hs }) e m b)) same
 
-  pub all_went : (v : Env) (b : Bodies) (x : World) → first (name_breaches text m) ≡ None → passed file declares ≡ went v →
-      passed file (bodies v m) ≡ went b →
-      x ≡ extended (record { before = v.before; types = []; modules = w.modules; objects = w.objects }) v m b →
-      elaborated w file text m ≡ went x
-  all_went v b x p q r is =
-      headings_told v p q ∙ ap (λ o. then o (λ c. went (extended w v m c))) r
-      ∙ sym (ap (λ z. went z) (is ∙ ap (λ hs. extended (record { before = hs; types = []; modules = w.modules; objects = w.objects }) v m b) (same_before v q)))
+  found_beside : (found : Option Breach) (e : Env) → e.before ≡ w.before →
+      then (behind_headings file found (programs w) e m) (λ p. went (beside e p)) ≡ then (decided file found e) behind
+  found_beside None e same = then_beside e same (passed file (bodies e m))
+  found_beside (Some b) e same = refl
 
-  -- a rule that bodies break refuses
-  pub bodies_refused : (v : Env) (e : CompileErr) → first (name_breaches text m) ≡ None → passed file declares ≡ went v →
-      OnRefused e (λ r. passed file (bodies v m) ≡ refused r) → OnRefused e (λ r. elaborated w file text m ≡ refused r)
-  bodies_refused v (Refused r) p q h = headings_told v p q ∙ ap (λ o. then o (λ c. went (extended w v m c))) h
-  bodies_refused v NoMemory p q h = tt
+  -- what the passes behind names come to, from what those behind headings do
+  from_headings : {found : Option Breach} {e : Env} → found ≡ first declares.breaches → e ≡ declares.answer →
+      behind_names w file text m ≡ then (behind_headings file found (programs w) e m) (λ p. went (beside e p))
+  from_headings {found = found} {e = e} noted is =
+      sym (found_beside found e (ap (λ (z : Env). z.before) is ∙ before_kept (length w.before) w.before w.types text m)
+      ∙ ap₂ (λ f z. then (decided file f z) behind) noted is)
+
+  pub world_refused : (err : CompileErr) {found : Option Breach} {e : Env} → found ≡ first declares.breaches → e ≡ declares.answer →
+      OnRefused err (λ r. behind_headings file found (programs w) e m ≡ refused r) → OnRefused err (λ r. behind_names w file text m ≡ refused r)
+  world_refused (Refused r) {e = e} noted is h = from_headings noted is ∙ ap (λ o. then o (λ p. went (beside e p))) h
+  world_refused NoMemory noted is h = tt
+
+  pub world_went : (p : Programs) {found : Option Breach} {e f : Env} {hs : List Home} {ts : List TypeRow} → found ≡ first declares.breaches → e ≡ declares.answer →
+      behind_headings file found (programs w) e m ≡ went p → f ≡ e → hs ≡ f.before ++ f.here ∷ [] → ts ≡ f.types →
+      behind_names w file text m ≡ went (record { before = hs; types = ts; modules = p.modules; objects = p.objects })
+  world_went p {e = e} noted is h same homes types =
+      from_headings noted is ∙ ap (λ o. then o (λ p. went (beside e p))) h
+      ∙ sym (ap₂ (λ hs ts. went (record { before = hs; types = ts; modules = p.modules; objects = p.objects }))
+      (homes ∙ ap (λ (z : Env). z.before ++ z.here ∷ []) same) (types ∙ ap (λ (z : Env). z.types) same))

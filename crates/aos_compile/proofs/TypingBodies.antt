@@ -23,7 +23,7 @@ use Rattle.aos_symbols.proofs.Each.{Each, joined}
 use Rattle.aos_symbols.proofs.Holds.{Holds, holds_bind}
 use Rattle.aos_operators.specs.Known.{object_number}
 use Rattle.aos_operators.proofs.Inside.{Inside}
-use Rattle.aos_check_expr.specs.Designators as desig
+use Rattle.aos_designators.specs.Designators as desig
 use Rattle.aos_check_expr.proofs.Whole.{IsTyped, IsSearched, IsWhole}
 use Rattle.aos_check_decl.proofs.Typing.{HasHeading}
 use Rattle.aos_check_stat.specs.Bodies.{listed, body_of}

@@ -27,10 +27,10 @@ use Rattle.aos_symbols.specs.Judged.{judged, walk}
 use Rattle.aos_symbols.specs.Outcome.{went, passed}
 use Rattle.aos_symbols.specs.Outcome as outcome
 use Rattle.aos_symbols.specs.Declarations.{Procedure, procedures, methods_in, all_procedures, type_defs, all_type_defs, local_types, single_variables, formal_names, inner_decls}
-use Rattle.aos_symbols.specs.Entries.{procedure_scope, inner_scope, scopes}
+use Rattle.aos_entries.specs.Entries.{procedure_scope, inner_scope, scopes}
 use Rattle.aos_symbols.specs.Scope.{Scope, find}
 use Rattle.aos_symbols.specs.Home.{Home, object_of}
-use Rattle.aos_symbols.specs.Names.{name_breaches, declared_again, twice, module_names, other_end, within_decl}
+use Rattle.aos_check_names.specs.Names.{name_breaches, declared_again, twice, module_names, other_end, within_decl}
 use Rattle.aos_symbols.specs.Env as env
 use Rattle.aos_symbols.specs.Env.{object_among}
 use Rattle.aos_symbols.proofs.Each.{Each, all_of, joined, implied, each_at}

@@ -13,7 +13,7 @@ use Rattle.aos_symbols.specs.declared.home.ObjectScope.{ObjectScope}
 use Rattle.aos_symbols.specs.declared.env.Env.{Env}
 use Rattle.aos_symbols.specs.Judged.{walk}
 use Rattle.aos_symbols.specs.Declarations.{procedures, type_defs, inner_decls}
-use Rattle.aos_symbols.specs.Entries.{number_at, objects_of, inner_scope, scopes}
+use Rattle.aos_entries.specs.Entries.{number_at, objects_of, inner_scope, scopes}
 use Rattle.aos_symbols.specs.Home.{Home, object_of}
 use Rattle.aos_symbols.specs.Scope.{Scope}
 use Rattle.aos_symbols.specs.Env as env

@@ -10,7 +10,7 @@ use Rattle.aos_symbols.specs.declared.env.Env.{Env}
 use Rattle.aos_symbols.specs.Env as env
 use Rattle.aos_symbols.specs.Env.{chain_by, chain_behind}
 use Rattle.aos_symbols.proofs.Each.{Each, joined}
-use Rattle.aos_check_expr.specs.Designators as desig
+use Rattle.aos_designators.specs.Designators as desig
 use Rattle.aos_check_expr.proofs.Whole.{IsFieldScope, IsSearched}
 
 not_both : true ≡ false → ⊥

@@ -10,12 +10,12 @@ use Rattle.aos_types.specs.declared.row.TypeId.{TypeId}
 use Rattle.aos_symbols.specs.declared.scope.Entry.{Entry}
 use Rattle.aos_symbols.specs.declared.scope.Meaning.{Meaning}
 use Rattle.aos_symbols.specs.declared.scope.Meaning.TheVariants as means
-use Rattle.aos_symbols.specs.declared.entries.Sort.TheVariants as sort
+use Rattle.aos_entries.specs.declared.entries.Sort.TheVariants as sort
 use Rattle.aos_symbols.specs.Spelling.{word}
 use Rattle.aos_symbols.specs.Declarations.{constant_defs, type_defs, single_variables, procedure_defs, Procedure, all_procedures, inner_decls, formal_names}
 use Rattle.aos_symbols.specs.Scope.{Named, find}
 use Rattle.aos_symbols.specs.Home.{Home}
-use Rattle.aos_symbols.specs.Entries.{among, module_named, numbered, types_from, inner_type, inner_scope, import_entry, other_entries, own_scope, unmarked, procedure_scope, procedure_scopes, scopes}
+use Rattle.aos_entries.specs.Entries.{among, module_named, numbered, types_from, inner_type, inner_scope, import_entry, other_entries, own_scope, unmarked, procedure_scope, procedure_scopes, scopes}
 use Rattle.aos_symbols.proofs.Each.{Each, joined}
 use Rattle.aos_symbols.proofs.Found.{found_is}
 use Rattle.aos_check_decl.proofs.TypingEntries.{behind_types}

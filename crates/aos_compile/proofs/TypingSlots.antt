@@ -15,8 +15,8 @@ use Rattle.aos_symbols.specs.declared.home.ObjectScope.{ObjectScope}
 use Rattle.aos_types.specs.declared.signature.Signature.{Signature}
 use Rattle.aos_symbols.specs.declared.env.Env.{Env}
 use Rattle.aos_symbols.specs.Declarations.{Procedure, procedure_defs, methods_in, all_procedures, type_defs, inner_decls}
-use Rattle.aos_symbols.specs.declared.entries.Sort.TheVariants as sort
-use Rattle.aos_symbols.specs.Entries.{numbered}
+use Rattle.aos_entries.specs.declared.entries.Sort.TheVariants as sort
+use Rattle.aos_entries.specs.Entries.{numbered}
 use Rattle.aos_symbols.specs.Scope.{Named}
 use Rattle.aos_symbols.specs.Home.{Home, object_of}
 use Rattle.aos_symbols.specs.Spelling.{word}

@@ -30,7 +30,7 @@ use Rattle.aos_symbols.proofs.Each.{Each, each_at}
 use Rattle.aos_symbols.proofs.Told.{IsTold, IsKnown, FieldsAgree}
 use Rattle.aos_operators.specs.Known.{object_number, type_of}
 use Rattle.aos_operators.proofs.Inside.{Inside}
-use Rattle.aos_check_expr.specs.Designators as desig
+use Rattle.aos_designators.specs.Designators as desig
 use Rattle.aos_check_expr.proofs.Opens.{some_there}
 use Rattle.aos_check_expr.proofs.Whole.{IsTyped, closed, IsResultOf, IsSigned, IsSearched, IsWhole, NarrowsWell, opens_told}
 use Rattle.aos_check_decl.proofs.Typing.{AreGood, AreReady}

@@ -24,14 +24,15 @@ use Rattle.aos_types.specs.declared.signature.Gives.{Gives}
 use Rattle.aos_types.specs.declared.signature.Gives.TheVariants as gives
 use Rattle.aos_types.specs.declared.signature.Signature.{Signature}
 use Rattle.aos_symbols.specs.declared.home.ObjectScope.{ObjectScope}
+use Rattle.aos_symbols.specs.declared.breach.Breach.{Breach}
 use Rattle.aos_symbols.specs.declared.env.Env.{Env}
 use Rattle.aos_symbols.specs.Judged.{Judged, judged, kept, bind, walk}
-use Rattle.aos_symbols.specs.Outcome.{Outcome, went, then, passed}
+use Rattle.aos_symbols.specs.Outcome.{Outcome, went, then, passed, decided}
 use Rattle.aos_symbols.specs.Spelling.{word, is_active}
 use Rattle.aos_symbols.specs.Declarations.{Procedure, procedures, methods_in, all_procedures, type_defs, local_types, single_variables, formal_names}
 use Rattle.aos_symbols.specs.Scope.{Scope}
 use Rattle.aos_symbols.specs.Home.{Home, slot_at, texts_of}
-use Rattle.aos_symbols.specs.Names.{name_breaches}
+use Rattle.aos_check_names.specs.Names.{name_breaches}
 use Rattle.aos_symbols.specs.Env as env
 use Rattle.aos_operators.specs.Known.{type_as, type_of}
 use Rattle.aos_check_decl.specs.Methods.{defined_type}
@@ -245,19 +246,39 @@ module_of e m b =
       body = body_with text m.body (listed b.own);
     }
 
+-- The programs of modules in load order, and what stands beside their types.
+pub record Programs : Type 0 where
+  pub modules : List Module
+  pub objects : List ObjectType
+
+abbrev pub programs : World → Programs
+programs w = record { modules = w.modules; objects = w.objects }
+
 -- a module more
+abbrev pub with_module : Programs → Env → Tree → Bodies → Programs
+with_module p e m b =
+    record {
+      modules = p.modules ++ module_of e m b ∷ [];
+      objects = p.objects ++ objects_from e (length p.objects) b.objects;
+    }
+
 abbrev pub extended : World → Env → Tree → Bodies → World
 extended w e m b =
-    record {
-      before = w.before ++ e.here ∷ [];
-      types = e.types;
-      modules = w.modules ++ module_of e m b ∷ [];
-      objects = w.objects ++ objects_from e (length w.objects) b.objects;
-    }
+    let p = with_module (programs w) e m b in
+    record { before = w.before ++ e.here ∷ []; types = e.types; modules = p.modules; objects = p.objects }
+
+-- behind the pass over headings, which found this: the module's program, unless that pass or the one over bodies refuses
+abbrev pub behind_headings : ℕ → Option Breach → Programs → Env → Tree → Outcome Programs
+behind_headings file found p e m =
+    then (decided file found e) (λ e. then (passed file (bodies e m)) (λ b. went (with_module p e m b)))
+
+-- behind the pass over names
+abbrev pub behind_names : World → ℕ → List ℕ → Tree → Outcome World
+behind_names w file text m =
+    then (passed file (declare (length w.before) w.before w.types text m)) (λ e.
+    then (passed file (bodies e m)) (λ b. went (extended w e m b)))
 
 -- the module of a file, whose text this is
 abbrev pub elaborated : World → ℕ → List ℕ → Tree → Outcome World
 elaborated w file text m =
-    then (passed file (judged (name_breaches text m) (tt {0}))) (λ names.
-    then (passed file (declare (length w.before) w.before w.types text m)) (λ e.
-    then (passed file (bodies e m)) (λ b. went (extended w e m b))))
+    then (passed file (judged (name_breaches text m) (tt {0}))) (λ names. behind_names w file text m)

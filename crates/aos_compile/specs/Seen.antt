@@ -1,20 +1,25 @@
 -- What the code's modules are seen as.
-use Rattle.std.specs.Prelude.{map}
+use Rattle.std.specs.Prelude.{List, map}
 use Rattle.std.specs.String.{string_bytes}
+use Rattle.aos_types.specs.declared.row.TypeRow.{TypeRow}
+use Rattle.aos_typed.specs.declared.tree.TModule.{TModule}
+use Rattle.aos_typed.specs.declared.tree.TObject.{TObject}
 use Rattle.aos_typed.specs.Seen.{seen_stat, seen_stats, seen_body, seen_method, seen_module, seen_object}
+use Rattle.aos_symbols.specs.Home.{Home}
 use Rattle.aos_compile.specs.declared.modules.World.{World as CodeWorld}
 use Rattle.aos_compile.specs.declared.objects.Beside.{Beside as CodeBeside}
 use Rattle.aos_compile.specs.declared.objects.Bodies.{Bodies as CodeBodies}
-use Rattle.aos_compile.specs.Modules.{World, Beside, Bodies}
+use Rattle.aos_compile.specs.Modules.{World, Programs, Beside, Bodies}
+
+abbrev pub seen_programs : List TModule → List TObject → Programs
+seen_programs ms os = record { modules = map seen_module ms; objects = map seen_object os }
+
+abbrev pub seen_parts : List Home → List TypeRow → List TModule → List TObject → World
+seen_parts before types ms os =
+    record { before = before; types = types; modules = map seen_module ms; objects = map seen_object os }
 
 abbrev pub seen_world : CodeWorld → World
-seen_world w =
-    record {
-      before = w.before;
-      types = w.types;
-      modules = map seen_module w.modules.items;
-      objects = map seen_object w.objects.items;
-    }
+seen_world w = seen_parts w.before w.types w.modules.items w.objects.items
 
 abbrev pub seen_beside : CodeBeside → Beside
 seen_beside x =

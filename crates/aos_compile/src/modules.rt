@@ -1,30 +1,35 @@
 // Modules in load order, each in three passes.
 
-ghost use Rattle.std.specs.Prelude.{◌≡◌, ◌≤◌, ◌^◌, ◌+◌, ◌++◌, [], None, length, map, IfOk, IfErr, OnOk};
+ghost use Rattle.std.specs.Prelude.{◌≡◌, ◌≤◌, ◌^◌, ◌+◌, ◌++◌, ◌∷◌, [], None, length, map, slice_get, IfOk, IfErr, OnOk};
+ghost use Rattle.std.specs.List.{zip};
 ghost use Rattle.std.specs.Option.{option_copied};
+ghost use Rattle.std.specs.String.{string_bytes};
 ghost use Rattle.aos_types.specs.declared.row.TypeRow.TheVariants as row;
-ghost use Rattle.aos_typed.specs.Seen.{seen_stat, seen_stats, seen_body, seen_method, seen_module, seen_object, seen_parameter, seen_procedure, seen_program};
+ghost use Rattle.aos_typed.specs.Seen.{seen_stat, seen_stats, seen_body, seen_method, seen_module, seen_object, seen_parameter, seen_procedure, seen_program, seen_variable};
 ghost use Rattle.aos_symbols.specs.Breaches.{first};
 ghost use Rattle.aos_symbols.specs.Judged.{judged};
 ghost use Rattle.aos_symbols.specs.Outcome.{went, refused, passed, refusal_of};
-ghost use Rattle.aos_symbols.specs.Names.{name_breaches};
-ghost use Rattle.aos_check_decl.specs.Pass.{declare as declare_of};
+ghost use Rattle.aos_check_names.specs.Names.{name_breaches};
+ghost use Rattle.aos_symbols.specs.Declarations.{single_variables};
+ghost use Rattle.aos_symbols.specs.Home.{texts_of as texts_in};
+ghost use Rattle.aos_symbols.specs.Env as env_of;
 ghost use Rattle.aos_compile.specs.declared.compile_err.CompileErr.TheVariants as err;
 ghost use Rattle.aos_compile.specs.Elaborates.{OnRefused};
 ghost use Rattle.aos_compile.specs.Modules as judge;
-ghost use Rattle.aos_compile.specs.Seen.{seen_world, seen_beside, seen_bodies};
+ghost use Rattle.aos_compile.specs.Seen.{seen_world, seen_parts, seen_programs, seen_beside, seen_bodies};
 
 use crate::compile_err::CompileErr;
-use crate::objects::{Beside, Bodies, bodies_of, number_at, number_behind, spelling_of};
-use crate::procedures::{count_types, is_exclusive_body, procedures_of};
+use crate::objects::{Beside, Bodies, bodies_of, number_at, spelling_of};
+use crate::procedures::{is_exclusive_body, module_procedures};
 use crate::texts::texts_of;
 use crate::variables::variables_of;
 use aos_base::{NoMemory, Refusal};
 use aos_check_decl::declare;
+use aos_check_names::check_names;
 use aos_operators::type_of;
-use aos_symbols::{Breach, Env, Home, check_names};
+use aos_symbols::{Breach, Env, Home};
 use aos_tree::{Items, Module};
-use aos_typed::{Program, TMethod, TModule, TObject, TParameter, TProcedure, TStat};
+use aos_typed::{Program, TMethod, TModule, TObject, TParameter, TProcedure, TStat, TVariable};
 use aos_types::{Basic, TypeId, TypeRow, Types};
 use std::alloc::{AllocError, Global};
 
@@ -62,14 +67,23 @@ fn add_basic(types: &mut Types, basic: &[Basic]) -> Result<(), NoMemory>
     Ok(())
 }
 
+/// Puts the types that are predeclared into a table that is empty.
+fn add_predeclared(types: &mut Types) -> Result<(), NoMemory>
+    requires { types.old ≡ [] }
+    ensures { OnOk result (types.new ≡ env_of.basic_rows) }
+{
+    add_basic(types, &BASIC_TYPES)?;
+    types.add(TypeRow::Any)?;
+    types.add(TypeRow::Basic(Basic::Text(0)))?;
+    Ok(())
+}
+
 /// No module yet, and the basic types.
 pub fn no_modules<'a>(alloc: Global) -> Result<World<'a>, NoMemory>
     ensures { IfOk result (λ w. seen_world w ≡ judge.no_modules) }
 {
     let mut types = Types::new(alloc)?;
-    add_basic(&mut types, &BASIC_TYPES)?;
-    types.add(TypeRow::Any)?;
-    types.add(TypeRow::Basic(Basic::Text(0)))?;
+    add_predeclared(&mut types)?;
     Ok(World {
         before: Items::new(alloc),
         types,
@@ -101,31 +115,6 @@ fn with_names(alloc: Global, file: u32, text: &[u8], tree: &Module) -> Result<()
     }
 }
 
-/// The pass over constants, types and headings, of a module behind these in load order, whose types these are.
-fn with_headings<'a>(
-    alloc: Global,
-    file: u32,
-    before: Items<Home<'a>>,
-    types: Types,
-    text: &'a [u8],
-    tree: &Module,
-) -> Result<Env<'a>, CompileErr>
-    requires { length before ≤ 64 }
-    ensures went { IfOk result (λ e.
-        passed file (declare_of (length before.entry) before.entry types text.now tree.now) ≡
-        went e) }
-    ensures refused { IfErr result (λ e. OnRefused e (λ r.
-        passed file (declare_of (length before.entry) before.entry types text.now tree.now) ≡
-        refused r)) }
-{
-    let mut found = None;
-    let env = declare(alloc, &mut found, before, types, text, tree)?;
-    match found {
-        Some(breach) => Err(refusal(file, breach)),
-        None => Ok(env),
-    }
-}
-
 /// The pass over bodies.
 fn with_bodies(
     alloc: Global,
@@ -147,6 +136,26 @@ fn with_bodies(
     }
 }
 
+/// What a module has beside its procedures and its body: its name, its variables and its string constants.
+fn outline_of(
+    alloc: Global,
+    env: &Env<'_>,
+    tree: &Module,
+) -> Result<(String, Vec<TVariable>, Vec<Vec<u8>>), AllocError>
+    ensures name { IfOk result (λ r.
+        string_bytes r.0 ≡ judge.spelling env.now.here.text tree.now.name) }
+    ensures variables { IfOk result (λ r. map seen_variable r.1.items ≡
+        map (judge.variable_of env.now.here.text)
+        (zip (single_variables tree.now.decls)
+        (judge.variables_of (slice_get env.now.here.scopes 0)))) }
+    ensures texts { IfOk result (λ r. map (λ t. t.items) r.2.items ≡ texts_in env.now.here) }
+{
+    let name = spelling_of(alloc, env.here.text(), tree.name)?;
+    let variables = variables_of(alloc, env, tree.decls.as_slice())?;
+    let texts = texts_of(alloc, &env.here)?;
+    Ok((name, variables, texts))
+}
+
 /// A module of the typed program, whose bodies these are.
 fn module_of(
     alloc: Global,
@@ -161,12 +170,8 @@ fn module_of(
       own = map seen_stat body.items;
     })) }
 {
-    let name = spelling_of(alloc, env.here.text(), tree.name)?;
-    let decls = tree.decls.as_slice();
-    let variables = variables_of(alloc, env, decls)?;
-    let texts = texts_of(alloc, &env.here)?;
-    let first = number_behind(count_types(decls)?)?;
-    let procedures = procedures_of(alloc, env, first, 0, decls, bodies)?;
+    let procedures = module_procedures(alloc, env, tree.decls.as_slice(), bodies)?;
+    let (name, variables, texts) = outline_of(alloc, env, tree)?;
     Ok(TModule {
         name,
         variables,
@@ -330,43 +335,83 @@ fn join_objects(
     Ok(())
 }
 
-/// A module more, whose environment and bodies these are.
-fn extended<'a>(
+/// Puts a module, whose environment and bodies these are, behind those before it, with what stands beside its types.
+fn add_module(
     alloc: Global,
-    env: Env<'a>,
-    mut modules: Vec<TModule>,
-    mut objects: Vec<TObject>,
+    env: &Env<'_>,
     tree: &Module,
     bodies: Bodies,
-) -> Result<World<'a>, AllocError>
-    ensures { IfOk result (λ w. seen_world w ≡ judge.extended (record {
-      before = env.entry.before;
-      types = [];
-      modules = map seen_module modules.items;
-      objects = map seen_object objects.items;
-    })
-        env.entry tree.now (seen_bodies bodies)) }
+    modules: &mut Vec<TModule>,
+    objects: &mut Vec<TObject>,
+) -> Result<(), AllocError>
+    ensures { OnOk result (seen_programs modules.new.items objects.new.items ≡
+        judge.with_module (seen_programs modules.old.items objects.old.items)
+        env.now tree.now (seen_bodies bodies)) }
 {
     let Bodies {
         objects: more,
         procedures,
         own,
     } = bodies;
-    modules.push(module_of(alloc, &env, tree, procedures, own)?)?;
-    join_objects(alloc, &env, &mut objects, more)?;
-    let Env {
-        mut before,
-        here,
-        types,
-        ..
-    } = env;
-    before.push(here)?;
-    Ok(World {
-        before,
-        types,
-        modules,
-        objects,
-    })
+    join_objects(alloc, env, objects, more)?;
+    let one = module_of(alloc, env, tree, procedures, own)?;
+    modules.push(one)?;
+    Ok(())
+}
+
+/// Puts a module behind those before it, where neither the pass over its headings, which found this, nor that over its bodies breaks
+/// a rule.
+fn with_module(
+    alloc: Global,
+    file: u32,
+    found: Option<Breach>,
+    env: &mut Env<'_>,
+    tree: &Module,
+    modules: &mut Vec<TModule>,
+    objects: &mut Vec<TObject>,
+) -> Result<(), CompileErr>
+    ensures went { OnOk result (
+        judge.behind_headings file found (seen_programs modules.old.items objects.old.items)
+        env.old tree.now ≡ went (seen_programs modules.new.items objects.new.items)) }
+    ensures env { OnOk result (env.new ≡ env.old) }
+    ensures refused { IfErr result (λ e. OnRefused e (λ r.
+        judge.behind_headings file found (seen_programs modules.old.items objects.old.items)
+        env.old tree.now ≡ refused r)) }
+{
+    match found {
+        Some(breach) => Err(refusal(file, breach)),
+        None => {
+            let bodies = with_bodies(alloc, file, env, tree)?;
+            add_module(alloc, env, tree, bodies, modules, objects)?;
+            Ok(())
+        },
+    }
+}
+
+/// The passes over headings and bodies of a module that keeps the rules of names: what the modules behind it see. Its program stands
+/// behind those of the modules before it.
+fn behind_names<'a>(
+    alloc: Global,
+    file: u32,
+    before: Items<Home<'a>>,
+    types: Types,
+    text: &'a [u8],
+    tree: &Module,
+    modules: &mut Vec<TModule>,
+    objects: &mut Vec<TObject>,
+) -> Result<(Items<Home<'a>>, Types), CompileErr>
+    requires { length before ≤ 64 }
+    ensures went { IfOk result (λ r. judge.behind_names
+        (seen_parts before.entry types modules.old.items objects.old.items)
+        file text.now tree.now ≡ went (seen_parts r.0 r.1 modules.new.items objects.new.items)) }
+    ensures refused { IfErr result (λ e. OnRefused e (λ r. judge.behind_names
+        (seen_parts before.entry types modules.old.items objects.old.items)
+        file text.now tree.now ≡ refused r)) }
+{
+    let mut found = None;
+    let mut env = declare(alloc, &mut found, before, types, text, tree)?;
+    with_module(alloc, file, found, &mut env, tree, modules, objects)?;
+    Ok(env.into_homes()?)
 }
 
 /// The module of a file behind those before it, or the first rule that it breaks.
@@ -387,13 +432,25 @@ pub fn elaborated<'a>(
     let World {
         before,
         types,
+        mut modules,
+        mut objects,
+    } = world;
+    let (before, types) = behind_names(
+        alloc,
+        file,
+        before,
+        types,
+        text,
+        tree,
+        &mut modules,
+        &mut objects,
+    )?;
+    Ok(World {
+        before,
+        types,
         modules,
         objects,
-    } = world;
-    let mut env = with_headings(alloc, file, before, types, text, tree)?;
-    let bodies = with_bodies(alloc, file, &mut env, tree)?;
-    let world = extended(alloc, env, modules, objects, tree, bodies)?;
-    Ok(world)
+    })
 }
 
 /// The program of all modules.

@@ -13,13 +13,12 @@ ghost use Rattle.aos_check_stat.specs.Bodies.{body_of as body_of_env, listed};
 ghost use Rattle.aos_compile.specs.Modules as judge;
 ghost use Rattle.aos_compile.specs.Seen.{seen_beside, seen_bodies};
 
-use crate::procedures::{count_types, is_exclusive_body, procedures_of};
+use crate::procedures::{first_scope, is_exclusive_body, procedures_of};
 use aos_base::Pos;
 use aos_check_decl::defined_type;
 use aos_check_stat::body_of;
-use aos_symbols::{
-    Breach, Env, Home, ObjectScope, all_procedures, inner_decls, is_active, type_definitions, word,
-};
+use aos_entries::{all_procedures, inner_decls, type_definitions};
+use aos_symbols::{Breach, Env, Home, ObjectScope, is_active, word};
 use aos_tree::{Block, Decl, Modifier, Module, Name, Proc, TypeDef, TypeExpr};
 use aos_typed::{TMethod, TProcedure, TStat};
 use aos_types::TypeId;
@@ -268,8 +267,8 @@ fn object_beside(
     ensures env { OnOk result (env.new ≡ env.old) }
 {
     let scope = number_at(first, object.methods)?;
-    let (body, bodies) = bodies_within(alloc, found, env, of, scope, def)?;
     let name = spelling_of(alloc, env.here.text(), def.def.name)?;
+    let (body, bodies) = bodies_within(alloc, found, env, of, scope, def)?;
     let methods = methods_of(alloc, env, first, object, inner_decls(&def.value), bodies)?;
     Ok(Beside {
         name,
@@ -429,6 +428,28 @@ fn add_others(
     add_unnamed(alloc, objects, env.places.as_slice())
 }
 
+/// What stands beside all types of a module, whose first procedure has the scope with this number.
+#[tactic(auto, using(aos_symbols::proofs::Keeping::after_more))]
+fn all_objects(
+    alloc: Global,
+    found: &mut Option<Breach>,
+    env: &mut Env<'_>,
+    first: u32,
+    tree: &Module,
+) -> Result<Vec<Beside>, AllocError>
+    ensures noted { OnOk result (found.new ≡ first_after found.old
+        (walk (judge.object_in env.old first) [] (type_defs tree.now.decls)).breaches) }
+    ensures answer { IfOk result (λ os. map seen_beside os.items ≡
+        (walk (judge.object_in env.old first) [] (type_defs tree.now.decls)).answer
+        ++ judge.other_types env.old tree.now) }
+    ensures env { OnOk result (env.new ≡ env.old) }
+{
+    let defs = type_definitions(alloc, tree.decls.as_slice())?;
+    let mut objects = objects_of(alloc, found, env, first, &defs)?;
+    add_others(alloc, env, &mut objects, tree)?;
+    Ok(objects)
+}
+
 /// The bodies of a module, in which names stand for what the environment says.
 #[tactic(auto, using(aos_symbols::proofs::Keeping::after_more))]
 pub fn bodies_of(
@@ -443,12 +464,10 @@ pub fn bodies_of(
     ensures env { OnOk result (env.new ≡ env.old) }
 {
     let decls = tree.decls.as_slice();
-    let first = number_behind(count_types(decls)?)?;
-    let defs = type_definitions(alloc, decls)?;
-    let mut objects = objects_of(alloc, found, env, first, &defs)?;
+    let first = first_scope(decls)?;
+    let objects = all_objects(alloc, found, env, first, tree)?;
     let procedures = procedure_bodies(alloc, found, env, first, decls)?;
     let own = body_of(alloc, found, env, false, &tree.body)?;
-    add_others(alloc, env, &mut objects, tree)?;
     Ok(Bodies {
         objects,
         procedures,

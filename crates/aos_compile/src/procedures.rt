@@ -3,6 +3,7 @@
 ghost use Rattle.std.specs.Prelude.{◌≡◌, ◌+◌, ◌++◌, suc, length, drop, map, IfOk, OnOk};
 ghost use Rattle.std.specs.List.{zip};
 ghost use Rattle.std.specs.Option.{option_copied};
+ghost use Rattle.std.specs.String.{string_bytes};
 ghost use Rattle.aos_typed.specs.Seen.{seen_stats, seen_variable, seen_parameter, seen_procedure};
 ghost use Rattle.aos_symbols.specs.Declarations.{procedures, types_in, type_defs, single_variables, formal_names};
 ghost use Rattle.aos_compile.specs.Modules as judge;
@@ -72,13 +73,12 @@ fn parameter_of(
 fn parameters_of(
     alloc: Global,
     text: &[u8],
-    formals: &Option<Formals>,
+    names: &[Name],
     parameters: &[Parameter],
 ) -> Result<Vec<TParameter>, AllocError>
     ensures { IfOk result (λ ps. map seen_parameter ps.items ≡
-        map (judge.parameter_of text.now) (zip (formal_names formals.now) parameters.now)) }
+        map (judge.parameter_of text.now) (zip names.now parameters.now)) }
 {
-    let names = names_of(alloc, formals)?;
     let mut all = Vec::new(alloc);
     for (number, name) in names.iter().enumerate() {
         let Some(parameter) = parameters.get(number) else {
@@ -117,6 +117,37 @@ pub fn is_exclusive_body(text: &[u8], body: &Option<Block>) -> bool
     }
 }
 
+/// What a procedure has beside its result and its body, with this signature and in this scope: its name, its parameters and its
+/// locals.
+fn heading_of(
+    alloc: Global,
+    text: &[u8],
+    proc: &Proc,
+    signature: &Signature,
+    scope: Option<&Scope<'_>>,
+) -> Result<(String, Vec<TParameter>, Vec<TVariable>), AllocError>
+    ensures name { IfOk result (λ r.
+        string_bytes r.0 ≡ judge.spelling text.now proc.now.def.name) }
+    ensures parameters { IfOk result (λ r. map seen_parameter r.1.items ≡
+        map (judge.parameter_of text.now)
+        (zip (formal_names proc.now.formals) signature.now.parameters)) }
+    ensures locals { IfOk result (λ r. map seen_variable r.2.items ≡
+        map (judge.variable_of text.now) (zip (single_variables proc.now.decls)
+        (drop (length (formal_names proc.now.formals))
+        (judge.variables_of (option_copied scope.entry))))) }
+{
+    let names = names_of(alloc, &proc.formals)?;
+    let name = spelling_of(alloc, text, proc.def.name)?;
+    let parameters = parameters_of(
+        alloc,
+        text,
+        names.as_slice(),
+        signature.parameters.as_slice(),
+    )?;
+    let locals = locals_of(alloc, text, scope, names.len(), proc.decls.as_slice())?;
+    Ok((name, parameters, locals))
+}
+
 /// A procedure of the typed program, whose signature, scope and statements these are.
 fn procedure_of(
     alloc: Global,
@@ -135,10 +166,7 @@ fn procedure_of(
       body = proc.now.body;
     }) signature.now (judge.variables_of (option_copied scope.entry)) (seen_stats body.items)) }
 {
-    let name = spelling_of(alloc, text, proc.def.name)?;
-    let parameters = parameters_of(alloc, text, &proc.formals, signature.parameters.as_slice())?;
-    let names = names_of(alloc, &proc.formals)?;
-    let locals = locals_of(alloc, text, scope, names.len(), proc.decls.as_slice())?;
+    let (name, parameters, locals) = heading_of(alloc, text, proc, signature, scope)?;
     Ok(TProcedure {
         name,
         of: None,
@@ -152,7 +180,7 @@ fn procedure_of(
 }
 
 /// How many types declarations define.
-pub fn count_types(decls: &[Decl]) -> Result<u32, AllocError>
+fn count_types(decls: &[Decl]) -> Result<u32, AllocError>
     ensures { IfOk result (λ n. n ≡ length (type_defs decls.now)) }
 {
     let mut count: u32 = 0;
@@ -170,6 +198,48 @@ pub fn count_types(decls: &[Decl]) -> Result<u32, AllocError>
     Ok(count)
 }
 
+/// The number of the scope of a module's first procedure.
+pub fn first_scope(decls: &[Decl]) -> Result<u32, AllocError>
+    ensures { IfOk result (λ n. n ≡ suc (length (type_defs decls.now))) }
+{
+    Ok(number_behind(count_types(decls)?)?)
+}
+
+/// Puts procedures, whose statements these are, behind others; the first has the scope and the signature with these numbers.
+fn add_procedures(
+    alloc: Global,
+    env: &Env<'_>,
+    first: u32,
+    signed: u32,
+    decls: &[Decl],
+    bodies: Vec<Vec<TStat>>,
+    all: &mut Vec<TProcedure>,
+) -> Result<(), AllocError>
+    ensures { OnOk result (map seen_procedure all.new.items ≡ map seen_procedure all.old.items ++
+        judge.procedures_of env.now.here.text env.now.here.scopes first
+        (procedures decls.now) (drop signed env.now.here.signatures)
+        (map (λ ss. seen_stats ss.items) bodies.items)) }
+{
+    let mut bodies = bodies.into_iter();
+    let mut scope = first;
+    let mut number = signed;
+    for decl in decls {
+        if let Decl::Proc(proc) = decl {
+            let Some(body) = bodies.next() else {
+                return Ok(());
+            };
+            let Some(signature) = env.here.signature(number) else {
+                return Ok(());
+            };
+            let at = env.here.scope(scope);
+            all.push(procedure_of(alloc, env.here.text(), proc, signature, at, body)?)?;
+            scope = number_behind(scope)?;
+            number = number_behind(number)?;
+        }
+    }
+    Ok(())
+}
+
 /// Procedures, whose statements these are; the first has the scope and the signature with these numbers.
 pub fn procedures_of(
     alloc: Global,
@@ -185,22 +255,23 @@ pub fn procedures_of(
         (map (λ ss. seen_stats ss.items) bodies.items)) }
 {
     let mut all = Vec::new(alloc);
-    let mut bodies = bodies.into_iter();
-    let mut scope = first;
-    let mut number = signed;
-    for decl in decls {
-        if let Decl::Proc(proc) = decl {
-            let Some(body) = bodies.next() else {
-                return Ok(all);
-            };
-            let Some(signature) = env.here.signature(number) else {
-                return Ok(all);
-            };
-            let at = env.here.scope(scope);
-            all.push(procedure_of(alloc, env.here.text(), proc, signature, at, body)?)?;
-            scope = number_behind(scope)?;
-            number = number_behind(number)?;
-        }
-    }
+    add_procedures(alloc, env, first, signed, decls, bodies, &mut all)?;
     Ok(all)
+}
+
+/// The procedures that the declarations of a module declare, whose statements these are.
+pub fn module_procedures(
+    alloc: Global,
+    env: &Env<'_>,
+    decls: &[Decl],
+    bodies: Vec<Vec<TStat>>,
+) -> Result<Vec<TProcedure>, AllocError>
+    ensures { IfOk result (λ ps. map seen_procedure ps.items ≡
+        judge.procedures_of env.now.here.text env.now.here.scopes
+        (suc (length (type_defs decls.now))) (procedures decls.now) env.now.here.signatures
+        (map (λ ss. seen_stats ss.items) bodies.items)) }
+{
+    let first = first_scope(decls)?;
+    let procedures = procedures_of(alloc, env, first, 0, decls, bodies)?;
+    Ok(procedures)
 }

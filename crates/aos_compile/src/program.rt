@@ -12,6 +12,7 @@ ghost use Rattle.aos_compile.specs.Sources.{bytes_of};
 use crate::compile_err::CompileErr;
 use crate::files::elaborate;
 use crate::laws::law_of_typing;
+use aos_base::NoMemory;
 use aos_code::Image;
 use aos_emit::{bodies_of, conditions_of};
 use aos_image::link;
@@ -20,6 +21,21 @@ use std::alloc::Global;
 
 /// The most types of which an image is made, with those that are predeclared. No texts that are compiled have as many.
 const MOST_TYPES: usize = 67_108_874;
+
+/// The image of a program that is well typed.
+fn image_of(alloc: Global, program: &Program) -> Result<Image, NoMemory>
+    requires few { length program.now.modules.items ≤ 64 }
+    requires few_types { length program.now.objects.items ≤ 2 ^ 26 }
+    requires typed { IsWellTyped (seen_program program.now) }
+    ensures code { IfOk result (λ i. IsCodeOf (seen_program program.now) i) }
+    ensures shows { IfOk result (λ i. Shows (seen_program program.now) i) }
+    ensures names { IfOk result (λ i.
+        map (λ d. string_bytes d.name) i.modules.items ≡ names_of (seen_program program.now)) }
+{
+    let bodies = bodies_of(alloc, program)?;
+    let conditions = conditions_of(alloc, program)?;
+    link(alloc, program, bodies, conditions)
+}
 
 /// The program of texts, and its image.
 fn with_image(
@@ -43,9 +59,7 @@ fn with_image(
     if program.types.len() > MOST_TYPES {
         return Err(CompileErr::NoMemory);
     }
-    let bodies = bodies_of(alloc, &program)?;
-    let conditions = conditions_of(alloc, &program)?;
-    let image = link(alloc, &program, bodies, conditions)?;
+    let image = image_of(alloc, &program)?;
     Ok((program, image))
 }
 

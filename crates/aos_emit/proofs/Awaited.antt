@@ -8,10 +8,10 @@ use Rattle.aos_code.specs.declared.image.Body.{Body}
 use Rattle.aos_typed.specs.Conditions.{Condition, awaited_in, condition_in, conditions, conditions_of}
 use Rattle.aos_typed.specs.Program.{Program}
 use Rattle.aos_typed.specs.Routines.{Routine, routines}
-use Rattle.aos_laid.specs.declared.awaits.Await.{Await}
-use Rattle.aos_laid.specs.declared.routines.Routine.{Routine as CodeRoutine}
-use Rattle.aos_laid.specs.Awaits.{seen_await}
-use Rattle.aos_laid.specs.Routines.{seen_routine, seen_routines}
+use Rattle.aos_dispatch.specs.declared.awaits.Await.{Await}
+use Rattle.aos_dispatch.specs.declared.routines.Routine.{Routine as CodeRoutine}
+use Rattle.aos_dispatch.specs.Awaits.{seen_await}
+use Rattle.aos_dispatch.specs.Routines.{seen_routine, seen_routines}
 use Rattle.aos_sim.specs.Code.{condition_code}
 use Rattle.aos_sim.specs.Need.{value_need}
 use Rattle.aos_emit.specs.Conditions.{of_body, of_condition}

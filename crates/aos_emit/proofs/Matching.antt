@@ -4,9 +4,9 @@ use Rattle.std.proofs.lemmas.List.{take_all}
 use Rattle.aos_typed.specs.Program.{Program}
 use Rattle.aos_typed.specs.Routines.{Routine, routines}
 use Rattle.aos_code.specs.declared.image.Body.{Body}
-use Rattle.aos_laid.specs.declared.routines.Routine.{Routine as CodeRoutine}
-use Rattle.aos_laid.specs.Routines.{seen_routine, seen_routines}
-use Rattle.aos_laid.proofs.Lists.{more_of, next_of}
+use Rattle.aos_dispatch.specs.declared.routines.Routine.{Routine as CodeRoutine}
+use Rattle.aos_dispatch.specs.Routines.{seen_routine, seen_routines}
+use Rattle.aos_dispatch.proofs.Lists.{more_of, next_of}
 use Rattle.aos_sim.specs.Code.{body_code}
 use Rattle.aos_sim.specs.Need.{body_need}
 

@@ -5,7 +5,7 @@ ghost use Rattle.aos_typed.specs.Conditions as awaited;
 ghost use Rattle.aos_typed.specs.Conditions.{conditions};
 ghost use Rattle.aos_typed.specs.Seen.{seen_expr, seen_program, seen_procedure};
 ghost use Rattle.aos_typed.specs.WellTyped.{IsProcedure, IsWellTyped};
-ghost use Rattle.aos_laid.specs.Routines.{IsTyped, seen_routine};
+ghost use Rattle.aos_dispatch.specs.Routines.{IsTyped, seen_routine};
 ghost use Rattle.aos_emit.specs.Conditions.{of_body, of_condition};
 ghost use Rattle.aos_emit_expr.specs.Scope.{program_of, own_of};
 ghost use Rattle.aos_sim.specs.Code.{condition_code};
@@ -14,21 +14,23 @@ ghost use Rattle.aos_sim.specs.Need as need_of;
 use crate::bodies::put_body;
 use aos_base::NoMemory;
 use aos_code::{Body, Instr};
-use aos_emit_expr::{Scope, emit_value, put};
-use aos_laid::{Laid, Routine, awaits_of, routines_of};
+use aos_dispatch::{Front, Routine, awaits_of, routines_of};
+use aos_emit_expr::{Scope, emit_front, put};
+use aos_laid::Laid;
 use aos_layout::FrameShape;
 use aos_need::value_need;
 use aos_typed::{Program, TExpr, TProcedure};
 use std::alloc::{AllocError, Global};
 
 // A condition over the frames of this routine.
-fn emit_condition(alloc: Global, scope: &Scope<'_>, condition: &TExpr) -> Result<Body, AllocError>
+fn emit_condition(scope: &Scope<'_>, condition: &TExpr) -> Result<Body, AllocError>
     ensures code { IfOk result (λ body. body.code.items ≡
         condition_code (program_of scope.now) (own_of scope.now) (seen_expr condition.now)) }
-    ensures depth { IfOk result (λ body. body.depth ≡ need_of.value_need (seen_expr condition.now)) }
+    ensures depth { IfOk result (λ body.
+        body.depth ≡ need_of.value_need (seen_expr condition.now)) }
 {
-    let mut code = Vec::new(alloc);
-    emit_value(alloc, scope, &mut code, condition)?;
+    let mut code = Vec::new(scope.alloc());
+    emit_front(scope, &mut code, Front::Value(condition))?;
     put(&mut code, Instr::Verdict)?;
     let depth = value_need(condition)?;
     Ok(Body { code, depth })
@@ -43,13 +45,14 @@ fn procedure_condition(
     condition: &TExpr,
 ) -> Result<Body, NoMemory>
     requires typed { IsProcedure (seen_program laid.now) (seen_procedure procedure.now) }
-    ensures code { IfOk result (λ body. body.code.items ≡
-        condition_code (seen_program laid.now) (Some (seen_procedure procedure.now)) (seen_expr condition.now)) }
-    ensures depth { IfOk result (λ body. body.depth ≡ need_of.value_need (seen_expr condition.now)) }
+    ensures code { IfOk result (λ body. body.code.items ≡ condition_code (seen_program laid.now)
+        (Some (seen_procedure procedure.now)) (seen_expr condition.now)) }
+    ensures depth { IfOk result (λ body.
+        body.depth ≡ need_of.value_need (seen_expr condition.now)) }
 {
     let FrameShape { shape, places, .. } = laid.frame(alloc, home, 0, procedure)?;
-    let scope = Scope::procedure(laid, procedure, &places, shape.cells);
-    let body = emit_condition(alloc, &scope, condition)?;
+    let scope = Scope::procedure(alloc, laid, procedure, &places, shape.cells);
+    let body = emit_condition(&scope, condition)?;
     Ok(body)
 }
 
@@ -61,13 +64,14 @@ fn condition_of(
     condition: &TExpr,
 ) -> Result<Body, NoMemory>
     requires typed { IsTyped (seen_program laid.now) (seen_routine routine.now) }
-    ensures code { IfOk result (λ body. body.code.items ≡
-        condition_code (seen_program laid.now) (seen_routine routine.now).own (seen_expr condition.now)) }
-    ensures depth { IfOk result (λ body. body.depth ≡ need_of.value_need (seen_expr condition.now)) }
+    ensures code { IfOk result (λ body. body.code.items ≡ condition_code (seen_program laid.now)
+        (seen_routine routine.now).own (seen_expr condition.now)) }
+    ensures depth { IfOk result (λ body.
+        body.depth ≡ need_of.value_need (seen_expr condition.now)) }
 {
     match routine {
         Routine::Body(_, _, _) => {
-            let body = emit_condition(alloc, &Scope::body(laid), condition)?;
+            let body = emit_condition(&Scope::body(alloc, laid), condition)?;
             Ok(body)
         }
         Routine::Procedure(home, procedure) => {
@@ -85,7 +89,8 @@ fn put_conditions(
 ) -> Result<(), NoMemory>
     requires typed { IsTyped (seen_program laid.now) (seen_routine routine.now) }
     ensures { OnOk result (map of_body conds.new.items ≡ map of_body conds.old.items ++
-        map (of_condition (seen_program laid.now)) (awaited.conditions_of (seen_routine routine.now))) }
+        map (of_condition (seen_program laid.now))
+        (awaited.conditions_of (seen_routine routine.now))) }
 {
     let awaits = awaits_of(alloc, routine)?;
     for one in &awaits {
@@ -103,7 +108,8 @@ pub fn conditions_of(alloc: Global, program: &Program) -> Result<Vec<Body>, NoMe
     requires few_types { length program.now.objects.items ≤ 2 ^ 26 }
     requires typed { IsWellTyped (seen_program program.now) }
     ensures code { IfOk result (λ conds. map (λ b. b.code.items) conds.items ≡
-        map (λ c. condition_code (seen_program program.now) c.own c.expression) (conditions (seen_program program.now))) }
+        map (λ c. condition_code (seen_program program.now) c.own c.expression)
+        (conditions (seen_program program.now))) }
     ensures depths { IfOk result (λ conds. map (λ b. b.depth) conds.items ≡
         map (λ c. need_of.value_need c.expression) (conditions (seen_program program.now))) }
 {

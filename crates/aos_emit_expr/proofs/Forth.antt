@@ -8,10 +8,16 @@ use Rattle.aos_typed.specs.declared.tree.Literal.{Literal}
 use Rattle.aos_typed.specs.declared.tree.Literal.TheVariants as literal
 use Rattle.aos_typed.specs.Numbers.{procedure_number}
 use Rattle.aos_typed.specs.Program.{Place, ModuleVar, Local, Passed, Field, Index, Of, Deref, Typed, Guarded, Rows, Known, Opened, Row, Spread, Longer, Arguments, NoMore, Scalar, Whole, Opening, Callee, Plain, Dispatched, Upper, Through, Expr, Lit, SelfRef, Read, Unary, Binary, And, Or, Element, Ord, Chr, CompareTexts, Len, LenBehind, Function, Same, Is, IsRecord, Guard, ProcedureOf, MethodOf, SameProcedure, Had, Procedure, Program}
+use Rattle.aos_typed.specs.Seen.{seen_place, seen_rows, seen_list, seen_callee, seen_expr}
 use Rattle.aos_code.specs.declared.instr.Instr.{Instr}
 use Rattle.aos_code.specs.declared.instr.Instr.TheVariants.{Num, Proc, Bind, EqCall, SelfRef as SelfOf, Deref as DerefOf, OpenRef, EqRef, Is as IsOf, IsPlace, Guard as GuardOf, GuardPlace, Dup, Drop, Frame as FrameOf, Param, Length, Module, Offset, Index as IndexOf, IndexOpen, PickLen, Unary as OnOne, Binary as OnTwo, Jump, JumpFalse, Load, CmpText}
 use Rattle.aos_sim.specs.Code.{literal_code, call_instr, kind_of, variable_cell, own_cell, field_cell, cells_of, dimensions, lengths_code, drops, place_code, rows_code, arguments_code, receiver_code, value_code}
-use Rattle.aos_emit_expr.specs.Back.{back_place, back_rows, back_arguments, back_receiver, back_code, placed}
+use Rattle.aos_dispatch.specs.declared.fronts.Front.{Front}
+use Rattle.aos_dispatch.specs.declared.fronts.Front.TheVariants as fronts
+use Rattle.aos_emit_expr.specs.declared.sources.Source.{Source}
+use Rattle.aos_emit_expr.specs.declared.sources.Source.TheVariants as sources
+use Rattle.aos_emit_expr.specs.Adds.{front_code, source_code}
+use Rattle.aos_emit_expr.specs.Back.{back_place, back_rows, back_arguments, back_receiver, back_code, back_front, back_source, placed}
 use Rattle.aos_emit_expr.specs.Forwards.{forwards}
 
 -- more instructions are placed before those
@@ -258,3 +264,15 @@ module _ (p : Program) (own : Option Procedure) where
         let second = operand (value_code p own b) (back_code p own b) (at + length ca) end (EqCall ∷ []) (behind ++ EqCall ∷ []) behind (forth b) (last_first end behind EqCall) (omega arith) in
         operand (value_code p own a) (back_code p own a) at end (cb ++ EqCall ∷ []) (back_code p own b (behind ++ EqCall ∷ [])) behind (forth a) second ends
     forth (Had v) at behind end ends = refl
+
+  -- that of what code is emitted of
+  front_forth : (f : Front) → IsPlaced (front_code p own f) (back_front p own f)
+  front_forth (fronts.Value e) = forth (seen_expr e.now)
+  front_forth (fronts.Place x) = place_forth (seen_place x.now)
+  front_forth (fronts.Rows r) = rows_forth (seen_rows r.now)
+
+  pub source_forth : (s : Source) → IsPlaced (source_code p own s) (back_source p own s)
+  source_forth (sources.Front f) = front_forth f
+  source_forth (sources.Call c as') = forth (Function (seen_callee c.now) (seen_list as'.now))
+  source_forth (sources.Handed as') = arguments_forth (seen_list as'.now)
+  source_forth sources.SelfRef = forth SelfRef

@@ -1,4 +1,4 @@
 pub mod Turned
 pub mod Forth
 pub mod Owned
-pub mod Sizes
+pub mod Called

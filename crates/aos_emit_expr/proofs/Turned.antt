@@ -9,7 +9,7 @@ use Rattle.aos_typed.specs.declared.tree.TArgument.TheVariants as argument
 use Rattle.aos_typed.specs.Program.{Arguments, NoMore, Procedure, Program}
 use Rattle.aos_typed.specs.Seen.{seen_argument, seen_list}
 use Rattle.aos_sim.specs.Code.{lengths_code, drops}
-use Rattle.aos_laid.proofs.Taken.{seen_next}
+use Rattle.aos_dispatch.proofs.Arguments.{seen_next}
 use Rattle.aos_emit_expr.specs.Back.{back_arguments}
 
 -- one length more before those that are there

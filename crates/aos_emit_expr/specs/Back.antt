@@ -6,10 +6,29 @@ use Rattle.aos_typed.specs.Program.{Place, ModuleVar, Local, Passed, Field, Inde
 use Rattle.aos_code.specs.declared.instr.Instr.{Instr}
 use Rattle.aos_code.specs.declared.instr.Instr.TheVariants.{Num, Proc, Bind, EqCall, SelfRef as SelfOf, Deref as DerefOf, OpenRef, EqRef, Is as IsOf, IsPlace, Guard as GuardOf, GuardPlace, Dup, Frame as FrameOf, Param, Module, Offset, Index as IndexOf, IndexOpen, PickLen, Unary as OnOne, Binary as OnTwo, Jump, JumpFalse, Load, CmpText}
 use Rattle.aos_typed.specs.Numbers.{procedure_number}
-use Rattle.aos_typed.specs.Seen.{seen_place, seen_rows, seen_expr}
-use Rattle.aos_emit_expr.specs.declared.fronts.Front.{Front}
-use Rattle.aos_emit_expr.specs.declared.fronts.Front.TheVariants.{Value, Place as Located, Rows as Spanned}
+use Rattle.aos_typed.specs.Seen.{seen_place, seen_rows, seen_list, seen_callee, seen_expr}
+use Rattle.aos_dispatch.specs.declared.fronts.Front.{Front}
+use Rattle.aos_dispatch.specs.declared.fronts.Front.TheVariants.{Value, Place as Located, Rows as Spanned}
+use Rattle.aos_emit_expr.specs.declared.sources.Source.{Source}
+use Rattle.aos_emit_expr.specs.declared.sources.Source.TheVariants as sources
+use Rattle.aos_emit_expr.specs.declared.forms.Form.{Form}
+use Rattle.aos_emit_expr.specs.declared.forms.Form.TheVariants as forms
 use Rattle.aos_sim.specs.Code.{literal_code, call_instr, kind_of, variable_cell, own_cell, field_cell, cells_of, dimensions, lengths_code, drops}
+
+-- what stands first of a form
+abbrev pub first_of : Form → Option Source
+first_of (forms.Part f) = Some (sources.Front f)
+first_of (forms.Alone i) = None
+first_of (forms.One f i) = Some (sources.Front f)
+first_of (forms.Two f g i) = Some (sources.Front f)
+first_of (forms.And a b) = Some (sources.Front (Value a))
+first_of (forms.Or a b) = Some (sources.Front (Value a))
+first_of (forms.Element a) = Some (sources.Front (Value a))
+first_of (forms.Length r d n) = Some (sources.Front (Spanned r))
+first_of (forms.Lengths f ns) = Some (sources.Front f)
+first_of (forms.Opened k j) = None
+first_of (forms.Call s i as') = s
+first_of (forms.Handed as') = None
 
 -- in a program, whose variables have their cells, in the body of this procedure or of none
 module _ (program : Program) (own : Option Procedure) where
@@ -76,15 +95,47 @@ module _ (program : Program) (own : Option Procedure) where
     back_code (SameProcedure a b) behind = back_code a (back_code b (behind ++ EqCall ∷ []))
     back_code (Had v) behind = behind
 
-  -- what code begins with, if anything is left
+  -- the second operand of `&` with what stands around it, and that of OR with what stands before it
+  abbrev pub back_and : Expr → List Instr → List Instr
+  back_and b behind = back_code b (behind ++ Num (pos 0) ∷ Jump (length behind) ∷ []) ++ JumpFalse (length behind + 1) ∷ []
+
+  abbrev pub back_or : Expr → List Instr → List Instr
+  back_or b behind =
+      let second = back_code b behind in second ++ Jump (length behind) ∷ Num (pos 1) ∷ JumpFalse (length second) ∷ []
+
+  -- what code is emitted of, if anything is left
   abbrev pub back_front : Front → List Instr → List Instr
   back_front (Value e) behind = back_code (seen_expr e.now) behind
   back_front (Located p) behind = back_place (seen_place p.now) behind
   back_front (Spanned r) behind = back_rows (seen_rows r.now) behind
 
-  abbrev pub back_rest : Option Front → List Instr → List Instr
-  back_rest None behind = behind
-  back_rest (Some f) behind = back_front f behind
+  abbrev pub back_source : Source → List Instr → List Instr
+  back_source (sources.Front f) behind = back_front f behind
+  back_source (sources.Call c as') behind = back_code (Function (seen_callee c.now) (seen_list as'.now)) behind
+  back_source (sources.Handed as') behind = back_arguments (seen_list as'.now) behind
+  back_source sources.SelfRef behind = back_code SelfRef behind
+
+  abbrev pub back_first : Option Source → List Instr → List Instr
+  back_first None behind = behind
+  back_first (Some s) behind = back_source s behind
+
+  -- what a form has behind what stands first of it, and all of it
+  abbrev pub back_last : Form → List Instr → List Instr
+  back_last (forms.Part f) behind = behind
+  back_last (forms.Alone i) behind = behind ++ i ∷ []
+  back_last (forms.One f i) behind = behind ++ i ∷ []
+  back_last (forms.Two f g i) behind = back_front g (behind ++ i ∷ [])
+  back_last (forms.And a b) behind = back_and (seen_expr b.now) behind
+  back_last (forms.Or a b) behind = back_or (seen_expr b.now) behind
+  back_last (forms.Element a) behind = behind ++ OnTwo SetSpan ∷ Dup ∷ []
+  back_last (forms.Length r d n) behind = behind ++ Num (pos n) ∷ drops (suc d)
+  back_last (forms.Lengths f ns) behind = behind ++ reverse (map (λ n. Num (pos n)) ns.now)
+  back_last (forms.Opened k j) behind = behind ++ reverse (Param k ∷ lengths_code (suc k) j)
+  back_last (forms.Call s i as') behind = back_arguments (seen_list as'.now) (behind ++ i ∷ [])
+  back_last (forms.Handed as') behind = back_arguments (seen_list as'.now) behind
+
+  abbrev pub back_form : Form → List Instr → List Instr
+  back_form form behind = back_first (first_of form) (back_last form behind)
 
 -- the same instruction, where the code ends at this place: a jump has its target's place
 abbrev pub placed : ℕ → Instr → Instr

@@ -1,3 +1,4 @@
+pub mod Adds
 pub mod Back
 pub mod Forwards
 pub mod Pending

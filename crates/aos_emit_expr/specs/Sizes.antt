@@ -1,71 +1,39 @@
--- How much there is of a designator, an array, what is handed over and an expression, so that what is in one of them is less.
+-- How much there is of what code is emitted of and of a form of code, so that what is in one of them is less.
 use Rattle.std.specs.Prelude.{ℕ, suc, ◌+◌, Option, Some, None}
-use Rattle.aos_typed.specs.Program.{Place, ModuleVar, Local, Passed, Field, Index, Of, Deref, Typed, Guarded, Rows, Known, Opened, Row, Spread, Longer, Arguments, NoMore, Scalar, Whole, Opening, Callee, Plain, Dispatched, Upper, Through, Expr, Lit, SelfRef, Read, Unary, Binary, And, Or, Element, Ord, Chr, CompareTexts, Len, LenBehind, Function, Same, Is, IsRecord, Guard, ProcedureOf, MethodOf, SameProcedure, Had}
-use Rattle.aos_typed.specs.Seen.{seen_place, seen_rows, seen_expr}
-use Rattle.aos_emit_expr.specs.declared.fronts.Front.{Front}
-use Rattle.aos_emit_expr.specs.declared.fronts.Front.TheVariants.{Value, Place as Located, Rows as Spanned}
+use Rattle.aos_typed.specs.Program.{Function}
+use Rattle.aos_typed.specs.Seen.{seen_rows, seen_list, seen_callee, seen_expr}
+use Rattle.aos_dispatch.specs.Sizes.{rows_size, arguments_size, value_size, front_size}
+use Rattle.aos_emit_expr.specs.declared.sources.Source.{Source}
+use Rattle.aos_emit_expr.specs.declared.sources.Source.TheVariants as sources
+use Rattle.aos_emit_expr.specs.declared.forms.Form.{Form}
+use Rattle.aos_emit_expr.specs.declared.forms.Form.TheVariants as forms
 
-abbrev mutual
-  pub place_size : Place → ℕ
-  place_size (ModuleVar m k) = 0
-  place_size (Local k) = 0
-  place_size (Passed k) = 0
-  place_size (Field p t k) = suc (place_size p)
-  place_size (Index p n t e) = suc (place_size p + value_size e)
-  place_size (Of r) = suc (rows_size r)
-  place_size (Deref e t) = suc (value_size e)
-  place_size (Typed p t) = suc (place_size p)
-  place_size (Guarded p t) = suc (place_size p)
+abbrev pub source_size : Source → ℕ
+source_size (sources.Front f) = front_size f
+source_size (sources.Call c as') = value_size (Function (seen_callee c.now) (seen_list as'.now))
+source_size (sources.Handed as') = arguments_size (seen_list as'.now)
+source_size sources.SelfRef = 0
 
-  pub rows_size : Rows → ℕ
-  rows_size (Known p ns) = suc (place_size p)
-  rows_size (Opened k j) = 0
-  rows_size (Row r t e) = suc (rows_size r + value_size e)
-  rows_size (Spread e j) = suc (value_size e)
-  rows_size (Longer r ns) = suc (rows_size r)
+-- what stands first of a form, if anything does, counts one more
+abbrev pub first_size : Option Source → ℕ
+first_size None = 0
+first_size (Some s) = suc (source_size s)
 
-  pub arguments_size : Arguments → ℕ
-  arguments_size NoMore = 0
-  arguments_size (Scalar e more) = suc (value_size e + arguments_size more)
-  arguments_size (Whole p more) = suc (place_size p + arguments_size more)
-  arguments_size (Opening r more) = suc (rows_size r + arguments_size more)
+-- what something is called on
+abbrev pub called_size : Option Source → ℕ
+called_size None = 0
+called_size (Some s) = source_size s
 
-  pub callee_size : Callee → ℕ
-  callee_size (Plain m k) = 0
-  callee_size (Dispatched e t k) = value_size e
-  callee_size (Upper t k) = 0
-  callee_size (Through e t) = value_size e
-
-  pub value_size : Expr → ℕ
-  value_size (Lit l) = 0
-  value_size SelfRef = 0
-  value_size (Read t p) = suc (place_size p)
-  value_size (Unary op a) = suc (value_size a)
-  value_size (Binary op a b) = suc (value_size a + value_size b)
-  value_size (And a b) = suc (value_size a + value_size b)
-  value_size (Or a b) = suc (value_size a + value_size b)
-  value_size (Element a) = suc (value_size a)
-  value_size (Ord a) = suc (value_size a)
-  value_size (Chr a) = suc (value_size a)
-  value_size (CompareTexts r a b) = suc (rows_size a + rows_size b)
-  value_size (Len r d) = suc (rows_size r)
-  value_size (LenBehind r n) = suc (rows_size r)
-  value_size (Function c more) = suc (callee_size c + arguments_size more)
-  value_size (Same a b) = suc (value_size a + value_size b)
-  value_size (Is a t) = suc (value_size a)
-  value_size (IsRecord p t) = suc (place_size p)
-  value_size (Guard a t) = suc (value_size a)
-  value_size (ProcedureOf m k) = 0
-  value_size (MethodOf a t k) = suc (value_size a)
-  value_size (SameProcedure a b) = suc (value_size a + value_size b)
-  value_size (Had v) = 0
-
-abbrev pub front_size : Front → ℕ
-front_size (Value e) = value_size (seen_expr e.now)
-front_size (Located p) = place_size (seen_place p.now)
-front_size (Spanned r) = rows_size (seen_rows r.now)
-
--- with what it is found by
-abbrev pub rest_size : Option Front → ℕ
-rest_size None = 0
-rest_size (Some f) = suc (front_size f)
+abbrev pub form_size : Form → ℕ
+form_size (forms.Part f) = suc (front_size f)
+form_size (forms.Alone i) = 0
+form_size (forms.One f i) = suc (front_size f)
+form_size (forms.Two f g i) = suc (front_size f + front_size g)
+form_size (forms.And a b) = suc (value_size (seen_expr a.now) + value_size (seen_expr b.now))
+form_size (forms.Or a b) = suc (value_size (seen_expr a.now) + value_size (seen_expr b.now))
+form_size (forms.Element a) = suc (value_size (seen_expr a.now))
+form_size (forms.Length r d n) = suc (rows_size (seen_rows r.now))
+form_size (forms.Lengths f ns) = suc (front_size f)
+form_size (forms.Opened k j) = 0
+form_size (forms.Call s i as') = suc (called_size s + arguments_size (seen_list as'.now))
+form_size (forms.Handed as') = arguments_size (seen_list as'.now)

@@ -3,14 +3,13 @@
 #![tactic(auto)]
 
 mod emit;
-mod fronts;
+mod forms;
 mod regions;
 mod scope;
+mod sources;
 
-pub use emit::{
-    PENDING_END, described, emit_arguments, emit_begin, emit_call, emit_place, emit_rows,
-    emit_value, next_place, number_of, put,
-};
-pub use fronts::Front;
+pub use emit::{PENDING_END, emit_begin, emit_front, emit_source, next_place, number_of, put};
+pub use forms::described;
 pub use regions::Within;
 pub use scope::Scope;
+pub use sources::Source;

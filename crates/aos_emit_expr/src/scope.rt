@@ -1,4 +1,5 @@
-// A routine whose code is emitted: its program, its procedure with its cells, if the routine is one, and what its statements stand in.
+// A routine whose code is emitted: its program, its procedure with its cells, if the routine is one, what its statements stand in, and
+// where memory for its code comes from.
 
 ghost use Rattle.std.specs.Prelude.{◌≡◌, None, Some, reverse, slice_get, if◌then◌else◌, IfOk};
 ghost use Rattle.std.specs.Option.{unwrap_or};
@@ -17,9 +18,10 @@ use std::alloc::{AllocError, Global};
 use std::marker::Model;
 
 /// A routine of a program: its procedure, if it is one, the first cell of each parameter and then of each local, and what the statements
-/// that are emitted stand in.
+/// that are emitted stand in. Contracts don't see where memory comes from.
 #[derive(Drop)]
 pub struct Scope<'a> {
+    alloc: Global,
     program: &'a Laid<'a>,
     own: Option<&'a TProcedure>,
     places: &'a [u32],
@@ -31,7 +33,7 @@ impl<'a> Model for Scope<'a> {
     ghost use Rattle.std.specs.Prelude.{option_map};
     ghost use Rattle.std.specs.Coded.{codes};
     ghost use Rattle.aos_typed.specs.contracts.tree.TStat as stat;
-    ghost use Rattle.aos_typed.specs.Seen.{seen_program};
+    ghost use Rattle.aos_typed.specs.Seen.{seen_procedure, seen_program};
     ghost use Rattle.aos_emit_expr.specs.contracts.regions.Within as around;
     ghost use Rattle.aos_emit_expr.specs.Scope as scopes;
 
@@ -39,18 +41,23 @@ impl<'a> Model for Scope<'a> {
 
     ghost coded = { Prim.hlevel (codes, stat.the_row.coded, around.the_row.coded) };
 
-    ghost view = { λ s. record { program = s.program.now; own = option_map (λ q. q.now) s.own; within = s.within } };
+    ghost view = { λ s. record {
+      program = s.program.now;
+      own = option_map (λ q. q.now) s.own;
+      within = s.within;
+    } };
 
     ghost invariant = { λ s. scopes.AreOwn (seen_program s.program.now).types
-        (scopes.own_of (record { program = s.program.now; own = option_map (λ q. q.now) s.own; within = s.within })) s.places.now s.cells };
+        (option_map seen_procedure (option_map (λ q. q.now) s.own)) s.places.now s.cells };
 }
 
 impl<'a> Scope<'a> {
     /// A body that is no procedure's.
-    pub fn body(program: &'a Laid<'a>) -> Scope<'a>
+    pub fn body(alloc: Global, program: &'a Laid<'a>) -> Scope<'a>
         ensures { result ≡ record { program = program.now; own = None; within = Within.NoRegion } }
     {
         Scope {
+            alloc,
             program,
             own: None,
             places: &[],
@@ -61,15 +68,19 @@ impl<'a> Scope<'a> {
 
     /// A procedure, with the first cells of its parameters and locals, and how many cells these have.
     pub fn procedure(
+        alloc: Global,
         program: &'a Laid<'a>,
         own: &'a TProcedure,
         places: &'a [u32],
         cells: u32,
     ) -> Scope<'a>
-        requires { AreOwn (seen_program program.now).types (Some (seen_procedure own.now)) places.now cells }
-        ensures { result ≡ record { program = program.now; own = Some own.now; within = Within.NoRegion } }
+        requires { AreOwn (seen_program program.now).types (Some (seen_procedure own.now))
+            places.now cells }
+        ensures { result ≡
+            record { program = program.now; own = Some own.now; within = Within.NoRegion } }
     {
         Scope {
+            alloc,
             program,
             own: Some(own),
             places,
@@ -80,15 +91,22 @@ impl<'a> Scope<'a> {
 
     // The same routine, where its statements stand in this.
     fn standing(&self, within: Within) -> Scope<'a>
-        ensures { result ≡ record { program = self.now.program; own = self.now.own; within = within } }
+        ensures { result ≡
+            record { program = self.now.program; own = self.now.own; within = within } }
     {
         Scope {
+            alloc: self.alloc,
             program: self.program,
             own: self.own,
             places: self.places,
             cells: self.cells,
             within,
         }
+    }
+
+    /// Where memory for code comes from.
+    pub fn alloc(&self) -> Global {
+        self.alloc
     }
 
     /// What the statements stand in.
@@ -131,7 +149,8 @@ impl<'a> Scope<'a> {
 
     /// How many cells stand before a field in its record, by the record type and the field's number.
     pub fn field(&self, of: TType, number: u32) -> Result<u32, AllocError>
-        ensures { IfOk result (λ cells. cells ≡ field_cell (program_of self.now) (own_of self.now) of number) }
+        ensures { IfOk result (λ cells.
+            cells ≡ field_cell (program_of self.now) (own_of self.now) of number) }
     {
         self.program.field(of, number)
     }
@@ -200,11 +219,11 @@ impl<'a> Scope<'a> {
     }
 
     /// The kinds of what a call of the routine of this number takes beside an object, the topmost operand first.
-    pub fn taken(&self, alloc: Global, number: u32) -> Result<Vec<Kind>, AllocError>
-        ensures { IfOk result (λ kinds. kinds.items ≡ reverse (handed_kinds (program_of self.now).types
-            (parameters_at (program_of self.now) number))) }
+    pub fn taken(&self, number: u32) -> Result<Vec<Kind>, AllocError>
+        ensures { IfOk result (λ kinds. kinds.items ≡ reverse (handed_kinds
+            (program_of self.now).types (parameters_at (program_of self.now) number))) }
     {
-        self.program.taken(alloc, number)
+        self.program.taken(self.alloc, number)
     }
 
     /// Whether the routine is a function.

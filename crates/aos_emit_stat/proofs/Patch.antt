@@ -18,6 +18,9 @@ use Rattle.aos_code.specs.declared.instr.Kind.TheVariants.{N}
 use Rattle.aos_sim.specs.Code.{Ways, begin, value_code, step_code, body_place, rounds_with, stat_code, stats_code, cases_code}
 use Rattle.aos_emit_stat.specs.Places.{places_from}
 use Rattle.aos_emit_expr.specs.Pending.{pending_end}
+use Rattle.aos_emit_expr.specs.Scope.{Inside, program_of, own_of}
+use Rattle.aos_emit_stat.specs.Adds.{AddsStat}
+use Rattle.aos_emit_stat.specs.Ways.{pending}
 use Rattle.aos_emit_stat.specs.Redirect.{redirect, redirect_behind}
 
 -- code behind other code
@@ -105,5 +108,5 @@ round_is p own here w q step b base d start e =
     ∙ ap round same
 
 -- the code of what a statement is seen as
-pub emitted : (p : Program) (own : Option Procedure) (w : Ways) (base all : List Instr) (level : ℕ) (s : TStat) (x y : Stat) → x ≡ y → seen_stat s ≡ y → all ≡ base ++ stat_code p own x (length base) w level → all ≡ base ++ stat_code p own (seen_stat s) (length base) w level
-emitted p own w base all level s x y e seen is = is ∙ ap (λ z. base ++ stat_code p own z (length base) w level) (e ∙ sym seen)
+pub emitted : (s : Inside) (old new : List Instr) (level : ℕ) (t : TStat) (x y : Stat) → x ≡ y → seen_stat t ≡ y → AddsStat s old new level x → AddsStat s old new level (seen_stat t)
+emitted s old new level t x y e seen is = is ∙ ap (λ z. old ++ stat_code (program_of s) (own_of s) z (length old) (pending s) level) (e ∙ sym seen)

@@ -1,3 +1,4 @@
+pub mod Adds
 pub mod Redirect
 pub mod Places
 pub mod Ways

@@ -1,19 +1,20 @@
 // How statements are left: by RETURN, by EXIT, and where jumps forward go once that is known.
 
-ghost use Rattle.std.specs.Prelude.{◌≡◌, ◌≤◌, ◌∷◌, ◌++◌, length, option_map, OnOk};
-ghost use Rattle.aos_typed.specs.Program.{Return};
+ghost use Rattle.std.specs.Prelude.{◌≡◌, ◌≤◌, ◌++◌, length, option_map, OnOk};
+ghost use Rattle.aos_typed.specs.Program.{Exit, Return};
 ghost use Rattle.aos_typed.specs.Seen.{seen_expr};
 ghost use Rattle.aos_emit_expr.specs.Pending.{pending_exit};
 ghost use Rattle.aos_emit_stat.specs.Redirect.{redirect_behind, redirect as redirection};
-ghost use Rattle.aos_emit_expr.specs.Scope.{program_of, own_of};
-ghost use Rattle.aos_emit_stat.specs.Ways.{seen_within, within_of, pending};
-ghost use Rattle.aos_sim.specs.Code.{begin, exit_code, return_code, stat_code};
+ghost use Rattle.aos_emit_stat.specs.Adds.{AddsStat};
+ghost use Rattle.aos_emit_stat.specs.Ways.{seen_within};
+ghost use Rattle.aos_sim.specs.Code.{exit_code, return_code};
 
 use aos_base::Pos;
 use aos_code::Instr;
-use aos_emit_expr::{Scope, Within, emit_begin, emit_value, put};
+use aos_dispatch::Front;
+use aos_emit_expr::{Scope, Within, emit_begin, emit_front, put};
 use aos_typed::TExpr;
-use std::alloc::{AllocError, Global};
+use std::alloc::AllocError;
 
 /// The number that the jump of an EXIT has until it is known where its LOOP ends: no instruction has it.
 pub const PENDING_EXIT: u32 = 4294967295;
@@ -55,20 +56,18 @@ fn put_return(code: &mut Vec<Instr>, within: Within) -> Result<(), AllocError>
 
 /// RETURN. The region is left behind the value.
 pub fn emit_return(
-    alloc: Global,
     scope: &Scope<'_>,
     code: &mut Vec<Instr>,
     at: Pos,
     value: &Option<TExpr>,
 ) -> Result<(), AllocError>
-    ensures { OnOk result (code.new.items ≡ code.old.items ++
-        stat_code (program_of scope.now) (own_of scope.now) (Return at (option_map seen_expr value.now))
-        (length code.old.items) (pending scope.now) 0) }
+    ensures { OnOk result (AddsStat scope.now code.old.items code.new.items 0
+        (Return at (option_map seen_expr value.now))) }
 {
     emit_begin(code, at)?;
     match value {
         Some(result) => {
-            emit_value(alloc, scope, code, result)?;
+            emit_front(scope, code, Front::Value(result))?;
             put_return(code, scope.within())
         }
         None => put_return(code, scope.within()),
@@ -77,7 +76,8 @@ pub fn emit_return(
 
 // The jump out of a LOOP, which leaves a region that is in it.
 fn put_exit(code: &mut Vec<Instr>, within: Within) -> Result<(), AllocError>
-    ensures { OnOk result (code.new.items ≡ code.old.items ++ exit_code (seen_within within) pending_exit) }
+    ensures { OnOk result (code.new.items ≡
+        code.old.items ++ exit_code (seen_within within) pending_exit) }
 {
     match within {
         Within::NoRegion | Within::AroundLoop => put(code, Instr::Jump(PENDING_EXIT)),
@@ -90,7 +90,7 @@ fn put_exit(code: &mut Vec<Instr>, within: Within) -> Result<(), AllocError>
 
 /// EXIT.
 pub fn emit_exit(scope: &Scope<'_>, code: &mut Vec<Instr>, at: Pos) -> Result<(), AllocError>
-    ensures { OnOk result (code.new.items ≡ code.old.items ++ begin at ∷ exit_code (within_of scope.now) pending_exit) }
+    ensures { OnOk result (AddsStat scope.now code.old.items code.new.items 0 (Exit at)) }
 {
     emit_begin(code, at)?;
     put_exit(code, scope.within())

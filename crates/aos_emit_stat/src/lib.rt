@@ -4,6 +4,7 @@
 mod leave;
 mod objects;
 mod search;
+mod simple;
 mod stats;
 
 pub use stats::emit_left;

@@ -1,20 +1,23 @@
-// NEW, and what WITH guards.
+// NEW.
 
-ghost use Rattle.std.specs.Prelude.{◌≡◌, ◌+◌, [], ◌∷◌, ◌++◌, length, map, OnOk, IfOk};
+ghost use Rattle.std.specs.Prelude.{◌≡◌, ◌++◌, map, OnOk, IfOk};
+ghost use Rattle.aos_typed.specs.Program.{Make, New};
 ghost use Rattle.aos_typed.specs.Seen.{seen_place, seen_expr, seen_list};
+ghost use Rattle.aos_emit_stat.specs.Adds.{AddsStat};
 ghost use Rattle.aos_emit_stat.specs.Made.{made_code};
+ghost use Rattle.aos_emit_expr.specs.Adds.{Adds};
 ghost use Rattle.aos_emit_expr.specs.Scope.{program_of, own_of};
 ghost use Rattle.aos_sim.specs.Code as codes;
-ghost use Rattle.aos_sim.specs.Code.{begin, place_code, value_code, values_code, new_code, make_code};
+ghost use Rattle.aos_sim.specs.Code.{values_code};
 
 use aos_base::Pos;
 use aos_code::{Instr, Kind};
+use aos_dispatch::{Front, after, next};
 use aos_emit_expr::{
-    Scope, described, emit_arguments, emit_begin, emit_place, emit_value, number_of, put,
+    Scope, Source, described, emit_begin, emit_front, emit_source, number_of, put,
 };
-use aos_laid::{after, next};
 use aos_typed::{TArgument, TExpr, TPlace};
-use std::alloc::{AllocError, Global};
+use std::alloc::AllocError;
 
 // The topmost operands are kept, of these kinds, under numbers from this one on.
 #[tactic(auto, using(crate::proofs::Stash::kept_more))]
@@ -43,19 +46,15 @@ fn put_unstash(code: &mut Vec<Instr>, kinds: &[Kind], level: u32) -> Result<(), 
 }
 
 // The kinds of what an initializer in this slot is handed, the topmost operand first.
-fn initial_kinds(
-    alloc: Global,
-    scope: &Scope<'_>,
-    slot: Option<u32>,
-    object: u32,
-) -> Result<Vec<Kind>, AllocError>
-    ensures { IfOk result (λ kinds. kinds.items ≡ codes.initial_kinds (program_of scope.now) (own_of scope.now) slot object) }
+fn initial_kinds(scope: &Scope<'_>, slot: Option<u32>, object: u32) -> Result<Vec<Kind>, AllocError>
+    ensures { IfOk result (λ kinds. kinds.items ≡
+        codes.initial_kinds (program_of scope.now) (own_of scope.now) slot object) }
 {
     let Some(slot) = slot else {
-        return Ok(Vec::new(alloc));
+        return Ok(Vec::new(scope.alloc()));
     };
     let number = scope.method(object, slot)?;
-    let kinds = scope.taken(alloc, number)?;
+    let kinds = scope.taken(number)?;
     Ok(kinds)
 }
 
@@ -68,8 +67,8 @@ fn put_initialize(
     kinds: &[Kind],
     level: u32,
 ) -> Result<(), AllocError>
-    ensures { OnOk result (code.new.items ≡ code.old.items ++
-        codes.initialize_code (program_of scope.now) (own_of scope.now) slot object kinds.now level) }
+    ensures { OnOk result (code.new.items ≡ code.old.items ++ codes.initialize_code
+        (program_of scope.now) (own_of scope.now) slot object kinds.now level) }
 {
     let Some(slot) = slot else {
         return Ok(());
@@ -82,7 +81,8 @@ fn put_initialize(
 
 // What carries out the body of a type on a new object.
 fn carry_out_instr(scope: &Scope<'_>, of: u32) -> Result<Instr, AllocError>
-    ensures { IfOk result (λ i. i ≡ codes.carry_out_instr (program_of scope.now) (own_of scope.now) of) }
+    ensures { IfOk result (λ i.
+        i ≡ codes.carry_out_instr (program_of scope.now) (own_of scope.now) of) }
 {
     if scope.is_active(of) {
         return Ok(Instr::Start);
@@ -113,7 +113,6 @@ fn put_store(
 
 // An object is made of a type, above the place that it is stored at and what its initializer is handed.
 fn put_made(
-    alloc: Global,
     scope: &Scope<'_>,
     code: &mut Vec<Instr>,
     object: u32,
@@ -124,7 +123,7 @@ fn put_made(
 {
     let slot = scope.initializer(object)?;
     let body_of = scope.body_type(object)?;
-    let kinds = initial_kinds(alloc, scope, slot, object)?;
+    let kinds = initial_kinds(scope, slot, object)?;
     let number = described(object)?;
     put_stash(code, &kinds, level)?;
     put(code, Instr::NewObject(number))?;
@@ -134,7 +133,6 @@ fn put_made(
 
 /// NEW of an object. What its initializer is handed is found before it is made, and it is initialized before it is stored.
 pub fn emit_new(
-    alloc: Global,
     scope: &Scope<'_>,
     code: &mut Vec<Instr>,
     at: Pos,
@@ -143,28 +141,22 @@ pub fn emit_new(
     arguments: &[TArgument],
     level: u32,
 ) -> Result<(), AllocError>
-    ensures { OnOk result (code.new.items ≡ code.old.items ++
-        begin at ∷ new_code (program_of scope.now) (own_of scope.now) (seen_place place.now) object (seen_list arguments.now)
-        (length code.old.items + 1) level) }
+    ensures { OnOk result (AddsStat scope.now code.old.items code.new.items level
+        (New at (seen_place place.now) object (seen_list arguments.now))) }
 {
     emit_begin(code, at)?;
-    emit_place(alloc, scope, code, place)?;
-    emit_arguments(alloc, scope, code, arguments)?;
-    put_made(alloc, scope, code, object, level)
+    emit_front(scope, code, Front::Place(place))?;
+    emit_source(scope, code, Source::Handed(arguments))?;
+    put_made(scope, code, object, level)
 }
 
 // Values one above the other.
-fn emit_values(
-    alloc: Global,
-    scope: &Scope<'_>,
-    code: &mut Vec<Instr>,
-    values: &[TExpr],
-) -> Result<(), AllocError>
-    ensures { OnOk result (code.new.items ≡ code.old.items ++
-        values_code (program_of scope.now) (own_of scope.now) (map seen_expr values.now) (length code.old.items)) }
+fn emit_values(scope: &Scope<'_>, code: &mut Vec<Instr>, values: &[TExpr]) -> Result<(), AllocError>
+    ensures { OnOk result (Adds values_code scope.now code.old.items code.new.items
+        (map seen_expr values.now)) }
 {
     for number in 0..values.len() {
-        emit_value(alloc, scope, code, &values[number])?;
+        emit_front(scope, code, Front::Value(&values[number]))?;
     }
     Ok(())
 }
@@ -183,7 +175,6 @@ fn make_instr(of: u32, lengths: usize) -> Result<Instr, AllocError>
 
 /// NEW of a pointer. The place that the object is stored at lies below it.
 pub fn emit_make(
-    alloc: Global,
     scope: &Scope<'_>,
     code: &mut Vec<Instr>,
     at: Pos,
@@ -191,48 +182,13 @@ pub fn emit_make(
     of: u32,
     lengths: &[TExpr],
 ) -> Result<(), AllocError>
-    ensures { OnOk result (code.new.items ≡ code.old.items ++
-        begin at ∷ make_code (program_of scope.now) (own_of scope.now) (seen_place place.now) of (map seen_expr lengths.now)
-        (length code.old.items + 1)) }
+    ensures { OnOk result (AddsStat scope.now code.old.items code.new.items 0
+        (Make at (seen_place place.now) of (map seen_expr lengths.now))) }
 {
     let instr = make_instr(of, lengths.len())?;
     emit_begin(code, at)?;
-    emit_place(alloc, scope, code, place)?;
-    emit_values(alloc, scope, code, lengths)?;
+    emit_front(scope, code, Front::Place(place))?;
+    emit_values(scope, code, lengths)?;
     put(code, instr)?;
     put(code, Instr::Store(Kind::R))
-}
-
-/// WITH of an object before its statements: the object is guarded.
-pub fn emit_object(
-    alloc: Global,
-    scope: &Scope<'_>,
-    code: &mut Vec<Instr>,
-    at: Pos,
-    object: &TExpr,
-) -> Result<(), AllocError>
-    ensures { OnOk result (code.new.items ≡ code.old.items ++
-        begin at ∷ (value_code (program_of scope.now) (own_of scope.now) (seen_expr object.now) (length code.old.items + 1) ++
-        Instr.Drop ∷ [])) }
-{
-    emit_begin(code, at)?;
-    emit_value(alloc, scope, code, object)?;
-    put(code, Instr::Drop)
-}
-
-/// WITH of a record before its statements: the record is guarded.
-pub fn emit_record(
-    alloc: Global,
-    scope: &Scope<'_>,
-    code: &mut Vec<Instr>,
-    at: Pos,
-    place: &TPlace,
-) -> Result<(), AllocError>
-    ensures { OnOk result (code.new.items ≡ code.old.items ++
-        begin at ∷ (place_code (program_of scope.now) (own_of scope.now) (seen_place place.now) (length code.old.items + 1) ++
-        Instr.Drop ∷ [])) }
-{
-    emit_begin(code, at)?;
-    emit_place(alloc, scope, code, place)?;
-    put(code, Instr::Drop)
 }

@@ -43,7 +43,8 @@ fn all_rows(alloc: Global, cases: &[TCase]) -> Result<Vec<LabelRow>, AllocError>
 
 /// The labels of all arms that have a value, in the order of the first ones.
 pub fn rows_of(alloc: Global, cases: &[TCase]) -> Result<Vec<LabelRow>, AllocError>
-    ensures { IfOk result (λ rows. rows.items ≡ in_order (rows_from 0 (cases_of cases.now NoElse))) }
+    ensures { IfOk result (λ rows.
+        rows.items ≡ in_order (rows_from 0 (cases_of cases.now NoElse))) }
 {
     let mut rows = all_rows(alloc, cases)?;
     rows.sort_by_key(|row| row.labels.low)?;
@@ -59,7 +60,8 @@ fn put_bound(
     past: u32,
 ) -> Result<(), AllocError>
     ensures { OnOk result (code.new.items ≡ code.old.items ++
-        Instr.Kept level Kind.N ∷ Instr.Num bound.now ∷ Instr.Binary (Binary.Cmp relation) ∷ Instr.JumpFalse past ∷ []) }
+        Instr.Kept level Kind.N ∷ Instr.Num bound.now ∷
+        Instr.Binary (Binary.Cmp relation) ∷ Instr.JumpFalse past ∷ []) }
 {
     put(code, Instr::Kept(level, Kind::N))?;
     put(code, Instr::Num(*bound))?;
@@ -74,7 +76,8 @@ fn put_label(
     level: u32,
     hit: u32,
 ) -> Result<(), AllocError>
-    ensures { OnOk result (code.new.items ≡ code.old.items ++ label_code range.now level (length code.old.items) hit) }
+    ensures { OnOk result (code.new.items ≡
+        code.old.items ++ label_code range.now level (length code.old.items) hit) }
 {
     let past = number_of(code.len() + 9)?;
     put_bound(code, Relation::GreaterEqual, &range.low, level, past)?;

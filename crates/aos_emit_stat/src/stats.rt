@@ -3,229 +3,30 @@
 
 ghost use Rattle.std.specs.Prelude.{◌≡◌, ◌+◌, true, [], ◌∷◌, ◌++◌, length, OnOk, IfOk};
 ghost use Rattle.aos_typed.specs.Meaning as meaning;
-ghost use Rattle.aos_typed.specs.Program.{Read, Copy, PutText, Perform, If, Case, While, Repeat, Loop, Block, With, WithRecord, Assert};
-ghost use Rattle.aos_typed.specs.Seen.{seen_place, seen_rows, seen_list, seen_callee, seen_expr, seen_call, seen_stat, seen_stats, seen_else, arms_of, cases_of};
-ghost use Rattle.aos_emit_expr.specs.Pending.{pending_end};
+ghost use Rattle.aos_typed.specs.Program.{Read, If, Case, While, Repeat, Loop, For, Block};
+ghost use Rattle.aos_typed.specs.Seen.{seen_place, seen_expr, seen_stat, seen_stats, seen_else, arms_of, cases_of};
+ghost use Rattle.aos_emit_expr.specs.Adds.{Adds, front_code};
 ghost use Rattle.aos_emit_expr.specs.Scope.{program_of, own_of};
-ghost use Rattle.aos_emit_stat.specs.Ways.{left_to, pending};
+ghost use Rattle.aos_emit_stat.specs.Adds.{AddsStat, AddsStats, AddsLeft, AddsArms, AddsCases, AddsFound};
+ghost use Rattle.aos_emit_stat.specs.Ways.{pending};
 ghost use Rattle.aos_emit_stat.specs.Places.{places_from};
-ghost use Rattle.aos_sim.specs.Search.{arms_in, search_of, search_size, search_code};
-ghost use Rattle.aos_sim.specs.Code.{begin, value_code, out_code, assign_code, change_code, changed_code, for_head, step_code, rounds_code, arm_code, stat_code, stats_code, arms_code, cases_code, arm_place, block_ways, block_code};
+ghost use Rattle.aos_sim.specs.Code.{begin, value_code, for_head, step_code, rounds_code, arm_code, stats_code, block_ways, block_code};
 
 use crate::leave::{PENDING_EXIT, emit_exit, emit_return, redirect};
-use crate::objects::{emit_make, emit_new, emit_object, emit_record};
+use crate::objects::{emit_make, emit_new};
 use crate::search::{put_search, rows_of, set_places};
+use crate::simple::{
+    emit_alone, emit_assign, emit_change, emit_copy, emit_one, emit_out, emit_perform, emit_two,
+};
 use aos_base::{Binary, Pos, Relation, Width};
 use aos_code::{Instr, Kind};
-use aos_emit_expr::{
-    PENDING_END, Scope, emit_begin, emit_call, emit_place, emit_rows, emit_value, next_place,
-    number_of, put,
-};
-use aos_laid::next;
-use aos_typed::{
-    Change, OutCall, TArgument, TArm, TCallee, TCase, TElse, TExpr, TPlace, TRows, TStat, TType,
-};
-use std::alloc::{AllocError, Global};
-
-// A call of a procedure of module Out.
-fn put_out(
-    alloc: Global,
-    scope: &Scope<'_>,
-    code: &mut Vec<Instr>,
-    call: &OutCall,
-) -> Result<(), AllocError>
-    ensures { OnOk result (code.new.items ≡ code.old.items ++
-        out_code (program_of scope.now) (own_of scope.now) (seen_call call.now) (length code.old.items)) }
-{
-    match call {
-        OutCall::Open => put(code, Instr::OutOpen),
-        OutCall::Char(value) => {
-            emit_value(alloc, scope, code, value)?;
-            put(code, Instr::OutChar)
-        }
-        OutCall::Int(value, places) => {
-            emit_value(alloc, scope, code, value)?;
-            emit_value(alloc, scope, code, places)?;
-            put(code, Instr::OutInt)
-        }
-        OutCall::String(text) => {
-            emit_rows(alloc, scope, code, text)?;
-            put(code, Instr::OutString)
-        }
-        OutCall::Ln => put(code, Instr::OutLn),
-    }
-}
-
-fn emit_out(
-    alloc: Global,
-    scope: &Scope<'_>,
-    code: &mut Vec<Instr>,
-    at: Pos,
-    call: &OutCall,
-) -> Result<(), AllocError>
-    ensures { OnOk result (code.new.items ≡ code.old.items ++
-        begin at ∷ out_code (program_of scope.now) (own_of scope.now) (seen_call call.now) (length code.old.items + 1)) }
-{
-    emit_begin(code, at)?;
-    put_out(alloc, scope, code, call)
-}
-
-fn emit_assign(
-    alloc: Global,
-    scope: &Scope<'_>,
-    code: &mut Vec<Instr>,
-    at: Pos,
-    of: TType,
-    place: &TPlace,
-    value: &TExpr,
-) -> Result<(), AllocError>
-    ensures { OnOk result (code.new.items ≡ code.old.items ++
-        assign_code (program_of scope.now) (own_of scope.now) at of (seen_place place.now) (seen_expr value.now) (length code.old.items)) }
-{
-    emit_begin(code, at)?;
-    emit_place(alloc, scope, code, place)?;
-    emit_value(alloc, scope, code, value)?;
-    put(code, Instr::Store(scope.cell_kind(of)))
-}
-
-fn emit_copy(
-    alloc: Global,
-    scope: &Scope<'_>,
-    code: &mut Vec<Instr>,
-    at: Pos,
-    of: TType,
-    to: &TPlace,
-    from: &TPlace,
-) -> Result<(), AllocError>
-    ensures { OnOk result (code.new.items ≡ code.old.items ++
-        stat_code (program_of scope.now) (own_of scope.now) (Copy at of (seen_place to.now) (seen_place from.now)) (length code.old.items) (pending scope.now) 0) }
-{
-    emit_begin(code, at)?;
-    emit_place(alloc, scope, code, to)?;
-    emit_place(alloc, scope, code, from)?;
-    put(code, Instr::Copy(scope.cells_of(of)))
-}
-
-fn emit_put(
-    alloc: Global,
-    scope: &Scope<'_>,
-    code: &mut Vec<Instr>,
-    at: Pos,
-    strict: bool,
-    from: &TRows,
-    to: &TRows,
-) -> Result<(), AllocError>
-    ensures { OnOk result (code.new.items ≡ code.old.items ++
-        stat_code (program_of scope.now) (own_of scope.now) (PutText at strict (seen_rows from.now) (seen_rows to.now))
-        (length code.old.items) (pending scope.now) 0) }
-{
-    emit_begin(code, at)?;
-    emit_rows(alloc, scope, code, from)?;
-    emit_rows(alloc, scope, code, to)?;
-    put(code, Instr::PutText(strict))
-}
-
-fn emit_perform(
-    alloc: Global,
-    scope: &Scope<'_>,
-    code: &mut Vec<Instr>,
-    at: Pos,
-    callee: &TCallee,
-    arguments: &[TArgument],
-) -> Result<(), AllocError>
-    ensures { OnOk result (code.new.items ≡ code.old.items ++
-        stat_code (program_of scope.now) (own_of scope.now) (Perform at (seen_callee callee.now) (seen_list arguments.now))
-        (length code.old.items) (pending scope.now) 0) }
-{
-    emit_begin(code, at)?;
-    emit_call(alloc, scope, code, callee, arguments)
-}
-
-fn emit_assert(
-    alloc: Global,
-    scope: &Scope<'_>,
-    code: &mut Vec<Instr>,
-    at: Pos,
-    condition: &TExpr,
-    number: u8,
-) -> Result<(), AllocError>
-    ensures { OnOk result (code.new.items ≡ code.old.items ++
-        stat_code (program_of scope.now) (own_of scope.now) (Assert at (seen_expr condition.now) number) (length code.old.items) (pending scope.now) 0) }
-{
-    emit_begin(code, at)?;
-    emit_value(alloc, scope, code, condition)?;
-    put(code, Instr::Assert(number))
-}
-
-fn emit_halt(code: &mut Vec<Instr>, at: Pos, number: u8) -> Result<(), AllocError>
-    ensures { OnOk result (code.new.items ≡ code.old.items ++ begin at ∷ (Instr.Halt number ∷ [])) }
-{
-    emit_begin(code, at)?;
-    put(code, Instr::Halt(number))
-}
-
-fn emit_await(code: &mut Vec<Instr>, at: Pos, number: u32) -> Result<(), AllocError>
-    ensures { OnOk result (code.new.items ≡ code.old.items ++ begin at ∷ (Instr.Await number ∷ [])) }
-{
-    emit_begin(code, at)?;
-    put(code, Instr::Await(number))
-}
-
-// How a value is changed by what lies above it.
-fn put_operator(code: &mut Vec<Instr>, change: Change) -> Result<(), AllocError>
-    ensures { OnOk result (code.new.items ≡ code.old.items ++ change_code change) }
-{
-    match change {
-        Change::Add(width) => put(code, Instr::Binary(Binary::Add(width))),
-        Change::Subtract(width) => put(code, Instr::Binary(Binary::Sub(width))),
-        Change::Include => {
-            put(code, Instr::Dup)?;
-            put(code, Instr::Binary(Binary::SetSpan))?;
-            put(code, Instr::Binary(Binary::Union))
-        }
-        Change::Exclude => {
-            put(code, Instr::Dup)?;
-            put(code, Instr::Binary(Binary::SetSpan))?;
-            put(code, Instr::Binary(Binary::Minus))
-        }
-    }
-}
-
-// A variable whose place lies twice below a value is changed by that.
-fn put_change(code: &mut Vec<Instr>, change: Change) -> Result<(), AllocError>
-    ensures { OnOk result (code.new.items ≡ code.old.items ++
-        (Instr.Swap ∷ (Instr.Load Kind.N ∷ (Instr.Swap ∷ (change_code change ++ Instr.Store Kind.N ∷ []))))) }
-{
-    put(code, Instr::Swap)?;
-    put(code, Instr::Load(Kind::N))?;
-    put(code, Instr::Swap)?;
-    put_operator(code, change)?;
-    put(code, Instr::Store(Kind::N))
-}
-
-// What a variable is changed by is evaluated before the variable is read.
-fn emit_change(
-    alloc: Global,
-    scope: &Scope<'_>,
-    code: &mut Vec<Instr>,
-    at: Pos,
-    change: Change,
-    place: &TPlace,
-    by: &TExpr,
-) -> Result<(), AllocError>
-    ensures { OnOk result (code.new.items ≡ code.old.items ++
-        changed_code (program_of scope.now) (own_of scope.now) at change (seen_place place.now) (seen_expr by.now) (length code.old.items)) }
-{
-    emit_begin(code, at)?;
-    emit_place(alloc, scope, code, place)?;
-    put(code, Instr::Dup)?;
-    emit_value(alloc, scope, code, by)?;
-    put_change(code, change)
-}
+use aos_dispatch::{Front, next};
+use aos_emit_expr::{PENDING_END, Scope, emit_begin, emit_front, next_place, number_of, put};
+use aos_typed::{TArm, TCase, TElse, TExpr, TPlace, TStat, TType};
+use std::alloc::AllocError;
 
 // FOR before its rounds: its last value is kept, and its variable gets the first one.
 fn emit_head(
-    alloc: Global,
     scope: &Scope<'_>,
     code: &mut Vec<Instr>,
     at: Pos,
@@ -235,22 +36,14 @@ fn emit_head(
     to: &TExpr,
     level: u32,
 ) -> Result<(), AllocError>
-    ensures { OnOk result (code.new.items ≡ code.old.items ++
-        for_head (program_of scope.now) (own_of scope.now) at width (seen_place variable.now) (seen_expr from.now) (seen_expr to.now)
-        (length code.old.items) level) }
+    ensures { OnOk result (Adds
+        (λ p own q n. for_head p own at width q (seen_expr from.now) (seen_expr to.now) n level)
+        scope.now code.old.items code.new.items (seen_place variable.now)) }
 {
     emit_begin(code, at)?;
-    emit_value(alloc, scope, code, to)?;
+    emit_front(scope, code, Front::Value(to))?;
     put(code, Instr::Keep(level, Kind::N))?;
-    emit_assign(
-        alloc,
-        scope,
-        code,
-        at,
-        TType::Integer(width),
-        variable,
-        from,
-    )
+    emit_assign(scope, code, at, TType::Integer(width), variable, from)
 }
 
 // How a FOR's variable and its last value are in a round.
@@ -266,7 +59,6 @@ fn until(step: &i64) -> Relation
 
 // Whether there is a round: the variable against the last value, which is kept.
 fn emit_test(
-    alloc: Global,
     scope: &Scope<'_>,
     code: &mut Vec<Instr>,
     width: Width,
@@ -274,11 +66,11 @@ fn emit_test(
     step: &i64,
     level: u32,
 ) -> Result<(), AllocError>
-    ensures { OnOk result (code.new.items ≡ code.old.items ++
-        (value_code (program_of scope.now) (own_of scope.now) (Read (TType.Integer width) (seen_place variable.now)) (length code.old.items) ++
-        (Instr.Kept level Kind.N ∷ (Instr.Binary (Binary.Cmp (meaning.until step.now)) ∷ [])))) }
+    ensures { OnOk result (Adds (λ p own q n. value_code p own (Read (TType.Integer width) q) n ++
+        (Instr.Kept level Kind.N ∷ (Instr.Binary (Binary.Cmp (meaning.until step.now)) ∷ [])))
+        scope.now code.old.items code.new.items (seen_place variable.now)) }
 {
-    emit_place(alloc, scope, code, variable)?;
+    emit_front(scope, code, Front::Place(variable))?;
     put(code, Instr::Load(Kind::N))?;
     put(code, Instr::Kept(level, Kind::N))?;
     put(code, Instr::Binary(Binary::Cmp(until(step))))
@@ -286,7 +78,6 @@ fn emit_test(
 
 // The step that ends a round.
 fn emit_step(
-    alloc: Global,
     scope: &Scope<'_>,
     code: &mut Vec<Instr>,
     at: Pos,
@@ -294,12 +85,12 @@ fn emit_step(
     variable: &TPlace,
     step: &i64,
 ) -> Result<(), AllocError>
-    ensures { OnOk result (code.new.items ≡ code.old.items ++
-        step_code (program_of scope.now) (own_of scope.now) at width (seen_place variable.now) step.now (length code.old.items)) }
+    ensures { OnOk result (Adds (λ p own q. step_code p own at width q step.now)
+        scope.now code.old.items code.new.items (seen_place variable.now)) }
 {
     emit_begin(code, at)?;
-    emit_place(alloc, scope, code, variable)?;
-    emit_place(alloc, scope, code, variable)?;
+    emit_front(scope, code, Front::Place(variable))?;
+    emit_front(scope, code, Front::Place(variable))?;
     put(code, Instr::Load(Kind::N))?;
     put(code, Instr::Num(*step))?;
     put(code, Instr::Binary(Binary::Add(width)))?;
@@ -309,7 +100,6 @@ fn emit_step(
 // A test and statements, behind which the code goes on at `then`; where the test doesn't hold it goes on behind them.
 #[cycle(emit_stat)]
 fn emit_arm(
-    alloc: Global,
     scope: &Scope<'_>,
     code: &mut Vec<Instr>,
     test: &TExpr,
@@ -317,15 +107,16 @@ fn emit_arm(
     then: u32,
     level: u32,
 ) -> Result<(), AllocError>
-    ensures { OnOk result (let c = value_code (program_of scope.now) (own_of scope.now) (seen_expr test.now) (length code.old.items) in
-        code.new.items ≡ code.old.items ++ arm_code c
-        (stats_code (program_of scope.now) (own_of scope.now) (seen_stats body.now) (length code.old.items + length c + 1) (pending scope.now) level)
-        (length code.old.items) then []) }
+    ensures { OnOk result (Adds (λ p own e n. let c = value_code p own e n in
+        let inside = n + length c + 1 in
+        let b = stats_code p own (seen_stats body.now) inside (pending scope.now) level in
+        arm_code c b n then [])
+        scope.now code.old.items code.new.items (seen_expr test.now)) }
 {
-    emit_value(alloc, scope, code, test)?;
+    emit_front(scope, code, Front::Value(test))?;
     let test_end = code.len();
     put(code, Instr::JumpFalse(0))?;
-    emit_stats(alloc, scope, code, body, level)?;
+    emit_stats(scope, code, body, level)?;
     put(code, Instr::Jump(then))?;
     let end = next_place(code)?;
     code[test_end] = Instr::JumpFalse(end);
@@ -334,7 +125,6 @@ fn emit_arm(
 
 #[cycle(emit_stat)]
 fn emit_while(
-    alloc: Global,
     scope: &Scope<'_>,
     code: &mut Vec<Instr>,
     at: Pos,
@@ -342,37 +132,34 @@ fn emit_while(
     body: &[TStat],
     level: u32,
 ) -> Result<(), AllocError>
-    ensures { OnOk result (code.new.items ≡ code.old.items ++
-        stat_code (program_of scope.now) (own_of scope.now) (While at (seen_expr condition.now) (seen_stats body.now))
-        (length code.old.items) (pending scope.now) level) }
+    ensures { OnOk result (AddsStat scope.now code.old.items code.new.items level
+        (While at (seen_expr condition.now) (seen_stats body.now))) }
 {
     let start = next_place(code)?;
     emit_begin(code, at)?;
-    emit_arm(alloc, scope, code, condition, body, start, level)
+    emit_arm(scope, code, condition, body, start, level)
 }
 
 // Statements that are a region.
 #[cycle(emit_stat)]
 fn emit_region(
-    alloc: Global,
     scope: &Scope<'_>,
     code: &mut Vec<Instr>,
     body: &[TStat],
     level: u32,
 ) -> Result<(), AllocError>
-    ensures { OnOk result (code.new.items ≡ code.old.items ++
-        block_code true (stats_code (program_of scope.now) (own_of scope.now) (seen_stats body.now) (length code.old.items + 1)
-        (block_ways true (pending scope.now)) level)) }
+    ensures { OnOk result (Adds (λ p own ss n. block_code true
+        (stats_code p own ss (n + 1) (block_ways true (pending scope.now)) level))
+        scope.now code.old.items code.new.items (seen_stats body.now)) }
 {
     let inside = scope.in_region();
     put(code, Instr::Enter)?;
-    emit_stats(alloc, &inside, code, body, level)?;
+    emit_stats(&inside, code, body, level)?;
     put(code, Instr::Leave)
 }
 
 #[cycle(emit_stat)]
 fn emit_block(
-    alloc: Global,
     scope: &Scope<'_>,
     code: &mut Vec<Instr>,
     at: Pos,
@@ -380,59 +167,39 @@ fn emit_block(
     body: &[TStat],
     level: u32,
 ) -> Result<(), AllocError>
-    ensures { OnOk result (code.new.items ≡ code.old.items ++
-        stat_code (program_of scope.now) (own_of scope.now) (Block at exclusive (seen_stats body.now)) (length code.old.items)
-        (pending scope.now) level) }
+    ensures { OnOk result (AddsStat scope.now code.old.items code.new.items level
+        (Block at exclusive (seen_stats body.now))) }
 {
     emit_begin(code, at)?;
     if exclusive {
-        emit_region(alloc, scope, code, body, level)
+        emit_region(scope, code, body, level)
     } else {
-        emit_stats(alloc, scope, code, body, level)
+        emit_stats(scope, code, body, level)
     }
 }
 
-// WITH of an object, which is guarded first.
+// WITH: what is guarded first, and then its statements.
 #[cycle(emit_stat)]
-fn emit_with(
-    alloc: Global,
+fn emit_guarded(
     scope: &Scope<'_>,
     code: &mut Vec<Instr>,
     at: Pos,
-    object: &TExpr,
+    guarded: Front<'_>,
     body: &[TStat],
     level: u32,
 ) -> Result<(), AllocError>
-    ensures { OnOk result (code.new.items ≡ code.old.items ++
-        stat_code (program_of scope.now) (own_of scope.now) (With at (seen_expr object.now) (seen_stats body.now))
-        (length code.old.items) (pending scope.now) level) }
+    ensures { OnOk result (Adds (λ p own f n. let c = front_code p own f (n + 1) in
+        let inside = n + 1 + length c + 1 in
+        let b = stats_code p own (seen_stats body.now) inside (pending scope.now) level in
+        begin at ∷ (c ++ (Instr.Drop ∷ b)))
+        scope.now code.old.items code.new.items guarded.entry) }
 {
-    emit_object(alloc, scope, code, at, object)?;
-    emit_stats(alloc, scope, code, body, level)
-}
-
-// WITH of a record, which is guarded first.
-#[cycle(emit_stat)]
-fn emit_with_record(
-    alloc: Global,
-    scope: &Scope<'_>,
-    code: &mut Vec<Instr>,
-    at: Pos,
-    place: &TPlace,
-    body: &[TStat],
-    level: u32,
-) -> Result<(), AllocError>
-    ensures { OnOk result (code.new.items ≡ code.old.items ++
-        stat_code (program_of scope.now) (own_of scope.now) (WithRecord at (seen_place place.now) (seen_stats body.now))
-        (length code.old.items) (pending scope.now) level) }
-{
-    emit_record(alloc, scope, code, at, place)?;
-    emit_stats(alloc, scope, code, body, level)
+    emit_one(scope, code, at, guarded, Instr::Drop)?;
+    emit_stats(scope, code, body, level)
 }
 
 #[cycle(emit_stat)]
 fn emit_repeat(
-    alloc: Global,
     scope: &Scope<'_>,
     code: &mut Vec<Instr>,
     at: Pos,
@@ -440,34 +207,30 @@ fn emit_repeat(
     condition: &TExpr,
     level: u32,
 ) -> Result<(), AllocError>
-    ensures { OnOk result (code.new.items ≡ code.old.items ++
-        stat_code (program_of scope.now) (own_of scope.now) (Repeat at (seen_stats body.now) (seen_expr condition.now))
-        (length code.old.items) (pending scope.now) level) }
+    ensures { OnOk result (AddsStat scope.now code.old.items code.new.items level
+        (Repeat at (seen_stats body.now) (seen_expr condition.now))) }
 {
     let start = next_place(code)?;
     emit_begin(code, at)?;
-    emit_stats(alloc, scope, code, body, level)?;
-    emit_value(alloc, scope, code, condition)?;
+    emit_stats(scope, code, body, level)?;
+    emit_front(scope, code, Front::Value(condition))?;
     put(code, Instr::JumpFalse(start))
 }
 
 /// Statements in which an EXIT leads behind so many instructions that come after them.
 #[cycle(emit_stat)]
 pub fn emit_left(
-    alloc: Global,
     scope: &Scope<'_>,
     code: &mut Vec<Instr>,
     body: &[TStat],
     behind: u8,
     level: u32,
 ) -> Result<(), AllocError>
-    ensures { OnOk result (let first = length code.old.items in
-        let size = length (stats_code (program_of scope.now) (own_of scope.now) (seen_stats body.now) first (left_to scope.now 0) level) in
-        code.new.items ≡ code.old.items ++
-        stats_code (program_of scope.now) (own_of scope.now) (seen_stats body.now) first (left_to scope.now (first + size + behind)) level) }
+    ensures { OnOk result (AddsLeft scope.now code.old.items code.new.items level behind
+        (seen_stats body.now)) }
 {
     let first = code.len();
-    emit_stats(alloc, scope, code, body, level)?;
+    emit_stats(scope, code, body, level)?;
     let exit = number_of(code.len() + usize::from(behind))?;
     redirect(code, first, PENDING_EXIT, exit);
     Ok(())
@@ -475,27 +238,25 @@ pub fn emit_left(
 
 #[cycle(emit_stat)]
 fn emit_loop(
-    alloc: Global,
     scope: &Scope<'_>,
     code: &mut Vec<Instr>,
     at: Pos,
     body: &[TStat],
     level: u32,
 ) -> Result<(), AllocError>
-    ensures { OnOk result (code.new.items ≡ code.old.items ++
-        stat_code (program_of scope.now) (own_of scope.now) (Loop at (seen_stats body.now)) (length code.old.items) (pending scope.now) level) }
+    ensures { OnOk result (AddsStat scope.now code.old.items code.new.items level
+        (Loop at (seen_stats body.now))) }
 {
     let start = next_place(code)?;
     let inside = scope.in_loop();
     emit_begin(code, at)?;
-    emit_left(alloc, &inside, code, body, 1, level)?;
+    emit_left(&inside, code, body, 1, level)?;
     put(code, Instr::Jump(start))
 }
 
 // The rounds of a FOR. The jump behind their test is told its target when their end is known.
 #[cycle(emit_stat)]
 fn emit_rounds(
-    alloc: Global,
     scope: &Scope<'_>,
     code: &mut Vec<Instr>,
     at: Pos,
@@ -505,18 +266,18 @@ fn emit_rounds(
     body: &[TStat],
     level: u32,
 ) -> Result<(), AllocError>
-    ensures { OnOk result (code.new.items ≡ code.old.items ++
-        rounds_code (program_of scope.now) (own_of scope.now) at width (seen_place variable.now) step.now (seen_stats body.now)
-        (length code.old.items) (pending scope.now) level) }
+    ensures { OnOk result (Adds (λ p own q n. rounds_code p own at width q step.now
+        (seen_stats body.now) n (pending scope.now) level)
+        scope.now code.old.items code.new.items (seen_place variable.now)) }
 {
     let start = next_place(code)?;
     let inside = next(level)?;
     emit_begin(code, at)?;
-    emit_test(alloc, scope, code, width, variable, step, level)?;
+    emit_test(scope, code, width, variable, step, level)?;
     let test_end = code.len();
     put(code, Instr::JumpFalse(0))?;
-    emit_stats(alloc, scope, code, body, inside)?;
-    emit_step(alloc, scope, code, at, width, variable, step)?;
+    emit_stats(scope, code, body, inside)?;
+    emit_step(scope, code, at, width, variable, step)?;
     put(code, Instr::Jump(start))?;
     let end = next_place(code)?;
     code[test_end] = Instr::JumpFalse(end);
@@ -524,28 +285,46 @@ fn emit_rounds(
 }
 
 #[cycle(emit_stat)]
-#[tactic(auto, using(aos_laid::proofs::Heights::arm_less, aos_laid::proofs::Heights::otherwise_less))]
+fn emit_for(
+    scope: &Scope<'_>,
+    code: &mut Vec<Instr>,
+    at: Pos,
+    width: Width,
+    variable: &TPlace,
+    from: &TExpr,
+    to: &TExpr,
+    step: &i64,
+    body: &[TStat],
+    level: u32,
+) -> Result<(), AllocError>
+    ensures { OnOk result (AddsStat scope.now code.old.items code.new.items level
+        (For at width (seen_place variable.now) (seen_expr from.now) (seen_expr to.now) step.now
+        (seen_stats body.now))) }
+{
+    emit_head(scope, code, at, width, variable, from, to, level)?;
+    emit_rounds(scope, code, at, width, variable, step, body, level)
+}
+
+#[cycle(emit_stat)]
+#[tactic(auto, using(aos_dispatch::proofs::Heights::arm_less, aos_dispatch::proofs::Heights::otherwise_less))]
 fn emit_arms(
-    alloc: Global,
     scope: &Scope<'_>,
     code: &mut Vec<Instr>,
     arms: &[TArm],
     otherwise: &[TStat],
     level: u32,
 ) -> Result<(), AllocError>
-    ensures { OnOk result (code.new.items ≡ code.old.items ++
-        arms_code (program_of scope.now) (own_of scope.now) (arms_of arms.now (seen_stats otherwise.now))
-        (length code.old.items) pending_end (pending scope.now) level) }
+    ensures { OnOk result (AddsArms scope.now code.old.items code.new.items level
+        (arms_of arms.now (seen_stats otherwise.now))) }
 {
     for arm in arms {
-        emit_arm(alloc, scope, code, &arm.test, &arm.body, PENDING_END, level)?;
+        emit_arm(scope, code, &arm.test, &arm.body, PENDING_END, level)?;
     }
-    emit_stats(alloc, scope, code, otherwise, level)
+    emit_stats(scope, code, otherwise, level)
 }
 
 #[cycle(emit_stat)]
 fn emit_if(
-    alloc: Global,
     scope: &Scope<'_>,
     code: &mut Vec<Instr>,
     at: Pos,
@@ -553,13 +332,12 @@ fn emit_if(
     otherwise: &[TStat],
     level: u32,
 ) -> Result<(), AllocError>
-    ensures { OnOk result (code.new.items ≡ code.old.items ++
-        stat_code (program_of scope.now) (own_of scope.now) (If at (arms_of arms.now (seen_stats otherwise.now)))
-        (length code.old.items) (pending scope.now) level) }
+    ensures { OnOk result (AddsStat scope.now code.old.items code.new.items level
+        (If at (arms_of arms.now (seen_stats otherwise.now)))) }
 {
     emit_begin(code, at)?;
     let first = code.len();
-    emit_arms(alloc, scope, code, arms, otherwise, level)?;
+    emit_arms(scope, code, arms, otherwise, level)?;
     let end = next_place(code)?;
     redirect(code, first, PENDING_END, end);
     Ok(())
@@ -568,75 +346,68 @@ fn emit_if(
 #[cycle(emit_stat)]
 #[tactic(auto, using(aos_typed::proofs::Seen::else_seen))]
 fn emit_else(
-    alloc: Global,
     scope: &Scope<'_>,
     code: &mut Vec<Instr>,
     otherwise: &TElse,
     level: u32,
 ) -> Result<(), AllocError>
-    ensures { OnOk result (code.new.items ≡ code.old.items ++
-        cases_code (program_of scope.now) (own_of scope.now) (seen_else otherwise.now) (length code.old.items) pending_end (pending scope.now) level) }
+    ensures { OnOk result (AddsCases scope.now code.old.items code.new.items level
+        (seen_else otherwise.now)) }
 {
     match otherwise {
         TElse::Missing => put(code, Instr::Fail(4)),
-        TElse::Else(body) => emit_stats(alloc, scope, code, body, level),
+        TElse::Else(body) => emit_stats(scope, code, body, level),
     }
 }
 
 // The arms of CASE, one behind another, and where they begin. The jumps past them are told their target when that is known.
 #[cycle(emit_stat)]
-#[tactic(auto, using(aos_laid::proofs::Heights::case_less, aos_laid::proofs::Heights::else_less))]
+#[tactic(auto, using(aos_dispatch::proofs::Heights::case_less, aos_dispatch::proofs::Heights::else_less))]
 fn emit_choices(
-    alloc: Global,
     scope: &Scope<'_>,
     code: &mut Vec<Instr>,
     cases: &[TCase],
     otherwise: &TElse,
     level: u32,
 ) -> Result<Vec<u32>, AllocError>
-    ensures code { OnOk result (code.new.items ≡ code.old.items ++
-        cases_code (program_of scope.now) (own_of scope.now) (cases_of cases.now (seen_else otherwise.now))
-        (length code.old.items) pending_end (pending scope.now) level) }
+    ensures code { OnOk result (AddsCases scope.now code.old.items code.new.items level
+        (cases_of cases.now (seen_else otherwise.now))) }
     ensures places { IfOk result (λ places. places.items ≡
-        places_from (program_of scope.now) (own_of scope.now) (cases_of cases.now (seen_else otherwise.now))
+        places_from (program_of scope.now) (own_of scope.now)
+        (cases_of cases.now (seen_else otherwise.now))
         (length code.old.items) (pending scope.now) level) }
 {
-    let mut places = Vec::new(alloc);
+    let mut places = Vec::new(scope.alloc());
     for case in cases {
         let place = next_place(code)?;
         places.push(place)?;
-        emit_stats(alloc, scope, code, &case.body, level)?;
+        emit_stats(scope, code, &case.body, level)?;
         put(code, Instr::Jump(PENDING_END))?;
     }
     let last = next_place(code)?;
     places.push(last)?;
-    emit_else(alloc, scope, code, otherwise, level)?;
+    emit_else(scope, code, otherwise, level)?;
     Ok(places)
 }
 
 // The search of a CASE and its arms. The jumps of the search are told where the arms begin when these are there.
 #[cycle(emit_stat)]
 fn emit_found(
-    alloc: Global,
     scope: &Scope<'_>,
     code: &mut Vec<Instr>,
     cases: &[TCase],
     otherwise: &TElse,
     level: u32,
 ) -> Result<(), AllocError>
-    ensures { OnOk result (let all = cases_of cases.now (seen_else otherwise.now) in
-        let first = length code.old.items + search_size (search_of all) in
-        let end = first + length (cases_code (program_of scope.now) (own_of scope.now) all first 0 (pending scope.now) level) in
-        code.new.items ≡ code.old.items ++
-        (search_code (arm_place (program_of scope.now) (own_of scope.now) all first (pending scope.now) level) (arms_in all) (search_of all) level (length code.old.items)
-        ++ cases_code (program_of scope.now) (own_of scope.now) all first end (pending scope.now) level)) }
+    ensures { OnOk result (AddsFound scope.now code.old.items code.new.items level
+        (cases_of cases.now (seen_else otherwise.now))) }
 {
-    let rows = rows_of(alloc, cases)?;
+    let rows = rows_of(scope.alloc(), cases)?;
     let from = code.len();
     let other = number_of(cases.len())?;
     put_search(code, &rows, rows.len(), other, level)?;
     let first = code.len();
-    let places = emit_choices(alloc, scope, code, cases, otherwise, level)?;
+    let places = emit_choices(scope, code, cases, otherwise, level)?;
     let end = next_place(code)?;
     redirect(code, first, PENDING_END, end);
     set_places(&mut code[from..first], &places);
@@ -645,7 +416,6 @@ fn emit_found(
 
 #[cycle(emit_stat)]
 fn emit_case(
-    alloc: Global,
     scope: &Scope<'_>,
     code: &mut Vec<Instr>,
     at: Pos,
@@ -654,88 +424,81 @@ fn emit_case(
     otherwise: &TElse,
     level: u32,
 ) -> Result<(), AllocError>
-    ensures { OnOk result (code.new.items ≡ code.old.items ++
-        stat_code (program_of scope.now) (own_of scope.now) (Case at (seen_expr selector.now) (cases_of cases.now (seen_else otherwise.now)))
-        (length code.old.items) (pending scope.now) level) }
+    ensures { OnOk result (AddsStat scope.now code.old.items code.new.items level
+        (Case at (seen_expr selector.now) (cases_of cases.now (seen_else otherwise.now)))) }
 {
     emit_begin(code, at)?;
-    emit_value(alloc, scope, code, selector)?;
+    emit_front(scope, code, Front::Value(selector))?;
     put(code, Instr::Keep(level, Kind::N))?;
-    emit_found(alloc, scope, code, cases, otherwise, level)
+    emit_found(scope, code, cases, otherwise, level)
 }
 
 #[cycle(emit_stat)]
 fn emit_stat(
-    alloc: Global,
     scope: &Scope<'_>,
     code: &mut Vec<Instr>,
     statement: &TStat,
     level: u32,
 ) -> Result<(), AllocError>
-    ensures { OnOk result (code.new.items ≡ code.old.items ++
-        stat_code (program_of scope.now) (own_of scope.now) (seen_stat statement.now) (length code.old.items) (pending scope.now) level) }
+    ensures { OnOk result (AddsStat scope.now code.old.items code.new.items level
+        (seen_stat statement.now)) }
 {
     match statement {
-        TStat::Assign(at, of, place, value) => {
-            emit_assign(alloc, scope, code, *at, *of, place, value)
+        TStat::Assign(at, of, place, value) => emit_assign(scope, code, *at, *of, place, value),
+        TStat::Copy(at, of, to, from) => emit_copy(scope, code, *at, *of, to, from),
+        TStat::PutText(at, strict, from, to) => {
+            let last = Instr::PutText(*strict);
+            emit_two(scope, code, *at, Front::Rows(from), Front::Rows(to), last)
         }
-        TStat::Copy(at, of, to, from) => emit_copy(alloc, scope, code, *at, *of, to, from),
-        TStat::PutText(at, strict, from, to) => emit_put(
-            alloc, scope, code, *at, *strict, from, to,
-        ),
-        TStat::If(at, arms, body) => emit_if(alloc, scope, code, *at, arms, body, level),
+        TStat::If(at, arms, body) => emit_if(scope, code, *at, arms, body, level),
         TStat::Case(at, value, cases, otherwise) => {
-            emit_case(alloc, scope, code, *at, value, cases, otherwise, level)
+            emit_case(scope, code, *at, value, cases, otherwise, level)
         }
-        TStat::While(at, test, body) => emit_while(alloc, scope, code, *at, test, body, level),
-        TStat::Repeat(at, body, test) => emit_repeat(alloc, scope, code, *at, body, test, level),
-        TStat::Loop(at, body) => emit_loop(alloc, scope, code, *at, body, level),
+        TStat::While(at, test, body) => emit_while(scope, code, *at, test, body, level),
+        TStat::Repeat(at, body, test) => emit_repeat(scope, code, *at, body, test, level),
+        TStat::Loop(at, body) => emit_loop(scope, code, *at, body, level),
         TStat::Exit(at) => emit_exit(scope, code, *at),
         TStat::For(at, of, variable, from, to, step, body) => {
-            emit_head(alloc, scope, code, *at, *of, variable, from, to, level)?;
-            emit_rounds(alloc, scope, code, *at, *of, variable, step, body, level)
+            emit_for(scope, code, *at, *of, variable, from, to, step, body, level)
         }
-        TStat::Block(at, exclusive, body) => {
-            emit_block(alloc, scope, code, *at, *exclusive, body, level)
+        TStat::Block(at, exclusive, body) => emit_block(scope, code, *at, *exclusive, body, level),
+        TStat::Await(at, number, _) => emit_alone(code, *at, Instr::Await(*number)),
+        TStat::Assert(at, test, number) => {
+            emit_one(scope, code, *at, Front::Value(test), Instr::Assert(*number))
         }
-        TStat::Await(at, number, _) => emit_await(code, *at, *number),
-        TStat::Assert(at, test, number) => emit_assert(alloc, scope, code, *at, test, *number),
-        TStat::Halt(at, number) => emit_halt(code, *at, *number),
+        TStat::Halt(at, number) => emit_alone(code, *at, Instr::Halt(*number)),
         TStat::Change(at, change, place, value) => {
-            emit_change(alloc, scope, code, *at, *change, place, value)
+            emit_change(scope, code, *at, *change, place, value)
         }
-        TStat::Perform(at, callee, arguments) => {
-            emit_perform(alloc, scope, code, *at, callee, arguments)
-        }
-        TStat::Return(at, value) => emit_return(alloc, scope, code, *at, value),
+        TStat::Perform(at, callee, arguments) => emit_perform(scope, code, *at, callee, arguments),
+        TStat::Return(at, value) => emit_return(scope, code, *at, value),
         TStat::New(at, place, object, arguments) => {
-            emit_new(alloc, scope, code, *at, place, *object, arguments, level)
+            emit_new(scope, code, *at, place, *object, arguments, level)
         }
-        TStat::Make(at, place, of, lengths) => {
-            emit_make(alloc, scope, code, *at, place, *of, lengths)
+        TStat::Make(at, place, of, lengths) => emit_make(scope, code, *at, place, *of, lengths),
+        TStat::With(at, object, body) => {
+            emit_guarded(scope, code, *at, Front::Value(object), body, level)
         }
-        TStat::With(at, object, body) => emit_with(alloc, scope, code, *at, object, body, level),
         TStat::WithRecord(at, place, body) => {
-            emit_with_record(alloc, scope, code, *at, place, body, level)
+            emit_guarded(scope, code, *at, Front::Place(place), body, level)
         }
-        TStat::Out(at, call) => emit_out(alloc, scope, code, *at, call),
+        TStat::Out(at, call) => emit_out(scope, code, *at, call),
     }
 }
 
 #[cycle(emit_stat)]
-#[tactic(auto, using(aos_laid::proofs::Heights::one_less))]
+#[tactic(auto, using(aos_dispatch::proofs::Heights::one_less))]
 fn emit_stats(
-    alloc: Global,
     scope: &Scope<'_>,
     code: &mut Vec<Instr>,
     statements: &[TStat],
     level: u32,
 ) -> Result<(), AllocError>
-    ensures { OnOk result (code.new.items ≡ code.old.items ++
-        stats_code (program_of scope.now) (own_of scope.now) (seen_stats statements.now) (length code.old.items) (pending scope.now) level) }
+    ensures { OnOk result (AddsStats scope.now code.old.items code.new.items level
+        (seen_stats statements.now)) }
 {
     for statement in statements {
-        emit_stat(alloc, scope, code, statement, level)?;
+        emit_stat(scope, code, statement, level)?;
     }
     Ok(())
 }

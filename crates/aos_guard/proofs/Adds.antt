@@ -10,7 +10,7 @@ use Rattle.aos_guard.specs.declared.marks.Edge.{Edge}
 use Rattle.aos_uses.specs.declared.uses.Use.{Use}
 use Rattle.aos_uses.specs.declared.uses.Use.TheVariants.{Raises}
 use Rattle.aos_guard.specs.Edges.{HasBelow, InTexts, LeadsFrom}
-use Rattle.aos_guard.specs.Guarded.{Each, IsNamed, Keeps, method_of, raised}
+use Rattle.aos_uses.specs.Guarded.{Each, IsNamed, Keeps, method_of, raised}
 use Rattle.aos_guard.specs.Marks.{IsClosed, IsWithin, marked}
 use Rattle.aos_guard.proofs.Edges.{LeadBefore, lead_less, lead_more, leads_named, named_leads, none_named}
 use Rattle.aos_guard.proofs.Texts.{Before, before_all, before_less, before_more, before_none, before_some, some_of}

@@ -3,7 +3,7 @@ use Rattle.std.proofs.Common.{◌≡◌, ◌<◌, ◌≤◌, ◌+◌, ℕ, List,
 use Rattle.std.specs.Prelude.{◌↔◌}
 use Rattle.std.proofs.lemmas.List.{drop_more, drop_all}
 use Rattle.aos_uses.specs.declared.uses.Use.{Use}
-use Rattle.aos_guard.specs.Guarded.{Each}
+use Rattle.aos_uses.specs.Guarded.{Each}
 
 -- what is left decides
 abbrev pub LeftDecides : (R : Use → Type 0) → (us : List Use) → (i : ℕ) → Type 0

@@ -14,7 +14,7 @@ use Rattle.aos_typed.specs.Program.{Program}
 use Rattle.aos_typed.specs.Routines.{Routine, routines}
 use Rattle.aos_guard.specs.declared.marks.Edge.{Edge}
 use Rattle.aos_guard.specs.Edges.{HasBelow, LeadsFrom}
-use Rattle.aos_guard.specs.Guarded.{IsNamed, is_initial, is_marked, method_of}
+use Rattle.aos_uses.specs.Guarded.{IsNamed, is_initial, is_marked, method_of}
 use Rattle.aos_guard.specs.Marks.{IsClosed, KeepsEdge}
 use Rattle.aos_guard.proofs.Texts.{some_of}
 

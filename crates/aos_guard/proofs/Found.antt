@@ -7,7 +7,7 @@ use Rattle.aos_typed.specs.Program.{Program}
 use Rattle.aos_guard.specs.declared.marks.Edge.{Edge}
 use Rattle.aos_uses.specs.declared.uses.Use.{Use}
 use Rattle.aos_guard.specs.Edges.{AreMarks, AreTexts, InTexts}
-use Rattle.aos_guard.specs.Guarded.{IsQuiet, Keeps, is_initial}
+use Rattle.aos_uses.specs.Guarded.{IsQuiet, Keeps, is_initial}
 use Rattle.aos_guard.specs.Marks.{IsClosed, IsLeft, IsWithin, marked}
 use Rattle.aos_guard.proofs.Edges.{none_initial}
 use Rattle.aos_guard.proofs.Texts.{in_each, in_texts}

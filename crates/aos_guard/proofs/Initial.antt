@@ -11,9 +11,9 @@ use Rattle.aos_base.specs.Rooted.{by_number}
 use Rattle.aos_typed.specs.Numbers.{procedure_number}
 use Rattle.aos_typed.specs.Program.{Program}
 use Rattle.aos_typed.specs.Routines.{Routine, routines}
-use Rattle.aos_laid.specs.declared.routines.Routine.{Routine as CodeRoutine}
-use Rattle.aos_laid.specs.Routines.{seen_routine, seen_routines}
-use Rattle.aos_guard.specs.Guarded.{is_initial, is_marked}
+use Rattle.aos_dispatch.specs.declared.routines.Routine.{Routine as CodeRoutine}
+use Rattle.aos_dispatch.specs.Routines.{seen_routine, seen_routines}
+use Rattle.aos_uses.specs.Guarded.{is_initial, is_marked}
 use Rattle.aos_guard.specs.Marks.{marked}
 use Rattle.aos_guard.proofs.Edges.{none_initial}
 

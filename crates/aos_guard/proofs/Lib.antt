@@ -1,6 +1,5 @@
 pub mod Each
 pub mod Tests
-pub mod Largest
 pub mod Texts
 pub mod Edges
 pub mod Adds

@@ -6,14 +6,14 @@ use Rattle.std.proofs.lemmas.List.{drop_more, drop_all}
 use Rattle.aos_typed.specs.Conditions.{Awaited, Condition, condition_in, conditions, conditions_of}
 use Rattle.aos_typed.specs.Program.{Procedure, Program}
 use Rattle.aos_typed.specs.Routines.{routines}
-use Rattle.aos_laid.specs.declared.routines.Routine.{Routine as CodeRoutine}
-use Rattle.aos_laid.specs.Routines.{seen_routine, seen_routines}
-use Rattle.aos_laid.specs.declared.awaits.Await.{Await}
-use Rattle.aos_laid.specs.Awaits.{seen_await}
+use Rattle.aos_dispatch.specs.declared.routines.Routine.{Routine as CodeRoutine}
+use Rattle.aos_dispatch.specs.Routines.{seen_routine, seen_routines}
+use Rattle.aos_dispatch.specs.declared.awaits.Await.{Await}
+use Rattle.aos_dispatch.specs.Awaits.{seen_await}
 use Rattle.aos_guard.specs.declared.conditions.Told.{Told}
 use Rattle.aos_uses.specs.declared.uses.Use.{Use}
 use Rattle.aos_guard.specs.Awaits.{AreTold, Tells}
-use Rattle.aos_guard.specs.Guarded.{Each, Lets}
+use Rattle.aos_uses.specs.Guarded.{Each, Lets}
 use Rattle.aos_uses.specs.Uses.{expr_uses}
 
 -- a condition of this module or procedure, as the code found it

@@ -8,7 +8,7 @@ use Rattle.aos_typed.specs.declared.tree.TVariable.{TVariable}
 use Rattle.aos_typed.specs.Program.{Program}
 use Rattle.aos_typed.specs.Seen.{seen_variable}
 use Rattle.aos_guard.specs.Edges.{AreMarks}
-use Rattle.aos_guard.specs.Guarded.{IsQuiet}
+use Rattle.aos_uses.specs.Guarded.{IsQuiet}
 use Rattle.aos_guard.specs.Marks.{marked}
 
 -- both hold

@@ -9,10 +9,10 @@ use Rattle.std.proofs.lemmas.List.{length-map}
 use Rattle.std.proofs.lemmas.Option.{slice_get-map, slice_get_within, slice_get_read}
 use Rattle.aos_typed.specs.Program.{Program}
 use Rattle.aos_typed.specs.Routines.{Routine, routines}
-use Rattle.aos_laid.specs.declared.routines.Routine.{Routine as CodeRoutine}
-use Rattle.aos_laid.specs.Routines.{seen_routine, seen_routines}
+use Rattle.aos_dispatch.specs.declared.routines.Routine.{Routine as CodeRoutine}
+use Rattle.aos_dispatch.specs.Routines.{seen_routine, seen_routines}
 use Rattle.aos_uses.specs.declared.uses.Use.{Use}
-use Rattle.aos_guard.specs.Guarded.{Each, InEach}
+use Rattle.aos_uses.specs.Guarded.{Each, InEach}
 use Rattle.aos_guard.specs.Edges.{AreTexts, InTexts}
 use Rattle.aos_uses.specs.Uses.{routine_uses}
 

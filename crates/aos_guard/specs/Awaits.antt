@@ -4,16 +4,11 @@ use Rattle.std.specs.List.Sorted.{IsNonDecreasingBy, IsPermutation}
 use Rattle.aos_typed.specs.Conditions.{Condition, conditions}
 use Rattle.aos_typed.specs.Program.{Program}
 use Rattle.aos_guard.specs.declared.conditions.Told.{Told}
-use Rattle.aos_guard.specs.Guarded.{Each, Lets}
-use Rattle.aos_uses.specs.Uses.{expr_uses}
+use Rattle.aos_uses.specs.Guarded.{IsLocal}
 
 module _ (p : Program) where
-  -- a condition is local: it reads only locals, parameters by value, and guarded variables of the lock under which it is awaited
-  abbrev pub IsLocal : Condition → Type 0
-  IsLocal c = Each (Lets p c.home c.own) (expr_uses p c.expression)
-
   abbrev pub Tells : Condition → Told → Type 0
-  Tells c t = (t.home ≡ c.home) × ((t.at ≡ c.at) × ((IsTrue t.is_local → IsLocal c) × (IsLocal c → IsTrue t.is_local)))
+  Tells c t = (t.home ≡ c.home) × ((t.at ≡ c.at) × ((IsTrue t.is_local → IsLocal p c) × (IsLocal p c → IsTrue t.is_local)))
 
   -- this is told of these conditions, in their order
   abbrev pub AreTold : List Condition → List Told → Type 0

@@ -8,7 +8,7 @@ use Rattle.aos_typed.specs.Numbers.{id_of}
 use Rattle.aos_typed.specs.Program.{Program}
 use Rattle.aos_typed.specs.Routines.{routines}
 use Rattle.aos_uses.specs.declared.uses.Use.{Use}
-use Rattle.aos_guard.specs.Guarded.{Each, method_of, IsQuiet}
+use Rattle.aos_uses.specs.Guarded.{Each, method_of, IsQuiet}
 use Rattle.aos_guard.specs.Marks.{marked}
 use Rattle.aos_uses.specs.Uses.{routine_uses}
 

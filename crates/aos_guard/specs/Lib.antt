@@ -1,4 +1,3 @@
 pub mod Marks
 pub mod Edges
-pub mod Guarded
 pub mod Awaits

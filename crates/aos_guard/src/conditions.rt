@@ -4,8 +4,8 @@ ghost use Rattle.std.specs.Prelude.{◌≡◌, ◌≤◌, ◌^◌, ◌+◌, ◌*
 ghost use Rattle.aos_typed.specs.Conditions.{condition_in, conditions, conditions_of};
 ghost use Rattle.aos_typed.specs.Seen.{seen_program};
 ghost use Rattle.aos_typed.specs.WellTyped.{IsWellTyped};
-ghost use Rattle.aos_laid.specs.Awaits.{seen_await};
-ghost use Rattle.aos_laid.specs.Routines.{seen_routine};
+ghost use Rattle.aos_dispatch.specs.Awaits.{seen_await};
+ghost use Rattle.aos_dispatch.specs.Routines.{seen_routine};
 ghost use Rattle.aos_guard.specs.Awaits.{AreInOrder, AreTold, Tells, TellsEach, place_of};
 ghost use Rattle.aos_guard.specs.Edges.{AreMarks, AreTexts};
 
@@ -13,7 +13,7 @@ use crate::guarded::home_of;
 use crate::local::is_local;
 use crate::quiet::quiet_of;
 use aos_base::{NoMemory, Pos};
-use aos_laid::{Await, Laid, Routine, awaits_of};
+use aos_dispatch::{Await, Dispatch, Routine, awaits_of};
 use aos_typed::Program;
 use aos_uses::uses::Use;
 use aos_uses::{texts_of, value_uses};
@@ -31,23 +31,23 @@ pub struct Told {
 #[tactic(auto, using(crate::proofs::Tellings::told_one))]
 fn tell(
     alloc: Global,
-    laid: &Laid<'_>,
+    dispatch: &Dispatch<'_>,
     quiet: &[bool],
     texts: &[Vec<Use>],
     routine: &Routine<'_>,
     one: &Await<'_>,
 ) -> Result<Told, AllocError>
-    requires quiet { AreMarks (seen_program laid.now) quiet.now }
-    requires texts { AreTexts (seen_program laid.now) texts.now }
-    ensures { IfOk result (λ t. Tells (seen_program laid.now)
+    requires quiet { AreMarks (seen_program dispatch.now) quiet.now }
+    requires texts { AreTexts (seen_program dispatch.now) texts.now }
+    ensures { IfOk result (λ t. Tells (seen_program dispatch.now)
         (condition_in (seen_routine routine.now).home (seen_routine routine.now).own (seen_await one.now)) t) }
 {
     let mut uses = Vec::new(alloc);
-    value_uses(laid, &mut uses, one.condition)?;
+    value_uses(dispatch, &mut uses, one.condition)?;
     Ok(Told {
         home: home_of(routine),
         at: one.at,
-        is_local: is_local(laid, quiet, texts, routine, &uses)?,
+        is_local: is_local(dispatch, quiet, texts, routine, &uses)?,
     })
 }
 
@@ -70,19 +70,19 @@ fn put_all(all: &mut Vec<Told>, more: &[Told]) -> Result<(), AllocError>
 // What is told of those of a routine.
 fn routine_told(
     alloc: Global,
-    laid: &Laid<'_>,
+    dispatch: &Dispatch<'_>,
     quiet: &[bool],
     texts: &[Vec<Use>],
     routine: &Routine<'_>,
 ) -> Result<Vec<Told>, AllocError>
-    requires quiet { AreMarks (seen_program laid.now) quiet.now }
-    requires texts { AreTexts (seen_program laid.now) texts.now }
-    ensures { IfOk result (λ all. AreTold (seen_program laid.now) (conditions_of (seen_routine routine.now)) all.items) }
+    requires quiet { AreMarks (seen_program dispatch.now) quiet.now }
+    requires texts { AreTexts (seen_program dispatch.now) texts.now }
+    ensures { IfOk result (λ all. AreTold (seen_program dispatch.now) (conditions_of (seen_routine routine.now)) all.items) }
 {
     let mut all = Vec::new(alloc);
     let awaits = awaits_of(alloc, routine)?;
     for one in &awaits {
-        put(&mut all, tell(alloc, laid, quiet, texts, routine, one)?)?;
+        put(&mut all, tell(alloc, dispatch, quiet, texts, routine, one)?)?;
     }
     Ok(all)
 }
@@ -91,18 +91,18 @@ fn routine_told(
 #[tactic(auto, using(crate::proofs::Tellings::all_first))]
 fn all_told(
     alloc: Global,
-    laid: &Laid<'_>,
+    dispatch: &Dispatch<'_>,
     quiet: &[bool],
     texts: &[Vec<Use>],
 ) -> Result<Vec<Told>, AllocError>
-    requires quiet { AreMarks (seen_program laid.now) quiet.now }
-    requires texts { AreTexts (seen_program laid.now) texts.now }
-    ensures { IfOk result (λ all. AreTold (seen_program laid.now) (conditions (seen_program laid.now)) all.items) }
+    requires quiet { AreMarks (seen_program dispatch.now) quiet.now }
+    requires texts { AreTexts (seen_program dispatch.now) texts.now }
+    ensures { IfOk result (λ all. AreTold (seen_program dispatch.now) (conditions (seen_program dispatch.now)) all.items) }
 {
     let mut all = Vec::new(alloc);
-    let routines = laid.routines();
+    let routines = dispatch.routines();
     for routine in routines {
-        let here = routine_told(alloc, laid, quiet, texts, routine)?;
+        let here = routine_told(alloc, dispatch, quiet, texts, routine)?;
         put_all(&mut all, &here)?;
     }
     Ok(all)
@@ -139,10 +139,10 @@ pub fn locals(alloc: Global, program: &Program) -> Result<Vec<Told>, NoMemory>
     ensures each { IfOk result (λ all. TellsEach (seen_program program.now) all.items) }
     ensures order { IfOk result (λ all. AreInOrder all.items) }
 {
-    let laid = Laid::new(alloc, program)?;
-    let texts = texts_of(alloc, &laid)?;
-    let quiet = quiet_of(alloc, &laid, &texts)?;
-    let mut all = all_told(alloc, &laid, &quiet, &texts)?;
+    let dispatch = Dispatch::new(alloc, program)?;
+    let texts = texts_of(alloc, &dispatch)?;
+    let quiet = quiet_of(alloc, &dispatch, &texts)?;
+    let mut all = all_told(alloc, &dispatch, &quiet, &texts)?;
     all.sort_by_key(|one| place_of(one))?;
     Ok(all)
 }

@@ -3,12 +3,12 @@
 ghost use Rattle.std.specs.Prelude.{◌≡◌, ◌↔◌, ◌⊎◌, Some, false, map, slice_get, IfOk, IsTrue};
 ghost use Rattle.aos_typed.specs.Routines.{has_self};
 ghost use Rattle.aos_typed.specs.Seen.{seen_module, seen_program};
-ghost use Rattle.aos_laid.specs.Routines.{seen_routine};
+ghost use Rattle.aos_dispatch.specs.Routines.{seen_routine};
 ghost use Rattle.aos_guard.specs.Edges.{AreMarks, AreTexts};
-ghost use Rattle.aos_guard.specs.Guarded.{Each, InEach, IsDeclared, IsGuarded, IsQuiet, MayWrite, Spares, has_variable, is_of_module};
+ghost use Rattle.aos_uses.specs.Guarded.{Each, InEach, IsDeclared, IsGuarded, IsQuiet, MayWrite, Spares, has_variable, is_of_module};
 
 use crate::marks::has_mark;
-use aos_laid::{Laid, Routine, after};
+use aos_dispatch::{Dispatch, Routine, after};
 use aos_typed::TModule;
 use aos_uses::uses::{Target, Use, Variable};
 use std::alloc::AllocError;
@@ -53,10 +53,10 @@ fn have_variable(modules: &[TModule], home: u32, number: u32) -> bool
 }
 
 /// Whether a variable of a module is none of its string constants, which are numbered on from its variables.
-pub fn is_of_module(laid: &Laid<'_>, home: u32, number: u32) -> bool
-    ensures { result ≡ is_of_module (seen_program laid.now) home number }
+pub fn is_of_module(dispatch: &Dispatch<'_>, home: u32, number: u32) -> bool
+    ensures { result ≡ is_of_module (seen_program dispatch.now) home number }
 {
-    let program = laid.program();
+    let program = dispatch.program();
     have_variable(&program.modules, home, number)
 }
 
@@ -77,16 +77,16 @@ fn is_declared(variable: Variable) -> bool
 // Whether a routine may write a guarded variable of a module.
 #[tactic(auto, using(crate::proofs::Tests::all_four))]
 fn may_write_module(
-    laid: &Laid<'_>,
+    dispatch: &Dispatch<'_>,
     routine: &Routine<'_>,
     exclusive: bool,
     home: u32,
     number: u32,
 ) -> bool
-    ensures { IsTrue result ↔ (IsTrue (is_of_module (seen_program laid.now) home number) ×
+    ensures { IsTrue result ↔ (IsTrue (is_of_module (seen_program dispatch.now) home number) ×
         (IsTrue exclusive × (((seen_routine routine.now).home ≡ home) × (has_self (seen_routine routine.now).own ≡ false)))) }
 {
-    let there = is_of_module(laid, home, number);
+    let there = is_of_module(dispatch, home, number);
     let same = home_of(routine) == home;
     let own = has_self(routine);
     there && exclusive && same && !own
@@ -95,14 +95,14 @@ fn may_write_module(
 // Whether a text may write a guarded field.
 #[tactic(auto, using(crate::proofs::Tests::field_written))]
 fn may_write_field(
-    laid: &Laid<'_>,
+    dispatch: &Dispatch<'_>,
     quiet: &[bool],
     text: u32,
     through_self: bool,
     exclusive: bool,
 ) -> bool
-    requires { AreMarks (seen_program laid.now) quiet.now }
-    ensures { IsTrue result ↔ (IsTrue through_self × (IsTrue exclusive ⊎ IsQuiet (seen_program laid.now) text)) }
+    requires { AreMarks (seen_program dispatch.now) quiet.now }
+    ensures { IsTrue result ↔ (IsTrue through_self × (IsTrue exclusive ⊎ IsQuiet (seen_program dispatch.now) text)) }
 {
     let mark = has_mark(quiet, text);
     through_self && (exclusive || mark)
@@ -110,23 +110,23 @@ fn may_write_field(
 
 // Whether a text may write a guarded variable.
 fn may_write(
-    laid: &Laid<'_>,
+    dispatch: &Dispatch<'_>,
     quiet: &[bool],
     text: u32,
     routine: &Routine<'_>,
     target: Target,
     exclusive: bool,
 ) -> bool
-    requires { AreMarks (seen_program laid.now) quiet.now }
+    requires { AreMarks (seen_program dispatch.now) quiet.now }
     ensures { IsTrue result ↔
-        MayWrite (seen_program laid.now) text (seen_routine routine.now) target.through_self exclusive target.of }
+        MayWrite (seen_program dispatch.now) text (seen_routine routine.now) target.through_self exclusive target.of }
 {
     match target.of {
         Variable::Module(home, number) => {
-            may_write_module(laid, routine, exclusive, home, number)
+            may_write_module(dispatch, routine, exclusive, home, number)
         }
         Variable::Field(_, _) => {
-            may_write_field(laid, quiet, text, target.through_self, exclusive)
+            may_write_field(dispatch, quiet, text, target.through_self, exclusive)
         }
         Variable::Local => true,
         Variable::Passed => true,
@@ -138,7 +138,7 @@ fn may_write(
 // Whether a write in a text leaves a variable as a guarded one may be left.
 #[tactic(auto, using(crate::proofs::Tests::follows_so, crate::proofs::Tests::follows_none))]
 fn spares_write(
-    laid: &Laid<'_>,
+    dispatch: &Dispatch<'_>,
     quiet: &[bool],
     variable: Variable,
     text: u32,
@@ -146,11 +146,11 @@ fn spares_write(
     target: Target,
     exclusive: bool,
 ) -> bool
-    requires { AreMarks (seen_program laid.now) quiet.now }
-    ensures { IsTrue result ↔ Spares (seen_program laid.now) variable text (seen_routine routine.now) (Use.Writes target exclusive) }
+    requires { AreMarks (seen_program dispatch.now) quiet.now }
+    ensures { IsTrue result ↔ Spares (seen_program dispatch.now) variable text (seen_routine routine.now) (Use.Writes target exclusive) }
 {
     if target.of == variable {
-        may_write(laid, quiet, text, routine, target, exclusive)
+        may_write(dispatch, quiet, text, routine, target, exclusive)
     } else {
         true
     }
@@ -166,19 +166,19 @@ fn is_other(variable: Variable, target: Target) -> bool
 
 // Whether a use in a text leaves a variable as a guarded one may be left.
 fn spares(
-    laid: &Laid<'_>,
+    dispatch: &Dispatch<'_>,
     quiet: &[bool],
     variable: Variable,
     text: u32,
     routine: &Routine<'_>,
     one: Use,
 ) -> bool
-    requires { AreMarks (seen_program laid.now) quiet.now }
-    ensures { IsTrue result ↔ Spares (seen_program laid.now) variable text (seen_routine routine.now) one }
+    requires { AreMarks (seen_program dispatch.now) quiet.now }
+    ensures { IsTrue result ↔ Spares (seen_program dispatch.now) variable text (seen_routine routine.now) one }
 {
     match one {
         Use::Writes(target, exclusive) => {
-            spares_write(laid, quiet, variable, text, routine, target, exclusive)
+            spares_write(dispatch, quiet, variable, text, routine, target, exclusive)
         }
         Use::Varies(target) => is_other(variable, target),
         Use::Reads(_) => true,
@@ -195,18 +195,18 @@ fn spares(
 // Whether all uses in a text do.
 #[tactic(auto, using(crate::proofs::Each::each_first, crate::proofs::Each::each_more, crate::proofs::Each::each_no, crate::proofs::Each::each_yes))]
 fn text_spares(
-    laid: &Laid<'_>,
+    dispatch: &Dispatch<'_>,
     quiet: &[bool],
     variable: Variable,
     text: u32,
     routine: &Routine<'_>,
     uses: &[Use],
 ) -> bool
-    requires { AreMarks (seen_program laid.now) quiet.now }
-    ensures { IsTrue result ↔ Each (Spares (seen_program laid.now) variable text (seen_routine routine.now)) uses.now }
+    requires { AreMarks (seen_program dispatch.now) quiet.now }
+    ensures { IsTrue result ↔ Each (Spares (seen_program dispatch.now) variable text (seen_routine routine.now)) uses.now }
 {
     for one in uses {
-        if !spares(laid, quiet, variable, text, routine, *one) {
+        if !spares(dispatch, quiet, variable, text, routine, *one) {
             return false;
         }
     }
@@ -216,22 +216,22 @@ fn text_spares(
 // Whether all texts do.
 #[tactic(auto, using(crate::proofs::Texts::rest_first))]
 fn texts_spare(
-    laid: &Laid<'_>,
+    dispatch: &Dispatch<'_>,
     quiet: &[bool],
     texts: &[Vec<Use>],
     variable: Variable,
 ) -> Result<bool, AllocError>
-    requires quiet { AreMarks (seen_program laid.now) quiet.now }
-    requires texts { AreTexts (seen_program laid.now) texts.now }
-    ensures { IfOk result (λ b. IsTrue b ↔ InEach (seen_program laid.now) (Spares (seen_program laid.now) variable)) }
+    requires quiet { AreMarks (seen_program dispatch.now) quiet.now }
+    requires texts { AreTexts (seen_program dispatch.now) texts.now }
+    ensures { IfOk result (λ b. IsTrue b ↔ InEach (seen_program dispatch.now) (Spares (seen_program dispatch.now) variable)) }
 {
-    let routines = laid.routines();
+    let routines = dispatch.routines();
     for index in 0..routines.len() {
         let Some(text) = texts.get(index) else {
             return Err(AllocError);
         };
         let number = after(1, index)?;
-        if !text_spares(laid, quiet, variable, number, &routines[index], text) {
+        if !text_spares(dispatch, quiet, variable, number, &routines[index], text) {
             return Ok(false);
         }
     }
@@ -241,15 +241,15 @@ fn texts_spare(
 /// Whether a variable is guarded.
 #[tactic(auto, using(crate::proofs::Tests::both_hold))]
 pub fn is_guarded(
-    laid: &Laid<'_>,
+    dispatch: &Dispatch<'_>,
     quiet: &[bool],
     texts: &[Vec<Use>],
     variable: Variable,
 ) -> Result<bool, AllocError>
-    requires quiet { AreMarks (seen_program laid.now) quiet.now }
-    requires texts { AreTexts (seen_program laid.now) texts.now }
-    ensures { IfOk result (λ b. IsTrue b ↔ IsGuarded (seen_program laid.now) variable) }
+    requires quiet { AreMarks (seen_program dispatch.now) quiet.now }
+    requires texts { AreTexts (seen_program dispatch.now) texts.now }
+    ensures { IfOk result (λ b. IsTrue b ↔ IsGuarded (seen_program dispatch.now) variable) }
 {
-    let spared = texts_spare(laid, quiet, texts, variable)?;
+    let spared = texts_spare(dispatch, quiet, texts, variable)?;
     Ok(is_declared(variable) && spared)
 }

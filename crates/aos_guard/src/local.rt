@@ -4,12 +4,12 @@ ghost use Rattle.std.specs.Prelude.{◌≡◌, ◌↔◌, ◌⊎◌, IfOk, IsTru
 ghost use Rattle.aos_typed.specs.Routines.{has_self};
 ghost use Rattle.std.specs.Option.{unwrap_or};
 ghost use Rattle.aos_typed.specs.Seen.{seen_parameter, seen_program};
-ghost use Rattle.aos_laid.specs.Routines.{seen_routine};
+ghost use Rattle.aos_dispatch.specs.Routines.{seen_routine};
 ghost use Rattle.aos_guard.specs.Edges.{AreMarks, AreTexts};
-ghost use Rattle.aos_guard.specs.Guarded.{Each, IsGuarded, Lets, MayRead, is_by_value, is_of_module};
+ghost use Rattle.aos_uses.specs.Guarded.{Each, IsGuarded, Lets, MayRead, is_by_value, is_of_module};
 
 use crate::guarded::{has_self, home_of, is_guarded, is_of_module};
-use aos_laid::{Laid, Routine};
+use aos_dispatch::{Dispatch, Routine};
 use aos_typed::TParameter;
 use aos_uses::uses::{Target, Use, Variable};
 use std::alloc::AllocError;
@@ -36,11 +36,11 @@ fn is_by_value(routine: &Routine<'_>, number: u32) -> bool
 
 // Whether a condition in a routine may know a variable or a string constant of a module.
 #[tactic(auto, using(crate::proofs::Tests::known_or))]
-fn may_know(laid: &Laid<'_>, routine: &Routine<'_>, home: u32, number: u32) -> bool
-    ensures { IsTrue result ↔ (IsTrue (not (is_of_module (seen_program laid.now) home number)) ⊎
+fn may_know(dispatch: &Dispatch<'_>, routine: &Routine<'_>, home: u32, number: u32) -> bool
+    ensures { IsTrue result ↔ (IsTrue (not (is_of_module (seen_program dispatch.now) home number)) ⊎
         (((seen_routine routine.now).home ≡ home) × (has_self (seen_routine routine.now).own ≡ false))) }
 {
-    let there = is_of_module(laid, home, number);
+    let there = is_of_module(dispatch, home, number);
     let same = home_of(routine) == home;
     let own = has_self(routine);
     !there || (same && !own)
@@ -49,60 +49,66 @@ fn may_know(laid: &Laid<'_>, routine: &Routine<'_>, home: u32, number: u32) -> b
 // Whether it may read it.
 #[tactic(auto, using(crate::proofs::Tests::both_hold))]
 fn may_read_module(
-    laid: &Laid<'_>,
+    dispatch: &Dispatch<'_>,
     quiet: &[bool],
     texts: &[Vec<Use>],
     routine: &Routine<'_>,
     home: u32,
     number: u32,
 ) -> Result<bool, AllocError>
-    requires quiet { AreMarks (seen_program laid.now) quiet.now }
-    requires texts { AreTexts (seen_program laid.now) texts.now }
+    requires quiet { AreMarks (seen_program dispatch.now) quiet.now }
+    requires texts { AreTexts (seen_program dispatch.now) texts.now }
     ensures { IfOk result (λ b. IsTrue b ↔
-        ((IsTrue (not (is_of_module (seen_program laid.now) home number)) ⊎
+        ((IsTrue (not (is_of_module (seen_program dispatch.now) home number)) ⊎
         (((seen_routine routine.now).home ≡ home) × (has_self (seen_routine routine.now).own ≡ false))) ×
-        IsGuarded (seen_program laid.now) (Variable.Module home number))) }
+        IsGuarded (seen_program dispatch.now) (Variable.Module home number))) }
 {
-    let known = may_know(laid, routine, home, number);
-    let guarded = is_guarded(laid, quiet, texts, Variable::Module(home, number))?;
+    let known = may_know(dispatch, routine, home, number);
+    let guarded = is_guarded(dispatch, quiet, texts, Variable::Module(home, number))?;
     Ok(known && guarded)
 }
 
 // Whether it may read a field.
 #[tactic(auto, using(crate::proofs::Tests::first_holds))]
 fn may_read_field(
-    laid: &Laid<'_>,
+    dispatch: &Dispatch<'_>,
     quiet: &[bool],
     texts: &[Vec<Use>],
     through_self: bool,
     field: Variable,
 ) -> Result<bool, AllocError>
-    requires quiet { AreMarks (seen_program laid.now) quiet.now }
-    requires texts { AreTexts (seen_program laid.now) texts.now }
-    ensures { IfOk result (λ b. IsTrue b ↔ (IsTrue through_self × IsGuarded (seen_program laid.now) field)) }
+    requires quiet { AreMarks (seen_program dispatch.now) quiet.now }
+    requires texts { AreTexts (seen_program dispatch.now) texts.now }
+    ensures { IfOk result (λ b. IsTrue b ↔ (IsTrue through_self × IsGuarded (seen_program dispatch.now) field)) }
 {
-    let guarded = is_guarded(laid, quiet, texts, field)?;
+    let guarded = is_guarded(dispatch, quiet, texts, field)?;
     Ok(through_self && guarded)
 }
 
 // Whether a condition in a routine may read a variable.
 fn may_read(
-    laid: &Laid<'_>,
+    dispatch: &Dispatch<'_>,
     quiet: &[bool],
     texts: &[Vec<Use>],
     routine: &Routine<'_>,
     target: Target,
 ) -> Result<bool, AllocError>
-    requires quiet { AreMarks (seen_program laid.now) quiet.now }
-    requires texts { AreTexts (seen_program laid.now) texts.now }
-    ensures { IfOk result (λ b. IsTrue b ↔ MayRead (seen_program laid.now)
+    requires quiet { AreMarks (seen_program dispatch.now) quiet.now }
+    requires texts { AreTexts (seen_program dispatch.now) texts.now }
+    ensures { IfOk result (λ b. IsTrue b ↔ MayRead (seen_program dispatch.now)
         (seen_routine routine.now).home (seen_routine routine.now).own target.through_self target.of) }
 {
     match target.of {
         Variable::Module(home, number) => {
-            may_read_module(laid, quiet, texts, routine, home, number)
+            may_read_module(dispatch, quiet, texts, routine, home, number)
         }
-        Variable::Field(_, _) => may_read_field(laid, quiet, texts, target.through_self, target.of),
+        Variable::Field(_, _) => may_read_field(
+            dispatch,
+            quiet,
+            texts,
+            target.through_self,
+            target.of,
+        ),
         Variable::Local => Ok(true),
         Variable::Passed => Ok(false),
         Variable::Opened(number) => Ok(is_by_value(routine, number)),
@@ -112,20 +118,20 @@ fn may_read(
 
 // Whether a local condition in a routine may make a use of something.
 fn lets(
-    laid: &Laid<'_>,
+    dispatch: &Dispatch<'_>,
     quiet: &[bool],
     texts: &[Vec<Use>],
     routine: &Routine<'_>,
     one: Use,
 ) -> Result<bool, AllocError>
-    requires quiet { AreMarks (seen_program laid.now) quiet.now }
-    requires texts { AreTexts (seen_program laid.now) texts.now }
+    requires quiet { AreMarks (seen_program dispatch.now) quiet.now }
+    requires texts { AreTexts (seen_program dispatch.now) texts.now }
     ensures { IfOk result (λ b. IsTrue b ↔
-        Lets (seen_program laid.now) (seen_routine routine.now).home (seen_routine routine.now).own one) }
+        Lets (seen_program dispatch.now) (seen_routine routine.now).home (seen_routine routine.now).own one) }
 {
     match one {
         Use::Writes(_, _) => Ok(false),
-        Use::Reads(target) => may_read(laid, quiet, texts, routine, target),
+        Use::Reads(target) => may_read(dispatch, quiet, texts, routine, target),
         Use::Varies(_) => Ok(false),
         Use::Follows => Ok(false),
         Use::SelfValue => Ok(true),
@@ -140,19 +146,19 @@ fn lets(
 /// Whether a condition in a routine that uses this is local.
 #[tactic(auto, using(crate::proofs::Each::each_first, crate::proofs::Each::each_more, crate::proofs::Each::each_no, crate::proofs::Each::each_yes))]
 pub fn is_local(
-    laid: &Laid<'_>,
+    dispatch: &Dispatch<'_>,
     quiet: &[bool],
     texts: &[Vec<Use>],
     routine: &Routine<'_>,
     uses: &[Use],
 ) -> Result<bool, AllocError>
-    requires quiet { AreMarks (seen_program laid.now) quiet.now }
-    requires texts { AreTexts (seen_program laid.now) texts.now }
+    requires quiet { AreMarks (seen_program dispatch.now) quiet.now }
+    requires texts { AreTexts (seen_program dispatch.now) texts.now }
     ensures { IfOk result (λ b. IsTrue b ↔
-        Each (Lets (seen_program laid.now) (seen_routine routine.now).home (seen_routine routine.now).own) uses.now) }
+        Each (Lets (seen_program dispatch.now) (seen_routine routine.now).home (seen_routine routine.now).own) uses.now) }
 {
     for one in uses {
-        if !lets(laid, quiet, texts, routine, *one)? {
+        if !lets(dispatch, quiet, texts, routine, *one)? {
             return Ok(false);
         }
     }

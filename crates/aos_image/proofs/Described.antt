@@ -17,7 +17,7 @@ use Rattle.aos_code.specs.Machine.{first_cell}
 use Rattle.aos_code.specs.declared.image.ModuleDesc.{ModuleDesc}
 use Rattle.aos_code.specs.declared.image.TypeDesc.{TypeDesc}
 use Rattle.aos_layout.specs.Layout.{variable_cells}
-use Rattle.aos_laid.proofs.Lists.{more, more_of, next_of, count_of}
+use Rattle.aos_dispatch.proofs.Lists.{more, more_of, next_of, count_of}
 use Rattle.aos_sim.specs.Shows.{numbers_from, text_cells, first_cells, base_number}
 use Rattle.aos_image.specs.Made.{body_at, base_at, kinds_at, methods_at, AreModules, AreTypesOf}
 

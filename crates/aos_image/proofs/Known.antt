@@ -5,9 +5,9 @@ use Rattle.aos_types.specs.declared.row.TypeRow.{TypeRow}
 use Rattle.aos_typed.specs.Routines.{Routine}
 use Rattle.aos_code.specs.declared.image.ProcShape.{ProcShape}
 use Rattle.aos_layout.specs.Seen.{seen_shape}
-use Rattle.aos_laid.specs.declared.routines.Routine.{Routine as CodeRoutine}
-use Rattle.aos_laid.specs.Routines.{seen_routine, seen_routines}
-use Rattle.aos_laid.proofs.Lists.{more_of, next_of}
+use Rattle.aos_dispatch.specs.declared.routines.Routine.{Routine as CodeRoutine}
+use Rattle.aos_dispatch.specs.Routines.{seen_routine, seen_routines}
+use Rattle.aos_dispatch.proofs.Lists.{more_of, next_of}
 use Rattle.aos_sim.specs.Shows.{shape_of}
 
 module _ (rows : List TypeRow) (rs : List CodeRoutine) (k : ℕ) (ss : List ProcShape) where

@@ -4,12 +4,12 @@ ghost use Rattle.std.specs.Prelude.{◌≡◌, ◌+◌, suc, max, IfOk};
 ghost use Rattle.aos_typed.specs.Seen.{seen_list, seen_stat, seen_stats, seen_else, arms_of, cases_of};
 ghost use Rattle.aos_sim.specs.Need as need_of;
 
-use aos_laid::{after, next, operands};
+use aos_dispatch::{after, next, operands};
 use aos_typed::{TArgument, TArm, TCase, TElse, TStat};
 use std::alloc::AllocError;
 
 #[cycle(stat_level)]
-#[tactic(auto, using(aos_laid::proofs::Heights::arm_less, aos_laid::proofs::Heights::otherwise_less))]
+#[tactic(auto, using(aos_dispatch::proofs::Heights::arm_less, aos_dispatch::proofs::Heights::otherwise_less))]
 fn arms_level(arms: &[TArm], otherwise: &[TStat], around: u32) -> Result<u32, AllocError>
     ensures { IfOk result (λ n. n ≡ need_of.arms_level (arms_of arms.now (seen_stats otherwise.now)) around) }
 {
@@ -32,7 +32,7 @@ fn else_level(otherwise: &TElse, around: u32) -> Result<u32, AllocError>
 }
 
 #[cycle(stat_level)]
-#[tactic(auto, using(aos_laid::proofs::Heights::case_less, aos_laid::proofs::Heights::else_less))]
+#[tactic(auto, using(aos_dispatch::proofs::Heights::case_less, aos_dispatch::proofs::Heights::else_less))]
 fn cases_level(cases: &[TCase], otherwise: &TElse, around: u32) -> Result<u32, AllocError>
     ensures { IfOk result (λ n. n ≡ need_of.cases_level (cases_of cases.now (seen_else otherwise.now)) around) }
 {
@@ -91,7 +91,7 @@ fn stat_level(statement: &TStat, around: u32) -> Result<u32, AllocError>
 
 /// How many numbers these statements keep something under, where so many FORs and CASEs are around them.
 #[cycle(stat_level)]
-#[tactic(auto, using(aos_laid::proofs::Heights::one_less))]
+#[tactic(auto, using(aos_dispatch::proofs::Heights::one_less))]
 pub fn stats_level(statements: &[TStat], around: u32) -> Result<u32, AllocError>
     ensures { IfOk result (λ n. n ≡ need_of.stats_level (seen_stats statements.now) around) }
 {

@@ -6,13 +6,14 @@ ghost use Rattle.aos_typed.specs.Routines.{routine_of, routines};
 ghost use Rattle.aos_typed.specs.Seen.{seen_program, seen_procedure, seen_body};
 ghost use Rattle.aos_typed.specs.WellTyped.{IsProcedure, IsWellTyped};
 ghost use Rattle.aos_layout.specs.Seen.{seen_shape};
-ghost use Rattle.aos_laid.specs.Routines.{IsTyped, seen_routine};
+ghost use Rattle.aos_dispatch.specs.Routines.{IsTyped, seen_routine};
 ghost use Rattle.aos_sim.specs.Shows.{shape_of};
 
 use crate::level::stats_level;
 use aos_base::NoMemory;
 use aos_code::ProcShape;
-use aos_laid::{Laid, Routine, routines_of};
+use aos_dispatch::{Routine, routines_of};
+use aos_laid::Laid;
 use aos_layout::FrameShape;
 use aos_typed::{Program, TProcedure, TStat};
 use std::alloc::{AllocError, Global};

@@ -11,7 +11,8 @@ ghost use Rattle.aos_image.specs.Made.{AreTypesOf, body_at};
 
 use aos_base::NoMemory;
 use aos_code::TypeDesc;
-use aos_laid::{Laid, PREDECLARED_TYPES};
+use aos_dispatch::PREDECLARED_TYPES;
+use aos_laid::Laid;
 use aos_layout::{base_number, made_kinds, made_types};
 use aos_typed::Program;
 use aos_types::{TypeId, Types};

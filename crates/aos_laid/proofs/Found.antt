@@ -1,12 +1,9 @@
--- The cells of a program's variables and string constants are found by the numbers of modules and variables, and the numbers of
--- procedures by those of their modules.
-use Rattle.std.proofs.Common.{◌≡◌, ◌^◌, ◌++◌, drop, append_assoc, All, subst, ℕ, zero, suc, ◌+◌, ◌<◌, ◌≤◌, true, arith, List, [], ◌∷◌, length, get_or, map, take, Option, Some, None, refl, sym, ap, ◌∙◌}
+-- The cells of a program's variables and string constants are found by the numbers of modules and variables.
+use Rattle.std.proofs.Common.{◌≡◌, ◌^◌, All, subst, ℕ, ◌+◌, ◌<◌, true, List, [], ◌∷◌, length, get_or, map, take, Option, Some, None, refl, sym, ap, ◌∙◌}
 use Rattle.std.specs.Prelude.{slice_get, option_map}
 use Rattle.std.specs.Option.{unwrap_or}
-use Rattle.std.proofs.lemmas.List.{length-map, drop_more, drop_all}
-use Rattle.std.proofs.lemmas.List.Sums.{sum_by-cons}
+use Rattle.std.proofs.lemmas.List.{length-map}
 use Rattle.std.proofs.lemmas.List.Elements.{All-append, All-replicate}
-use Rattle.std.specs.Prelude.{sum_by}
 use Rattle.std.proofs.lemmas.Option.{slice_get-map, slice_get_read, slice_get_within}
 use Rattle.aos_types.specs.Shape.{leaves, row, size, offset, number_of}
 use Rattle.aos_typed.specs.declared.tree.TModule.{TModule}
@@ -14,11 +11,10 @@ use Rattle.aos_types.specs.declared.row.TypeId.{TypeId}
 use Rattle.aos_types.specs.declared.row.TypeRow.{TypeRow}
 use Rattle.aos_types.specs.Table.{row_of, is_scalar}
 use Rattle.aos_typed.specs.declared.tree.TType.{TType}
-use Rattle.aos_typed.specs.Numbers.{id_of, procedure_number}
+use Rattle.aos_typed.specs.Numbers.{id_of}
 use Rattle.aos_typed.specs.WellTyped.{IsResult, IsProcedure}
 use Rattle.aos_typed.specs.Program.{Procedure, Module, Program}
-use Rattle.aos_typed.specs.declared.tree.TObject.{TObject}
-use Rattle.aos_typed.specs.Seen.{seen_module, seen_object, seen_variable}
+use Rattle.aos_typed.specs.Seen.{seen_module, seen_variable}
 use Rattle.aos_typed.specs.Source.{module_shape}
 use Rattle.aos_code.specs.declared.instr.Kind.{Kind}
 use Rattle.aos_layout.specs.declared.block.BlockShape.{BlockShape as CodeBlockShape}
@@ -27,8 +23,8 @@ use Rattle.aos_layout.specs.Block.{BlockShape, block_shape}
 use Rattle.aos_layout.specs.Seen.{seen_block}
 use Rattle.aos_layout.specs.Frame.{AreThere, MayBeThere}
 use Rattle.aos_layout.proofs.Blocks.{first_cell, variable_kinds}
-use Rattle.aos_laid.specs.Laid.{AreBlocks, AreFirsts, firsts_by, firsts_from, cell_in, variables_in, module_kinds}
-use Rattle.aos_laid.proofs.Lists.{next_of}
+use Rattle.aos_laid.specs.Laid.{AreBlocks, cell_in, variables_in, module_kinds}
+use Rattle.aos_dispatch.proofs.Lists.{next_of}
 
 module _ (p : Program) (bs : List CodeBlockShape) (are : AreBlocks p bs) where
   found : (m : ℕ) → slice_get (map seen_block bs) m ≡ option_map (block_shape p.types) (slice_get p.modules m)
@@ -61,19 +57,6 @@ pub kinds_at : (p : Program) (see : TModule → Module) (ms : List TModule) (k :
 kinds_at p see ms k m are lt at =
     ap (λ (o : Option Module). unwrap_or (option_map (λ x. leaves (row (variable_cells p.types x.variables))) o) []) (ap (λ l. slice_get l k) are ∙ slice_get-map see ms k ∙ ap (option_map see) (slice_get_read ms (length ms) k m refl lt at))
 
--- a procedure's number
-pub number_is : (p : Program) (ns : List ℕ) (m k n : ℕ) → AreFirsts p ns → option_map (λ f. f + k) (slice_get ns m) ≡ Some n → n ≡ procedure_number p m k
-number_is p ns m k n are e =
-    let first = suc (length p.modules + length p.objects) in
-    let h = from first p.modules m (ap (λ l. option_map (λ f. f + k) (slice_get l m)) (sym are) ∙ e) in
-    omega (arith, h)
-  where
-    from : (a : ℕ) (xs : List Module) (m : ℕ) → option_map (λ f. f + k) (slice_get (firsts_from a xs) m) ≡ Some n → n ≡ a + sum_by (λ x. length x.procedures) (take m xs) + k
-    from a [] zero e = let h : a + k ≡ n = cc in omega (arith, h)
-    from a [] (suc m) e = absurd (cc)
-    from a (x ∷ xs) zero e = let h : a + k ≡ n = cc in omega (arith, h)
-    from a (x ∷ xs) (suc m) e = omega (arith, from (a + length x.procedures) xs m e, sum_by-cons (λ x. length x.procedures) x (take m xs))
-
 -- the types of a procedure are there
 scalar_there : (rows : List TypeRow) (t : TypeId) → is_scalar (row_of rows t) ≡ true → t.0 < length rows
 scalar_there rows t e = at_row (slice_get rows t.0) refl e
@@ -95,22 +78,3 @@ narrow_more rows ms k m b lt at is few all =
     let P : Module → Type 0 = λ x. size (block rows x) < 2 ^ 32 in
     let here : P (seen_module m) = subst (λ n. n < 2 ^ 32) (ap (λ (x : BlockShape). x.cells) is) few in
     subst (λ l. All P l) (sym (next_of seen_module ms k m lt at)) (All-append P (map seen_module (take k ms)) (seen_module m ∷ []) all (All-replicate P 1 (seen_module m) here))
-
--- the numbers of the first ones of what each has, one more of them,
-pub firsts_more : {A B : Type 0} (see : A → B) (count : B → ℕ) (xs : List A) (k : ℕ) (x : A) (next behind : ℕ) (firsts : List ℕ) → k < length xs → x ≡ get_or xs k x → behind ≡ next + count (see x) → (firsts ++ next ∷ []) ++ firsts_by count behind (map see (drop (k + 1) xs)) ≡ firsts ++ firsts_by count next (map see (drop k xs))
-firsts_more see count xs k x next behind firsts lt at is =
-    let rest = map see (drop (k + 1) xs) in
-    append_assoc firsts (next ∷ []) (firsts_by count behind rest)
-    ∙ ap (λ n. firsts ++ next ∷ firsts_by count n rest) is
-    ∙ ap (λ y. firsts ++ firsts_by count next (see y ∷ rest)) at
-    ∙ ap (λ l. firsts ++ firsts_by count next (map see l)) (sym (drop_more xs k x lt))
-
--- all of them,
-pub firsts_end : {A B : Type 0} (see : A → B) (count : B → ℕ) (xs : List A) (k next : ℕ) (firsts : List ℕ) → length xs ≤ k → firsts ++ next ∷ [] ≡ firsts ++ firsts_by count next (map see (drop k xs))
-firsts_end see count xs k next firsts le = ap (λ l. firsts ++ firsts_by count next (map see l)) (sym (drop_all k xs le))
-
--- and those of all modules of a program
-pub firsts_are : (ms xs : List TModule) (os : List TObject) (first : ℕ) (ns : List ℕ) → xs ≡ ms → first ≡ suc (length ms + length os) → ns ≡ firsts_from first (map seen_module xs) → ns ≡ firsts_from (suc (length (map seen_module ms) + length (map seen_object os))) (map seen_module ms)
-firsts_are ms xs os first ns same is e =
-    let n : first ≡ suc (length (map seen_module ms) + length (map seen_object os)) = omega (arith, is, length-map ms seen_module, length-map os seen_object) in
-    e ∙ (λ i. firsts_from (n i) (map seen_module (same i)))

@@ -9,16 +9,14 @@ use Rattle.aos_code.specs.declared.image.ParamKind.TheVariants as param
 use Rattle.aos_code.specs.declared.instr.Kind.{Kind}
 use Rattle.aos_code.specs.declared.instr.Kind.TheVariants.{N, A}
 use Rattle.aos_code.specs.Silent.{kinds_of}
-use Rattle.aos_typed.specs.declared.tree.TArgument.{TArgument}
-use Rattle.aos_typed.specs.Operands.{operands}
-use Rattle.aos_typed.specs.Program.{Arguments, Procedure, Program}
-use Rattle.aos_typed.specs.Seen.{seen_argument, seen_list}
+use Rattle.aos_typed.specs.Program.{Procedure, Program}
 use Rattle.aos_typed.specs.Routines.{Routine, parameters_of, routines}
 use Rattle.aos_typed.specs.WellTyped.{IsWellTyped}
 use Rattle.aos_layout.specs.Frame.{IsThere}
-use Rattle.aos_laid.specs.declared.routines.Routine.{Routine as CodeRoutine}
-use Rattle.aos_laid.specs.Routines.{IsTypedBy, AreHandedThere, handed_by, seen_routine, seen_routines}
-use Rattle.aos_laid.proofs.Listed.{routines_typed}
+use Rattle.aos_dispatch.specs.declared.routines.Routine.{Routine as CodeRoutine}
+use Rattle.aos_dispatch.specs.Routines.{IsTypedBy, seen_routine, seen_routines}
+use Rattle.aos_dispatch.proofs.Listed.{routines_typed}
+use Rattle.aos_laid.specs.Handed.{AreHandedThere, handed_by}
 
 -- one number more
 pub numbers_more : (n i : ℕ) (kinds : List Kind) → i < n → (kinds ++ N ∷ []) ++ replicate (n - (i + 1)) N ≡ kinds ++ replicate (n - i) N
@@ -88,13 +86,3 @@ handed_past rs zero at = refl
 handed_past rs (suc n) at =
     let down : suc n - 1 ≡ n = omega arith in
     ap (λ o. parameters_of (option_and_then (λ (x : Routine). x.own) o)) (sym (slice_get-map seen_routine rs n ∙ ap (option_map seen_routine) (ap (slice_get rs) (sym down) ∙ at)))
-
--- one argument more below those that are counted
-pub seen_next : (as' : List TArgument) (k left : ℕ) (a : TArgument) → k < length as' → k + 1 ≡ left → a ≡ get_or as' k a → seen_argument a (seen_list (drop left as')) ≡ seen_list (drop k as')
-seen_next as' k left a lt next at =
-    ap (λ n. seen_argument a (seen_list (drop n as'))) (sym next)
-    ∙ ap (λ x. seen_argument x (seen_list (drop (k + 1) as'))) at
-    ∙ ap seen_list (sym (drop_more as' k a lt))
-
-pub operands_more : (as' : List TArgument) (k left : ℕ) (a : TArgument) (count n : ℕ) → k < length as' → k + 1 ≡ left → a ≡ get_or as' k a → count ≡ operands (seen_list (drop left as')) → ((more : Arguments) → operands more ≡ count → n ≡ operands (seen_argument a more)) → n ≡ operands (seen_list (drop k as'))
-operands_more as' k left a count n lt next at is f = f (seen_list (drop left as')) (sym is) ∙ ap operands (seen_next as' k left a lt next at)

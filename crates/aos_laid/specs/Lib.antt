@@ -1,5 +1,2 @@
-pub mod Nearest
-pub mod Routines
+pub mod Handed
 pub mod Laid
-pub mod Tables
-pub mod Awaits

@@ -6,10 +6,11 @@ ghost use Rattle.aos_layout.specs.Frame.{IsThere, parameter_kind};
 ghost use Rattle.aos_typed.specs.Routines.{parameters_of};
 ghost use Rattle.aos_typed.specs.Seen.{seen_procedure};
 ghost use Rattle.aos_typed.specs.WellTyped.{AreTypes};
-ghost use Rattle.aos_laid.specs.Routines.{AreHandedThere, handed_by, seen_routine, seen_routines};
+ghost use Rattle.aos_dispatch.specs.Routines.{seen_routine, seen_routines};
+ghost use Rattle.aos_laid.specs.Handed.{AreHandedThere, handed_by};
 
-use crate::routines::Routine;
 use aos_code::{Kind, ParamKind};
+use aos_dispatch::Routine;
 use aos_layout::parameter_kinds;
 use aos_typed::TProcedure;
 use aos_types::Types;

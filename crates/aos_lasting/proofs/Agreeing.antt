@@ -24,7 +24,7 @@ use Rattle.aos_typed.specs.Meaning.{Question, Item, Do, Rounds, Round, Until, Re
 use Rattle.aos_typed.specs.Source.{Frame, Turned, all_rooted, answered, done, frames_with, here_of, lock_of, locks_in, own_lock, regions_of}
 use Rattle.aos_places.specs.Shows.{AllShown}
 use Rattle.aos_sim.proofs.Does.{HasTypes}
-use Rattle.aos_guard.specs.Guarded.{IsGuarded, IsQuiet, Spares}
+use Rattle.aos_uses.specs.Guarded.{IsGuarded, IsQuiet, Spares}
 use Rattle.aos_uses.specs.declared.uses.Use.{Use}
 use Rattle.aos_uses.specs.declared.uses.Variable.{Variable}
 use Rattle.aos_handover.specs.Kinds.{IsAsking, IsStored, OneScalar, OneWhole, OneText, Kind, Settled, Stopped, Left, Popped, Told, Written, Stored, Created, Called, Stands}

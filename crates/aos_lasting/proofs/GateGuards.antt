@@ -6,8 +6,7 @@ use Rattle.aos_base.specs.Rooted.{by_number}
 use Rattle.aos_typed.specs.Methods.{own_numbers, slots}
 use Rattle.aos_typed.specs.Routines.{Routine, routines}
 use Rattle.aos_uses.specs.declared.uses.Variable.TheVariants as variable
-use Rattle.aos_guard.specs.Awaits.{IsLocal}
-use Rattle.aos_guard.specs.Guarded.{Each, IsGuarded, IsNamed, IsQuiet, Keeps, Spares, is_initial, method_of}
+use Rattle.aos_uses.specs.Guarded.{Each, IsGuarded, IsLocal, IsNamed, IsQuiet, Keeps, Spares, is_initial, method_of}
 use Rattle.aos_uses.specs.Uses.{routine_uses}
 use Rattle.aos_lasting.specs.Example.{condition, gates}
 

@@ -32,7 +32,7 @@ use Rattle.aos_sim.specs.Shows.{IsCodeOf}
 use Rattle.aos_sim.proofs.Does.{scheme}
 use Rattle.aos_sim.proofs.States.{SameStore, world_of}
 use Rattle.aos_sim.proofs.Turns.{Together}
-use Rattle.aos_guard.specs.Guarded.{IsQuiet}
+use Rattle.aos_uses.specs.Guarded.{IsQuiet}
 use Rattle.aos_handover.proofs.Turns.{turn_kind}
 use Rattle.aos_naming.specs.Naming.{AreOf, Builds, HideAll}
 use Rattle.aos_naming.proofs.Alike.{first, start}

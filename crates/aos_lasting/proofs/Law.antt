@@ -49,7 +49,7 @@ use Rattle.aos_uses.specs.declared.uses.Use.{Use}
 use Rattle.aos_uses.specs.declared.uses.Use.TheVariants as used
 use Rattle.aos_uses.specs.declared.uses.Variable.{Variable}
 use Rattle.aos_uses.specs.declared.uses.Variable.TheVariants as variable
-use Rattle.aos_guard.specs.Guarded.{Each, IsGuarded, Spares, is_by_value}
+use Rattle.aos_uses.specs.Guarded.{Each, IsGuarded, Spares, is_by_value}
 use Rattle.aos_uses.specs.Uses.{is_self, is_own, place_uses, rows_uses, arguments_uses, receiver_uses, expr_uses, call_uses, called as called_uses, callee_number, follows, is_variable, rows_target, target as target_of, varies}
 use Rattle.aos_naming.specs.Naming.{AllAre}
 use Rattle.aos_naming.proofs.Items.{part}

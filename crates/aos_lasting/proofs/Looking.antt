@@ -31,7 +31,7 @@ use Rattle.aos_sim.proofs.Runs.{Run, tables_of}
 use Rattle.aos_sim.proofs.Runs as runs
 use Rattle.aos_sim.proofs.States.{shapes_of, top_shape, world_of}
 use Rattle.aos_places.specs.Shows.{Shown}
-use Rattle.aos_guard.specs.Guarded.{IsGuarded, Lets, MayRead, Spares, is_by_value, is_of_module}
+use Rattle.aos_uses.specs.Guarded.{IsGuarded, Lets, MayRead, Spares, is_by_value, is_of_module}
 use Rattle.aos_uses.specs.declared.uses.Target.{Target}
 use Rattle.aos_uses.specs.declared.uses.Use.{Use}
 use Rattle.aos_uses.specs.declared.uses.Use.TheVariants as used

@@ -21,7 +21,7 @@ use Rattle.aos_uses.specs.declared.uses.Target.{Target}
 use Rattle.aos_uses.specs.declared.uses.Use.TheVariants as used
 use Rattle.aos_uses.specs.declared.uses.Variable.{Variable}
 use Rattle.aos_uses.specs.declared.uses.Variable.TheVariants as variable
-use Rattle.aos_guard.specs.Guarded.{IsGuarded, IsQuiet, MayWrite, Spares, is_of_module}
+use Rattle.aos_uses.specs.Guarded.{IsGuarded, IsQuiet, MayWrite, Spares, is_of_module}
 use Rattle.aos_naming.specs.Items.{has_mark}
 use Rattle.aos_naming.proofs.Building.{SameTexts, NoFrames, OneMore}
 use Rattle.aos_lasting.specs.Agree.{AreSame, IsSame}

@@ -34,7 +34,7 @@ use Rattle.aos_sim.proofs.Turns.{IsAwaited, Together}
 use Rattle.aos_handover.specs.Kinds.{IsAsking}
 use Rattle.aos_naming.specs.Naming.{AreOf, StoreIs}
 use Rattle.aos_naming.proofs.Traced.{AsksFor, Traces}
-use Rattle.aos_guard.specs.Guarded.{Lets}
+use Rattle.aos_uses.specs.Guarded.{Lets}
 use Rattle.aos_lasting.specs.Agree.{AgreeOn, IsLocalAt}
 use Rattle.aos_lasting.specs.Spots.{IsFree, Serves}
 use Rattle.aos_lasting.proofs.Copies.{HoldCopies}

@@ -20,7 +20,7 @@ use Rattle.aos_typed.specs.Value.{Value, Int, Place, is_true}
 use Rattle.aos_typed.specs.Meaning.{Here, Question, Doing, Item, Do, Rounds, Round, Until, Region, End, Gives, After, Into, Exits, Returns, leave, leave_all, item_of, value_of}
 use Rattle.aos_typed.specs.Source.{Frame, all_rooted, answered, arguments_in, called_frame, here_of, local_part, noted, self_of, told}
 use Rattle.aos_sim.proofs.Does.{HasTypes, Given, Handles, IsCalledOn, IsSelf, self_grows}
-use Rattle.aos_guard.specs.Guarded.{IsGuarded, Spares}
+use Rattle.aos_uses.specs.Guarded.{IsGuarded, Spares}
 use Rattle.aos_uses.specs.declared.uses.Use.{Use}
 use Rattle.aos_uses.specs.declared.uses.Variable.{Variable as GuardedVariable}
 use Rattle.aos_uses.specs.Uses.{expr_uses, stats_uses}

@@ -26,7 +26,7 @@ use Rattle.aos_sim.proofs.Changes.{includes_itself}
 use Rattle.aos_uses.specs.declared.uses.Use.{Use}
 use Rattle.aos_uses.specs.declared.uses.Use.TheVariants as used
 use Rattle.aos_uses.specs.declared.uses.Variable.{Variable}
-use Rattle.aos_guard.specs.Guarded.{Spares, IsGuarded, Each}
+use Rattle.aos_uses.specs.Guarded.{Spares, IsGuarded, Each}
 use Rattle.aos_uses.specs.Uses.{arms_uses, arguments_uses, cases_uses, expr_uses, initial_number, makes, out_uses, place_uses, rows_target, rows_uses, stat_uses, stats_uses, target, values_uses, written}
 use Rattle.aos_lasting.proofs.Law.{Law, law_bind, law_more, value_law, place_law, rows_law, arguments_law, call_law, AreSpared, IsWritten, RowsAt, Gives, given_law, handed_to, agree_same, method_stands, at_number, flags_of}
 use Rattle.aos_lasting.specs.Spots.{IsAt, IsFree, Serves, AreFreeFor}

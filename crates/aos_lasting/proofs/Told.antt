@@ -19,7 +19,7 @@ use Rattle.aos_typed.specs.Value.{Value, Int, Flag, Char, Set, Object, Callable,
 use Rattle.aos_typed.specs.Meaning.{Here, Question, Doing, Item, Do, Rounds, Round, Until, Region, End, Gives, object_in, procedure_in}
 use Rattle.aos_typed.specs.Source.{known, length_in, object_place, has_type_in, noted, type_in}
 use Rattle.aos_sim.proofs.Does.{HasTypes, IsSelf, bind_val}
-use Rattle.aos_guard.specs.Guarded.{IsGuarded, Spares}
+use Rattle.aos_uses.specs.Guarded.{IsGuarded, Spares}
 use Rattle.aos_uses.specs.declared.uses.Use.{Use}
 use Rattle.aos_uses.specs.declared.uses.Variable.{Variable}
 use Rattle.aos_naming.specs.Naming.{ContentIs}

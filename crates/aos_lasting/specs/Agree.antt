@@ -13,8 +13,7 @@ use Rattle.aos_typed.specs.Store.{Store, made_in}
 use Rattle.aos_typed.specs.Value.{Value}
 use Rattle.aos_typed.specs.Source.{all_rooted}
 use Rattle.aos_uses.specs.declared.uses.Variable.TheVariants as variable
-use Rattle.aos_guard.specs.Awaits.{IsLocal}
-use Rattle.aos_guard.specs.Guarded.{IsGuarded, is_of_module}
+use Rattle.aos_uses.specs.Guarded.{IsGuarded, IsLocal, is_of_module}
 use Rattle.aos_lasting.specs.Spots.{HasFields, field_of}
 
 -- part k of what stands below a root

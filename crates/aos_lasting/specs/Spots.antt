@@ -23,7 +23,7 @@ use Rattle.aos_typed.specs.WellTyped.{is_reference, target}
 use Rattle.aos_uses.specs.declared.uses.Target.{Target}
 use Rattle.aos_uses.specs.declared.uses.Variable.{Variable}
 use Rattle.aos_uses.specs.declared.uses.Variable.TheVariants as variable
-use Rattle.aos_guard.specs.Guarded.{IsGuarded, is_by_value}
+use Rattle.aos_uses.specs.Guarded.{IsGuarded, is_by_value}
 
 abbrev pub InFrame : Root → Type 0
 InFrame r = (d : ℕ) × (r ≡ root.Frame d)

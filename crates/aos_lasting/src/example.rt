@@ -8,8 +8,7 @@ ghost use Rattle.aos_concurrency.specs.Handover.{IsGiven, OfOthers};
 ghost use Rattle.aos_typed.specs.Conditions.{conditions};
 ghost use Rattle.aos_typed.specs.Source.{source};
 ghost use Rattle.aos_typed.specs.WellTyped.{IsWellTyped};
-ghost use Rattle.aos_guard.specs.Awaits.{IsLocal};
-ghost use Rattle.aos_guard.specs.Guarded.{IsQuiet};
+ghost use Rattle.aos_uses.specs.Guarded.{IsLocal, IsQuiet};
 ghost use Rattle.aos_lasting.specs.Example.{IsCalled, IsCoded, at_the_call, at_the_end, at_the_handover, at_the_release, condition, gates, up_to_the_end};
 
 /// A gate whose field is set by a quiet initializer, and whose body waits for it: its program meets what the law asks for, the initializer

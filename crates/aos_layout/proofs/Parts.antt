@@ -1,17 +1,16 @@
 -- The parts of types: how far bases lead, and the own parts behind those of the base.
 use Rattle.std.proofs.Common.{◌≡◌, ℕ, zero, suc, ◌+◌, ◌*◌, ◌<◌, ◌≤◌, List, map, length, Option, Some, None, refl, sym, ap, ◌∙◌, arith}
 use Rattle.std.proofs.lemmas.List.{length-map}
-use mathlib.Core.Logic.{inl}
 use Rattle.aos_types.specs.declared.row.TypeId.{TypeId}
 use Rattle.aos_types.specs.declared.row.TypeRow.{TypeRow}
 use Rattle.aos_types.specs.declared.row.TypeRow.TheVariants as row
 use Rattle.aos_types.specs.Table.{row_of, base_of}
 use Rattle.aos_types.specs.Shape as shape
-use Rattle.aos_types.specs.Shape.{Shape, One, Nothing, Pair, size, join, part, before}
+use Rattle.aos_types.specs.Shape.{Nothing, size, join, part, before}
 use Rattle.aos_types.specs.Contents.{contents, with_parts, of_base, levels}
-use Rattle.aos_types.specs.Chain.{IsOneOf, parts_of, IsRanked, NoneContainsItself}
+use Rattle.aos_types.specs.Chain.{IsRanked, NoneContainsItself}
 use Rattle.aos_types.proofs.Ranks.{ranked}
-use Rattle.aos_types.proofs.Tables.{by_parts}
+use Rattle.aos_types.proofs.Tables.{base_part, by_parts}
 use Rattle.aos_layout.specs.Part.{width, variable, fields, own_by, own, front, parts}
 use Rattle.aos_layout.proofs.Joins.{width_row, width_repeated, part_repeated, before_repeated, width_join, size_join, join_assoc, row_ends, repeated_ends, part_first, before_first, part_second, before_second}
 
@@ -50,19 +49,6 @@ bases_by (suc n) rows t = over (bases_by n rows) (base_of (row_of rows t))
 
 pub bases : List TypeRow → TypeId → ℕ
 bases rows t = bases_by (levels rows) rows t
-
-base_part : (rows : List TypeRow) (o : Option TypeRow) (b : TypeId) → base_of o ≡ Some b → IsOneOf b (parts_of rows o)
-base_part rows None b e = absurd (cc)
-base_part rows (Some (row.Basic k)) b e = absurd (cc)
-base_part rows (Some (row.Array n of)) b e = absurd (cc)
-base_part rows (Some (row.Open of)) b e = absurd (cc)
-base_part rows (Some (row.Pointer to)) b e = absurd (cc)
-base_part rows (Some (row.Procedure fs r)) b e = absurd (cc)
-base_part rows (Some row.Any) b e = absurd (cc)
-base_part rows (Some (row.Record None fs)) b e = absurd (cc)
-base_part rows (Some (row.Object None fs)) b e = absurd (cc)
-base_part rows (Some (row.Record (Some c) fs)) b e = inl (let f : c ≡ b = cc in f)
-base_part rows (Some (row.Object (Some c) fs)) b e = inl (let f : c ≡ b = cc in f)
 
 module _ (rows : List TypeRow) (free : NoneContainsItself rows) where
   abbrev ranks : IsRanked rows

@@ -14,7 +14,7 @@ use Rattle.aos_typed.specs.Store.{with_object, store_with, new_number, Store, ma
 use Rattle.aos_typed.specs.Meaning.{Here, Question, Doing, Item, Do, Rounds, Round, Until, Region, End, Gives as GivesItem, After, Into, item_of, object_in, value_of}
 use Rattle.aos_typed.specs.Source.{Turned, length_in, known, done, called_frame, self_of, made_shape, first_value, has_type_in, object_place, Frame, here_of, answered, calm, frames_with, noted, told, with_result}
 use Rattle.aos_uses.specs.Uses.{expr_uses, stats_uses}
-use Rattle.aos_guard.specs.Guarded.{IsQuiet, Keeps}
+use Rattle.aos_uses.specs.Guarded.{IsQuiet, Keeps}
 use Rattle.aos_sim.proofs.Does.{feed_noted, feed_noted_bind}
 use Rattle.aos_sim.proofs.Runs.{feed-append}
 use Rattle.aos_handover.specs.Kinds.{Told, answer_in, OneText, OneWhole, OneScalar, IsStored, written_by, MakesNone, Called, Created, Stored, Written, Popped, Left, Stopped, Settled, Kind, so_far, HasCome, IsAsking, HasHad, Rests, Begins, GoesOn, Tested, Stands, HasNotAsked}

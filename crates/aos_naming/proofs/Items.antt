@@ -22,9 +22,9 @@ use Rattle.aos_sim.proofs.Regions as leaves
 use Rattle.aos_uses.specs.declared.uses.Use.{Use}
 use Rattle.aos_uses.specs.declared.uses.Use.TheVariants.{Reads}
 use Rattle.aos_uses.specs.declared.uses.Variable.{Variable}
-use Rattle.aos_guard.specs.Guarded.{Each, IsGuarded, IsQuiet, Keeps, Spares}
+use Rattle.aos_uses.specs.Guarded.{Each, IsGuarded, IsQuiet, Keeps, Spares}
 use Rattle.aos_uses.specs.Uses.{arms_uses, cases_uses, expr_uses, place_uses, routine_uses, stat_uses, stats_uses, target, written}
-use Rattle.aos_guard.proofs.Largest.{quiet_are}
+use Rattle.aos_uses.proofs.Largest.{quiet_are}
 use Rattle.aos_handover.specs.Kinds.{follow, so_far, IsNext, Stood, Followed, AnotherRound, Repeated, Behind, HasHad, Rests, Begins, GoesOn, Tested}
 use Rattle.aos_naming.specs.Items.{has_mark, item_uses, IsText, IsFine, AreFine, ItemsFine}
 

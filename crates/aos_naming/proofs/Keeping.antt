@@ -10,7 +10,7 @@ use Rattle.aos_typed.specs.Value.{Value, Object}
 use Rattle.aos_typed.specs.Store.{with_object, store_with, new_number, Store}
 use Rattle.aos_typed.specs.Meaning.{Here, Question, object_in}
 use Rattle.aos_typed.specs.Source.{first_value, arguments_in, called_frame, with_result, all_rooted, Turned, known, done, Frame, here_of, answered, frames_with}
-use Rattle.aos_guard.specs.Guarded.{IsQuiet}
+use Rattle.aos_uses.specs.Guarded.{IsQuiet}
 use Rattle.aos_handover.specs.Kinds.{Called, Created, Written, Told, answer_in, Popped, Left, Stopped, Settled, Kind, told_as, IsStored, written_by, MakesNone, Stored, IsAsking, Stands, HasNotAsked}
 use Rattle.aos_naming.specs.Items.{ItemsFine}
 use Rattle.aos_naming.specs.Naming.{IsLoud, IsPending, StoreIs, IsInitial, IsKept, ContentIs, AllAre, ItemsAre, FrameIs, VariablesAre, IsOther, HideAll, AreOf, Pends, Inside, Builds}

@@ -18,8 +18,9 @@ use Rattle.aos_typed.proofs.Conditions.{linked}
 use Rattle.aos_sim.proofs.Bodies.{routines_typed}
 use Rattle.aos_sim.proofs.Does.{HasTypes}
 use Rattle.aos_sim.proofs.Lists.{all_get, get_right}
-use Rattle.aos_guard.specs.Guarded.{IsNamed, IsQuiet, method_of}
-use Rattle.aos_guard.proofs.Largest.{quiet_are}
+use Rattle.aos_sim.proofs.Routines.{length-bodies}
+use Rattle.aos_uses.specs.Guarded.{IsNamed, IsQuiet, method_of}
+use Rattle.aos_uses.proofs.Largest.{quiet_are}
 use Rattle.aos_naming.proofs.Names.{HasNames}
 use Rattle.aos_typed.specs.Conditions.{conditions, AreLinked}
 
@@ -66,10 +67,6 @@ module _ (p : Program) where
   methods_self t (o ∷ os) h =
       let of : Method → Routine = λ m. routine_of o.home m.procedure in
       All-append HasSelf (map of o.methods) (methods_from os) (All-map HasSelf of o.methods (λ i m lt. ap is_some (h.0.methods i m lt).1)) (methods_self (suc t) os h.1)
-
-  length-bodies : (m : ℕ) (xs : List Module) → length (bodies_from m xs) ≡ length xs
-  length-bodies m [] = refl
-  length-bodies m (x ∷ xs) = ap (λ n. suc n) (length-bodies (suc m) xs)
 
   length-procedures : (m : ℕ) (xs : List Module) → length (procedures_from m xs) ≡ so_many (take (length xs) xs)
   length-procedures m [] = refl

@@ -8,7 +8,7 @@ use Rattle.aos_typed.specs.Numbers.{id_of_made, body_number, procedure_number}
 use Rattle.aos_typed.specs.Program.{ObjectType, Procedure, Program}
 use Rattle.aos_typed.specs.Routines.{Routine, has_self, routines}
 use Rattle.aos_typed.specs.WellTyped.{procedure_in, AreStatements}
-use Rattle.aos_guard.specs.Guarded.{IsNamed, IsQuiet, raised}
+use Rattle.aos_uses.specs.Guarded.{IsNamed, IsQuiet, raised}
 use Rattle.std.specs.Prelude.{slice_get}
 
 pub record HasNames (p : Program) : Type 0 where

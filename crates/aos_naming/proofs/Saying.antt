@@ -23,7 +23,7 @@ use Rattle.aos_typed.specs.Source.{Frame, here_of}
 use Rattle.aos_sim.proofs.Changes.{includes_itself}
 use Rattle.aos_uses.specs.declared.uses.Use.{Use}
 use Rattle.aos_uses.specs.declared.uses.Use.TheVariants as used
-use Rattle.aos_guard.specs.Guarded.{Each, IsQuiet, Keeps}
+use Rattle.aos_uses.specs.Guarded.{Each, IsQuiet, Keeps}
 use Rattle.aos_uses.specs.Uses.{arms_uses, arguments_uses, cases_uses, expr_uses, initial_number, is_begun, makes, out_uses, place_uses, rows_target, rows_uses, stat_uses, stats_uses, target, values_uses, written}
 use Rattle.aos_handover.specs.Kinds.{IsAsking}
 use Rattle.aos_naming.specs.Items.{has_mark, item_uses, IsText, AreFine, ItemsFine}

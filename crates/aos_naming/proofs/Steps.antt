@@ -15,8 +15,8 @@ use Rattle.aos_typed.specs.Value.{Value, Int, Flag, Char, Set, Object, Callable,
 use Rattle.aos_typed.specs.Store.{with_object, Store, new_number, made_in, store_with}
 use Rattle.aos_typed.specs.Meaning.{Question, Item, Do, Rounds, Round, Until, Region, End, Gives as GivesItem, After, Into, Exits, Returns, leave, leave_all, block_items, body_items, item_of, object_in, value_of}
 use Rattle.aos_typed.specs.Source.{body_frame, Frame, Turned, here_of, all_rooted, answered, arguments_in, called_frame, done, first_value, frames_with, self_of, with_result}
-use Rattle.aos_guard.specs.Guarded.{IsQuiet}
-use Rattle.aos_guard.proofs.Largest.{quiet_are}
+use Rattle.aos_uses.specs.Guarded.{IsQuiet}
+use Rattle.aos_uses.proofs.Largest.{quiet_are}
 use Rattle.aos_handover.specs.Kinds.{follow, told_as, answer_in, so_far, IsAsking, IsNext, Stood, Followed, AnotherRound, Repeated, Behind, HasHad, Rests, Begins, GoesOn, Tested, Stands, IsLeft, AtEnd, AtResult, Nowhere, IsStored, OneScalar, OneWhole, OneText, Gives, Kind, Settled, Stopped, Left, Popped, Told, Written, Stored, Created, Called}
 use Rattle.aos_naming.specs.Items.{ItemsFine}
 use Rattle.aos_naming.specs.Naming.{ContentIs, AllAre, AnswersAre, ResultIs, ItemsAre, StoreIs, FrameIs, FramesAre, VariablesAre, IsOther, SelvesOther, HideAll, IsLoud}

@@ -28,7 +28,7 @@ use Rattle.aos_sim.proofs.References.{comes_same}
 use Rattle.aos_typed.specs.Meaning.{Here, Question, Doing, Found, place_in, object_in, instance_in, procedure_in as procedure_number_in, on_instance, element_of, row_at, dereferenced, spread, sizes_from, lengths_from, opened, has_type, record_guarded, sent, dispatched, bound, bound_to, applied, calls, place_of, rows_of, arguments_of, receiver_of, value_of, called, by_number}
 use Rattle.aos_uses.specs.declared.uses.Use.{Use}
 use Rattle.aos_uses.specs.declared.uses.Use.TheVariants as used
-use Rattle.aos_guard.specs.Guarded.{Each, IsNamed, IsQuiet, Keeps}
+use Rattle.aos_uses.specs.Guarded.{Each, IsNamed, IsQuiet, Keeps}
 use Rattle.aos_uses.specs.Uses.{is_self, is_own, place_uses, rows_uses, arguments_uses, receiver_uses, expr_uses, call_uses, called as called_uses, callee_number, follows, is_variable, rows_target, target, varies}
 use Rattle.aos_naming.specs.Naming.{AllAre}
 use Rattle.aos_naming.proofs.Items.{part}

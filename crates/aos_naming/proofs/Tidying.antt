@@ -15,7 +15,7 @@ use Rattle.aos_naming.proofs.Traced.{traced, body_at, body_numbers, AsksFor, pas
 use Rattle.aos_typed.specs.Source.{object_frames, all_frames, told, answered, past_all, past_by, goes_into, done, opened, turn_at, next_body, opened_by, body_frame, Frame}
 use Rattle.aos_typed.specs.Store.{new_number, Store}
 use Rattle.aos_naming.proofs.Steps.{other_plainly, step_loud, step_hides, body_is}
-use Rattle.aos_guard.specs.Guarded.{IsQuiet}
+use Rattle.aos_uses.specs.Guarded.{IsQuiet}
 use Rattle.aos_naming.proofs.Building.{same_come, any_says, made_none, answered_pends, pends_loud, step_grows}
 use Rattle.aos_handover.proofs.Turns.{turn_kind}
 use Rattle.aos_naming.proofs.Keeping.{step_kept}

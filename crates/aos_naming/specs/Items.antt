@@ -9,7 +9,7 @@ use Rattle.aos_typed.specs.WellTyped.{IsPlaceOf, IsOf, IsStatement, AreStatement
 use Rattle.aos_typed.specs.Meaning.{Item, Do, Rounds, Round, Until, Region, End, Gives}
 use Rattle.aos_uses.specs.declared.uses.Use.{Use}
 use Rattle.aos_uses.specs.declared.uses.Variable.{Variable}
-use Rattle.aos_guard.specs.Guarded.{Each, IsGuarded, IsQuiet, Keeps, Spares}
+use Rattle.aos_uses.specs.Guarded.{Each, IsGuarded, IsQuiet, Keeps, Spares}
 use Rattle.aos_uses.specs.Uses.{expr_uses, stat_uses, stats_uses, written}
 
 -- a region is open around the items: its mark stands among them

@@ -9,7 +9,7 @@ use Rattle.aos_typed.specs.Value.{Value, Int, Flag, Char, Set, Object, Callable,
 use Rattle.aos_typed.specs.Store.{Store, new_number}
 use Rattle.aos_typed.specs.Meaning.{object_in, Item, Do, Rounds, Round, Until, Region, End, Gives}
 use Rattle.aos_typed.specs.Source.{Frame}
-use Rattle.aos_guard.specs.Guarded.{IsQuiet}
+use Rattle.aos_uses.specs.Guarded.{IsQuiet}
 use Rattle.aos_handover.specs.Kinds.{IsAsking}
 use Rattle.aos_naming.specs.Items.{ItemsFine}
 

@@ -5,7 +5,7 @@ use Rattle.aos_typed.specs.declared.tree.TArgument.{TArgument}
 use Rattle.aos_typed.specs.declared.tree.TExpr.{TExpr}
 use Rattle.aos_typed.specs.Program.{Arguments}
 use Rattle.aos_typed.specs.Seen.{seen_argument, seen_list, seen_expr}
-use Rattle.aos_laid.proofs.Taken.{seen_next}
+use Rattle.aos_dispatch.proofs.Arguments.{seen_next}
 use Rattle.aos_sim.specs.Need.{arguments_need, value_need, values_need}
 
 -- one argument more, which is handed over before those that are there

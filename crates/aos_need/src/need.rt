@@ -2,14 +2,13 @@
 
 ghost use Rattle.std.specs.Prelude.{◌≡◌, ◌+◌, ◌≤◌, suc, map, max, IfOk};
 ghost use Rattle.aos_typed.specs.Seen.{seen_place, seen_rows, seen_argument, seen_list, seen_callee, seen_expr, seen_call, seen_stat, seen_stats, seen_else, arms_of, cases_of};
-ghost use Rattle.aos_typed.specs.Program.{Arguments, Function};
-ghost use Rattle.aos_emit_expr.specs.Sizes.{place_size, rows_size, callee_size, value_size, front_size, rest_size};
-ghost use Rattle.aos_need.specs.Fronts.{rest_need};
+ghost use Rattle.aos_typed.specs.Program.{Arguments};
+ghost use Rattle.aos_dispatch.specs.Sizes.{place_size, rows_size, callee_size, value_size, front_size, rest_size};
+ghost use Rattle.aos_need.specs.Fronts.{around_need, whole_need};
 ghost use Rattle.aos_need.specs.Fronts as fronts;
 ghost use Rattle.aos_sim.specs.Need as need_of;
 
-use aos_emit_expr::Front;
-use aos_laid::{after, dimensions, operands};
+use aos_dispatch::{Front, after, dimensions, operands};
 use aos_typed::{
     Change, OutCall, TArgument, TArm, TCallee, TCase, TElse, TExpr, TPlace, TRows, TStat,
 };
@@ -25,10 +24,10 @@ fn above(others: u32, need: u32) -> Result<u32, AllocError>
     }
 }
 
-// How many operands what is left of a designator needs, where its last instructions need so many: as many as the whole.
+// How many operands the last instructions of a designator need, and what stands before these: both together need as many as it does.
 #[cycle(value_need)]
 fn place_end<'b>(place: &'b TPlace) -> Result<(u32, Option<Front<'b>>), AllocError>
-    ensures need { IfOk result (λ r. max r.0 (rest_need r.1) ≡ need_of.place_need (seen_place place.now)) }
+    ensures need { IfOk result (λ r. whole_need r ≡ need_of.place_need (seen_place place.now)) }
     ensures less { IfOk result (λ r. rest_size r.1 ≤ place_size (seen_place place.now)) }
 {
     match place {
@@ -40,17 +39,14 @@ fn place_end<'b>(place: &'b TPlace) -> Result<(u32, Option<Front<'b>>), AllocErr
         TPlace::Typed(whole, _) => Ok((0, Some(Front::Place(whole)))),
         TPlace::Guarded(whole, _) => Ok((0, Some(Front::Place(whole)))),
         TPlace::Field(whole, _, _) => Ok((0, Some(Front::Place(whole)))),
-        TPlace::Index(whole, _, _, index) => {
-            let need = above(1, value_need(index)?)?;
-            Ok((need, Some(Front::Place(whole))))
-        }
+        TPlace::Index(whole, _, _, index) => both_end(Front::Place(whole), 1, Front::Value(index)),
     }
 }
 
 // An array: the lengths of its dimensions lie above its place.
 #[cycle(value_need)]
 fn rows_end<'b>(rows: &'b TRows) -> Result<(u32, Option<Front<'b>>), AllocError>
-    ensures need { IfOk result (λ r. max r.0 (rest_need r.1) ≡ need_of.rows_need (seen_rows rows.now)) }
+    ensures need { IfOk result (λ r. whole_need r ≡ need_of.rows_need (seen_rows rows.now)) }
     ensures less { IfOk result (λ r. rest_size r.1 ≤ rows_size (seen_rows rows.now)) }
 {
     match rows {
@@ -61,7 +57,7 @@ fn rows_end<'b>(rows: &'b TRows) -> Result<(u32, Option<Front<'b>>), AllocError>
         TRows::Opened(_, count) => Ok((above(1, *count)?, None)),
         TRows::Row(whole, _, index) => {
             let below = above(1, dimensions(whole)?)?;
-            let need = above(below, value_need(index)?)?;
+            let need = above(below, front_need(Front::Value(index))?)?;
             Ok((need, Some(Front::Rows(whole))))
         }
         TRows::Spread(object, count) => {
@@ -83,18 +79,25 @@ fn argument_need(argument: &TArgument, behind: u32) -> Result<u32, AllocError>
         n ≡ need_of.arguments_need (seen_argument argument.now more)) }
 {
     match argument {
-        TArgument::Scalar(value) => Ok(value_need(value)?.max(above(1, behind)?)),
-        TArgument::Whole(place) => Ok(place_need(place)?.max(above(1, behind)?)),
+        TArgument::Scalar(value) => {
+            let own = front_need(Front::Value(value))?;
+            Ok(own.max(above(1, behind)?))
+        }
+        TArgument::Whole(place) => {
+            let own = front_need(Front::Place(place))?;
+            Ok(own.max(above(1, behind)?))
+        }
         TArgument::Opening(rows) => {
             let below = above(1, dimensions(rows)?)?;
-            Ok(rows_need(rows)?.max(above(below, behind)?))
+            let own = front_need(Front::Rows(rows))?;
+            Ok(own.max(above(below, behind)?))
         }
     }
 }
 
 // What is handed over: all that was before lies below.
 #[cycle(value_need)]
-#[tactic(auto, using(aos_emit_expr::proofs::Sizes::argument_less, crate::proofs::More::need_more))]
+#[tactic(auto, using(aos_dispatch::proofs::Sizes::argument_less, crate::proofs::More::need_more))]
 fn arguments_need(arguments: &[TArgument]) -> Result<u32, AllocError>
     ensures { IfOk result (λ n. n ≡ need_of.arguments_need (seen_list arguments.now)) }
 {
@@ -121,7 +124,7 @@ fn receivers(callee: &TCallee) -> u32
 
 // What something is called on, which is found before all that it is handed.
 fn receiver_end<'b>(callee: &'b TCallee) -> (u32, Option<Front<'b>>)
-    ensures need { max result.0 (rest_need result.1) ≡ need_of.receiver_need (seen_callee callee.now) }
+    ensures need { whole_need result ≡ need_of.receiver_need (seen_callee callee.now) }
     ensures less { rest_size result.1 ≤ suc (callee_size (seen_callee callee.now)) }
 {
     match callee {
@@ -132,38 +135,41 @@ fn receiver_end<'b>(callee: &'b TCallee) -> (u32, Option<Front<'b>>)
     }
 }
 
-// A call: what something is called on lies below what is handed over.
+// A call, which needs so many at least: what something is called on lies below what is handed over.
 #[cycle(value_need)]
 fn call_end<'b>(
+    least: u32,
     callee: &'b TCallee,
     arguments: &[TArgument],
 ) -> Result<(u32, Option<Front<'b>>), AllocError>
-    ensures need { IfOk result (λ r. max r.0 (rest_need r.1) ≡ max
-        (need_of.receiver_need (seen_callee callee.now))
-        (need_of.receivers (seen_callee callee.now) + need_of.arguments_need (seen_list arguments.now))) }
+    ensures need { IfOk result (λ r. whole_need r ≡
+        max least (fronts.call_need (seen_callee callee.now) (seen_list arguments.now))) }
     ensures less { IfOk result (λ r. rest_size r.1 ≤ suc (callee_size (seen_callee callee.now))) }
 {
     let handed = above(receivers(callee), arguments_need(arguments)?)?;
     let (first, rest) = receiver_end(callee);
-    Ok((handed.max(first), rest))
+    Ok((least.max(handed).max(first), rest))
 }
 
+// What a first part needs, and a second one above so many operands.
 #[cycle(value_need)]
-fn function_end<'b>(
-    callee: &'b TCallee,
-    arguments: &[TArgument],
+fn both_end<'b>(
+    first: Front<'b>,
+    below: u32,
+    second: Front<'_>,
 ) -> Result<(u32, Option<Front<'b>>), AllocError>
-    ensures need { IfOk result (λ r. max r.0 (rest_need r.1) ≡
-        need_of.value_need (Function (seen_callee callee.now) (seen_list arguments.now))) }
-    ensures less { IfOk result (λ r. rest_size r.1 ≤ suc (callee_size (seen_callee callee.now))) }
+    ensures need { IfOk result (λ r. whole_need r ≡
+        max (fronts.front_need first.entry) (below + fronts.front_need second.entry)) }
+    ensures less { IfOk result (λ r.
+        rest_size r.1 ≤ suc (front_size first.entry + front_size second.entry)) }
 {
-    let (need, rest) = call_end(callee, arguments)?;
-    Ok((need.max(1), rest))
+    let need = above(below, front_need(second)?)?;
+    Ok((need, Some(first)))
 }
 
 #[cycle(value_need)]
 fn value_end<'b>(value: &'b TExpr) -> Result<(u32, Option<Front<'b>>), AllocError>
-    ensures need { IfOk result (λ r. max r.0 (rest_need r.1) ≡ need_of.value_need (seen_expr value.now)) }
+    ensures need { IfOk result (λ r. whole_need r ≡ need_of.value_need (seen_expr value.now)) }
     ensures less { IfOk result (λ r. rest_size r.1 ≤ value_size (seen_expr value.now)) }
 {
     match value {
@@ -172,36 +178,34 @@ fn value_end<'b>(value: &'b TExpr) -> Result<(u32, Option<Front<'b>>), AllocErro
         TExpr::Read(_, place) => Ok((0, Some(Front::Place(place)))),
         TExpr::Len(rows, _) => Ok((0, Some(Front::Rows(rows)))),
         TExpr::LenBehind(rows, _) => Ok((0, Some(Front::Rows(rows)))),
-        TExpr::CompareTexts(_, left, right) => {
-            let need = above(2, rows_need(right)?)?;
-            Ok((need, Some(Front::Rows(left))))
-        }
-        TExpr::Function(callee, arguments) => function_end(callee, arguments),
+        TExpr::CompareTexts(_, left, right) => both_end(Front::Rows(left), 2, Front::Rows(right)),
+        TExpr::Function(callee, arguments) => call_end(1, callee, arguments),
         TExpr::Unary(_, operand) => Ok((0, Some(Front::Value(operand)))),
-        TExpr::Binary(_, left, right) => Ok((
-            above(1, value_need(right)?)?,
-            Some(Front::Value(left)),
-        )),
-        TExpr::And(left, right) => Ok((value_need(right)?, Some(Front::Value(left)))),
-        TExpr::Or(left, right) => Ok((value_need(right)?, Some(Front::Value(left)))),
+        TExpr::Binary(_, left, right) => both_end(Front::Value(left), 1, Front::Value(right)),
+        TExpr::And(left, right) => {
+            let need = front_need(Front::Value(right))?;
+            Ok((need, Some(Front::Value(left))))
+        }
+        TExpr::Or(left, right) => {
+            let need = front_need(Front::Value(right))?;
+            Ok((need, Some(Front::Value(left))))
+        }
         TExpr::Element(operand) => Ok((2, Some(Front::Value(operand)))),
         TExpr::Ord(operand) => Ok((0, Some(Front::Value(operand)))),
         TExpr::Chr(operand) => Ok((0, Some(Front::Value(operand)))),
-        TExpr::Same(left, right) => Ok((above(1, value_need(right)?)?, Some(Front::Value(left)))),
+        TExpr::Same(left, right) => both_end(Front::Value(left), 1, Front::Value(right)),
         TExpr::Is(operand, _) => Ok((0, Some(Front::Value(operand)))),
         TExpr::IsRecord(place, _) => Ok((0, Some(Front::Place(place)))),
         TExpr::Guard(operand, _) => Ok((0, Some(Front::Value(operand)))),
         TExpr::ProcedureOf(_, _) => Ok((1, None)),
         TExpr::MethodOf(operand, _, _) => Ok((0, Some(Front::Value(operand)))),
-        TExpr::SameProcedure(left, right) => {
-            Ok((above(1, value_need(right)?)?, Some(Front::Value(left))))
-        }
+        TExpr::SameProcedure(left, right) => both_end(Front::Value(left), 1, Front::Value(right)),
     }
 }
 
 #[cycle(value_need)]
 fn front_end<'b>(front: Front<'b>) -> Result<(u32, Option<Front<'b>>), AllocError>
-    ensures need { IfOk result (λ r. max r.0 (rest_need r.1) ≡ fronts.front_need front.entry) }
+    ensures need { IfOk result (λ r. whole_need r ≡ fronts.front_need front.entry) }
     ensures less { IfOk result (λ r. rest_size r.1 ≤ front_size front.entry) }
 {
     match front {
@@ -227,21 +231,18 @@ fn front_need(all: Front<'_>) -> Result<u32, AllocError>
 }
 
 /// How many operands an expression has at most.
-#[cycle(value_need)]
 pub fn value_need(value: &TExpr) -> Result<u32, AllocError>
     ensures { IfOk result (λ n. n ≡ need_of.value_need (seen_expr value.now)) }
 {
     front_need(Front::Value(value))
 }
 
-#[cycle(value_need)]
 fn place_need(place: &TPlace) -> Result<u32, AllocError>
     ensures { IfOk result (λ n. n ≡ need_of.place_need (seen_place place.now)) }
 {
     front_need(Front::Place(place))
 }
 
-#[cycle(value_need)]
 fn rows_need(rows: &TRows) -> Result<u32, AllocError>
     ensures { IfOk result (λ n. n ≡ need_of.rows_need (seen_rows rows.now)) }
 {
@@ -249,11 +250,10 @@ fn rows_need(rows: &TRows) -> Result<u32, AllocError>
 }
 
 fn call_need(callee: &TCallee, arguments: &[TArgument]) -> Result<u32, AllocError>
-    ensures { IfOk result (λ n. n ≡ max
-        (need_of.receiver_need (seen_callee callee.now))
-        (need_of.receivers (seen_callee callee.now) + need_of.arguments_need (seen_list arguments.now))) }
+    ensures { IfOk result (λ n. n ≡
+        fronts.call_need (seen_callee callee.now) (seen_list arguments.now)) }
 {
-    let (handed, rest) = call_end(callee, arguments)?;
+    let (handed, rest) = call_end(0, callee, arguments)?;
     match rest {
         Some(object) => Ok(handed.max(front_need(object)?)),
         None => Ok(handed),
@@ -293,8 +293,8 @@ fn assign_need(place: &TPlace, value: &TExpr) -> Result<u32, AllocError>
 }
 
 fn copy_need(to: &TPlace, from: &TPlace) -> Result<u32, AllocError>
-    ensures { IfOk result (λ n. n ≡
-        max (need_of.place_need (seen_place to.now)) (1 + need_of.place_need (seen_place from.now))) }
+    ensures { IfOk result (λ n. n ≡ need_of.assign_need
+        (need_of.place_need (seen_place to.now)) (need_of.place_need (seen_place from.now))) }
 {
     let copied = above(1, place_need(from)?)?;
     Ok(copied.max(place_need(to)?))
@@ -332,8 +332,9 @@ fn values_need(values: &[TExpr]) -> Result<u32, AllocError>
 
 // The place that an object is stored at lies below its lengths, and below the object.
 fn make_need(place: &TPlace, lengths: &[TExpr]) -> Result<u32, AllocError>
-    ensures { IfOk result (λ n. n ≡
-        max (need_of.place_need (seen_place place.now)) (1 + max 1 (need_of.values_need (map seen_expr lengths.now)))) }
+    ensures { IfOk result (λ n. n ≡ need_of.assign_need
+        (need_of.place_need (seen_place place.now))
+        (max 1 (need_of.values_need (map seen_expr lengths.now)))) }
 {
     let made = above(1, values_need(lengths)?.max(1))?;
     Ok(made.max(place_need(place)?))
@@ -342,9 +343,9 @@ fn make_need(place: &TPlace, lengths: &[TExpr]) -> Result<u32, AllocError>
 // The place that an object is stored at lies below what its initializer is handed; that lies once more above the object, which is
 // there twice.
 fn new_need(place: &TPlace, arguments: &[TArgument]) -> Result<u32, AllocError>
-    ensures { IfOk result (λ n. n ≡ max
-        (need_of.place_need (seen_place place.now))
-        (1 + max (need_of.arguments_need (seen_list arguments.now)) (2 + need_of.operands (seen_list arguments.now)))) }
+    ensures { IfOk result (λ n. let handed = seen_list arguments.now in
+        n ≡ need_of.assign_need (need_of.place_need (seen_place place.now))
+        (max (need_of.arguments_need handed) (2 + need_of.operands handed))) }
 {
     let handed = above(2, operands(arguments)?)?;
     let made = above(1, arguments_need(arguments)?.max(handed))?;
@@ -353,10 +354,8 @@ fn new_need(place: &TPlace, arguments: &[TArgument]) -> Result<u32, AllocError>
 
 // FOR without its statements: its last value, its first one, the test and the step.
 fn for_need(place: &TPlace, from: &TExpr, to: &TExpr) -> Result<u32, AllocError>
-    ensures { IfOk result (λ n. let variable = need_of.place_need (seen_place place.now) in
-        n ≡ max
-        (max (need_of.value_need (seen_expr to.now)) (need_of.assign_need variable (need_of.value_need (seen_expr from.now))))
-        (need_of.assign_need variable (max variable 2))) }
+    ensures { IfOk result (λ n. n ≡ around_need (need_of.place_need (seen_place place.now))
+        (need_of.value_need (seen_expr from.now)) (need_of.value_need (seen_expr to.now))) }
 {
     let first = value_need(to)?.max(assign_need(place, from)?);
     let step = above(1, place_need(place)?.max(2))?;
@@ -364,9 +363,10 @@ fn for_need(place: &TPlace, from: &TExpr, to: &TExpr) -> Result<u32, AllocError>
 }
 
 #[cycle(stat_need)]
-#[tactic(auto, using(aos_laid::proofs::Heights::arm_less, aos_laid::proofs::Heights::otherwise_less))]
+#[tactic(auto, using(aos_dispatch::proofs::Heights::arm_less, aos_dispatch::proofs::Heights::otherwise_less))]
 fn arms_need(arms: &[TArm], otherwise: &[TStat]) -> Result<u32, AllocError>
-    ensures { IfOk result (λ n. n ≡ need_of.arms_need (arms_of arms.now (seen_stats otherwise.now))) }
+    ensures { IfOk result (λ n.
+        n ≡ need_of.arms_need (arms_of arms.now (seen_stats otherwise.now))) }
 {
     let mut need = 0;
     for arm in arms {
@@ -388,15 +388,45 @@ fn else_need(otherwise: &TElse) -> Result<u32, AllocError>
 }
 
 #[cycle(stat_need)]
-#[tactic(auto, using(aos_laid::proofs::Heights::case_less, aos_laid::proofs::Heights::else_less))]
+#[tactic(auto, using(aos_dispatch::proofs::Heights::case_less, aos_dispatch::proofs::Heights::else_less))]
 fn cases_need(cases: &[TCase], otherwise: &TElse) -> Result<u32, AllocError>
-    ensures { IfOk result (λ n. n ≡ need_of.cases_need (cases_of cases.now (seen_else otherwise.now))) }
+    ensures { IfOk result (λ n.
+        n ≡ need_of.cases_need (cases_of cases.now (seen_else otherwise.now))) }
 {
     let mut need = 0;
     for case in cases {
         need = need.max(stats_need(&case.body)?.max(2));
     }
     Ok(need.max(else_need(otherwise)?))
+}
+
+#[cycle(stat_need)]
+fn case_need(selector: &TExpr, cases: &[TCase], otherwise: &TElse) -> Result<u32, AllocError>
+    ensures { IfOk result (λ n. n ≡ max (need_of.value_need (seen_expr selector.now))
+        (need_of.cases_need (cases_of cases.now (seen_else otherwise.now)))) }
+{
+    let first = value_need(selector)?;
+    Ok(first.max(cases_need(cases, otherwise)?))
+}
+
+// Statements behind what is found before them.
+#[cycle(stat_need)]
+fn behind_need(first: Front<'_>, body: &[TStat]) -> Result<u32, AllocError>
+    ensures { IfOk result (λ n. n ≡
+        max (fronts.front_need first.entry) (need_of.stats_need (seen_stats body.now))) }
+{
+    let found = front_need(first)?;
+    Ok(found.max(stats_need(body)?))
+}
+
+#[cycle(stat_need)]
+fn rounds_need(place: &TPlace, from: &TExpr, to: &TExpr, body: &[TStat]) -> Result<u32, AllocError>
+    ensures { IfOk result (λ n. n ≡ max (around_need (need_of.place_need (seen_place place.now))
+        (need_of.value_need (seen_expr from.now)) (need_of.value_need (seen_expr to.now)))
+        (need_of.stats_need (seen_stats body.now))) }
+{
+    let around = for_need(place, from, to)?;
+    Ok(around.max(stats_need(body)?))
 }
 
 #[cycle(stat_need)]
@@ -408,24 +438,12 @@ fn stat_need(statement: &TStat) -> Result<u32, AllocError>
         TStat::Copy(_, _, to, from) => copy_need(to, from),
         TStat::PutText(_, _, from, to) => texts_need(from, to),
         TStat::If(_, arms, otherwise) => arms_need(arms, otherwise),
-        TStat::Case(_, selector, cases, otherwise) => {
-            let first = value_need(selector)?;
-            Ok(first.max(cases_need(cases, otherwise)?))
-        }
-        TStat::While(_, condition, body) => {
-            let test = value_need(condition)?;
-            Ok(test.max(stats_need(body)?))
-        }
-        TStat::Repeat(_, body, condition) => {
-            let test = value_need(condition)?;
-            Ok(test.max(stats_need(body)?))
-        }
+        TStat::Case(_, selector, cases, otherwise) => case_need(selector, cases, otherwise),
+        TStat::While(_, condition, body) => behind_need(Front::Value(condition), body),
+        TStat::Repeat(_, body, condition) => behind_need(Front::Value(condition), body),
         TStat::Loop(_, body) => stats_need(body),
         TStat::Exit(_) => Ok(0),
-        TStat::For(_, _, place, from, to, _, body) => {
-            let around = for_need(place, from, to)?;
-            Ok(around.max(stats_need(body)?))
-        }
+        TStat::For(_, _, place, from, to, _, body) => rounds_need(place, from, to, body),
         TStat::Block(_, _, body) => stats_need(body),
         TStat::Await(_, _, _) => Ok(0),
         TStat::Assert(_, condition, _) => value_need(condition),
@@ -436,21 +454,15 @@ fn stat_need(statement: &TStat) -> Result<u32, AllocError>
         TStat::Return(_, Some(value)) => value_need(value),
         TStat::New(_, place, _, arguments) => new_need(place, arguments),
         TStat::Make(_, place, _, lengths) => make_need(place, lengths),
-        TStat::With(_, object, body) => {
-            let guarded = value_need(object)?;
-            Ok(guarded.max(stats_need(body)?))
-        }
-        TStat::WithRecord(_, place, body) => {
-            let guarded = place_need(place)?;
-            Ok(guarded.max(stats_need(body)?))
-        }
+        TStat::With(_, object, body) => behind_need(Front::Value(object), body),
+        TStat::WithRecord(_, place, body) => behind_need(Front::Place(place), body),
         TStat::Out(_, call) => out_need(call),
     }
 }
 
 /// How many operands these statements have at most.
 #[cycle(stat_need)]
-#[tactic(auto, using(aos_laid::proofs::Heights::one_less))]
+#[tactic(auto, using(aos_dispatch::proofs::Heights::one_less))]
 pub fn stats_need(statements: &[TStat]) -> Result<u32, AllocError>
     ensures { IfOk result (λ n. n ≡ need_of.stats_need (seen_stats statements.now)) }
 {

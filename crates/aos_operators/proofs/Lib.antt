@@ -4,3 +4,4 @@ pub mod Numbers
 pub mod Types
 pub mod Good
 pub mod Sound
+pub mod First

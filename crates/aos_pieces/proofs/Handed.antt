@@ -1,5 +1,5 @@
 -- The kinds of what a call hands over, in the order in which it lies on the stack, and those of an open array.
-use Rattle.std.proofs.Common.{◌≡◌, ◌≤◌, ◌+◌, ◌-◌, inl, inr, ℕ, zero, suc, true, false, List, [], ◌∷◌, ◌++◌, Option, Some, None, length, map, refl, sym, ap, ◌∙◌, arith, append_assoc, append-nil, length-append}
+use Rattle.std.proofs.Common.{◌≡◌, ◌≤◌, ◌+◌, ◌-◌, inl, inr, ℕ, zero, suc, true, false, List, [], ◌∷◌, ◌++◌, Option, Some, length, map, refl, sym, ap, ◌∙◌, arith, append_assoc, append-nil, length-append}
 use Rattle.std.specs.Prelude.{replicate, reverse}
 use Rattle.std.proofs.lemmas.List.{length-replicate, replicate-append-replicate, reverse-append}
 use Rattle.aos_types.specs.declared.row.TypeRow.{TypeRow}
@@ -18,10 +18,11 @@ use Rattle.aos_typed.specs.declared.tree.TType.{TType}
 use Rattle.aos_typed.specs.Numbers.{id_of}
 use Rattle.aos_typed.specs.Open.{open_dimensions}
 use Rattle.aos_typed.specs.Program.{Parameter, Procedure, Place, Rows, Known, Opened, Row, Spread, Longer, Arguments, NoMore, Scalar, Whole, Opening, Program}
-use Rattle.aos_typed.specs.WellTyped.{is_value, is_whole, is_open_parameter, IsGiven, IsOpening, AreRows, AreArguments}
+use Rattle.aos_typed.specs.WellTyped.{is_value, is_open_parameter, IsGiven, IsOpening, AreRows, AreArguments}
 use Rattle.aos_sim.specs.Code.{kind_of, dimensions}
 use Rattle.aos_sim.specs.Need.{arguments_need, operands}
 use Rattle.aos_sim.proofs.Does.{HasPredeclared}
+use Rattle.aos_sim.proofs.Exprs.{no_scalar}
 use Rattle.aos_sim.proofs.References.{value_scalar}
 use Rattle.aos_pieces.proofs.Operands.{value_kind}
 
@@ -93,18 +94,6 @@ whole_kinds rows a e f g ks = rw (e, f, g) refl
 
 row_kinds : (rows : List TypeRow) (a : Parameter) → is_open (row_of rows (id_of a.of)) ≡ true → (ks : List ParamKind) → kinds_of (parameter_kind rows a ∷ ks) ≡ A ∷ (replicate (open_dimensions rows (id_of a.of)) N ++ kinds_of ks)
 row_kinds rows a e ks = rw e refl
-
--- a record or an array is no scalar
-no_scalar : (o : Option TypeRow) → is_whole o ≡ true → is_scalar o ≡ false
-no_scalar None e = refl
-no_scalar (Some (row.Basic b)) e = absurd (cc)
-no_scalar (Some (row.Array n of)) e = refl
-no_scalar (Some (row.Open of)) e = refl
-no_scalar (Some (row.Record base fields)) e = refl
-no_scalar (Some (row.Pointer to)) e = absurd (cc)
-no_scalar (Some (row.Object base fields)) e = absurd (cc)
-no_scalar (Some (row.Procedure formals r)) e = absurd (cc)
-no_scalar (Some row.Any) e = absurd (cc)
 
 module _ (p : Program) where
   abbrev pub kinds_for : List Parameter → Kinds

@@ -1,5 +1,5 @@
 -- Pieces of code are put together.
-use Rattle.std.proofs.Common.{◌≡◌, inl, inr, ℕ, zero, suc, ◌+◌, ◌<◌, ◌≤◌, Bool, true, false, List, [], ◌∷◌, ◌++◌, Some, length, drop, refl, sym, ap, ◌∙◌, subst, arith, append_assoc, length-append, nat_lt}
+use Rattle.std.proofs.Common.{◌≡◌, inl, inr, ℕ, zero, suc, ◌+◌, ◌<◌, ◌≤◌, Bool, true, false, List, [], ◌∷◌, ◌++◌, Some, length, refl, sym, ap, ◌∙◌, subst, arith, append_assoc, length-append, nat_lt}
 use Rattle.std.specs.Prelude.{slice_get, IsTrue, ◌&&◌, ◌||◌}
 use Rattle.std.proofs.lemmas.Bool.{lt-ltb}
 use Rattle.aos_code.specs.declared.instr.Kind.TheVariants.{N}
@@ -9,22 +9,10 @@ use Rattle.aos_code.specs.declared.image.Image.{Image}
 use Rattle.aos_sound.specs.declared.effect.Next.TheVariants.{Ends, On}
 use Rattle.aos_sound.specs.declared.stand.Role.{Role}
 use Rattle.aos_sound.specs.Sound.{Kinds, Leads, next_of, after, may_stand, may_jump, is_procedure, is_begin}
+use Rattle.aos_sim.proofs.Runs.{drop_past}
 use Rattle.aos_pieces.specs.Piece.{Typing, Stands, Lies, Within, Round, AreOk, Piece}
 
 -- Where pieces stand.
-
--- what is behind these instructions is the rest
-drop_past : (xs : List Instr) (at : ℕ) (code rest : List Instr) → drop at code ≡ xs ++ rest → drop (at + length xs) code ≡ rest
-drop_past [] at code rest e = let n : at + 0 ≡ at = omega arith in ap (λ m. drop m code) n ∙ e
-drop_past (x ∷ xs) at code rest e =
-    let n : at + suc (length xs) ≡ at + 1 + length xs = omega arith in
-    ap (λ m. drop m code) n ∙ drop_past xs (at + 1) code rest (drop_one at code e)
-  where
-    drop_one : (at : ℕ) (code : List Instr) {y : Instr} {ys : List Instr} → drop at code ≡ y ∷ ys → drop (at + 1) code ≡ ys
-    drop_one zero [] f = absurd (cc f)
-    drop_one zero (z ∷ zs) f = cc
-    drop_one (suc k) [] f = absurd (cc f)
-    drop_one (suc k) (z ∷ zs) f = let n : suc k + 1 ≡ suc (k + 1) = omega arith in ap (λ m. drop m (z ∷ zs)) n ∙ drop_one k zs f
 
 -- the first of two pieces stands where both do
 pub stands_first : (whole : List Instr) (at : ℕ) (c d : List Instr) → Stands whole at (c ++ d) → Stands whole at c

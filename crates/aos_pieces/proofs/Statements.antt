@@ -6,8 +6,7 @@ use Rattle.std.proofs.lemmas.Option.{slice_get_within}
 use Rattle.std.proofs.lemmas.Bool.{lt-ltb}
 use Rattle.std.proofs.Math.Nat.{le-max_left, le-max_right}
 use Rattle.aos_base.specs.declared.text.Pos.{Pos}
-use Rattle.aos_base.specs.declared.number.Width.{Width}
-use Rattle.aos_base.specs.declared.number.Width.TheVariants.{W8, W16, W32, W64}
+use Rattle.aos_base.specs.declared.number.Width.TheVariants.{W64}
 use Rattle.aos_base.specs.declared.number.Relation.{Relation}
 use Rattle.aos_base.specs.declared.number.Relation.TheVariants.{Less, LessEqual, GreaterEqual}
 use Rattle.aos_base.specs.declared.operator.Binary.TheVariants as binary
@@ -34,10 +33,11 @@ use Rattle.aos_typed.specs.Routines.{Routine, parameters_of, result_of}
 use Rattle.aos_layout.specs.Layout.{kind_of as cell_kind}
 use Rattle.aos_typed.specs.Program.{Program, Parameter, Procedure as Declared, Arguments, Place, Expr, Lit, Read, Binary, Call, Open, Char, Int, String, Ln, Stat, Assign, Copy, PutText, If, Case, While, Repeat, Loop, Exit, For, Block, Await, Assert, Halt, Change, Perform, Return, New, Make, With, WithRecord, Out, Stats, Nothing, Then, Arms, Otherwise, Arm, Cases, NoElse, Else, OfLabels}
 use Rattle.aos_typed.specs.Conditions.{Condition, conditions, IsLinked, AreLinked, AreArmsLinked, AreCasesLinked}
-use Rattle.aos_typed.specs.WellTyped.{Includes, amount_type, IsPlaceOf, IsOf, AreArguments, AreLengthsOf, IsInitialized, IsCall, IsReturn, IsStatement, AreStatements, AreArms, AreCases}
+use Rattle.aos_typed.specs.WellTyped.{amount_type, IsPlaceOf, IsOf, AreArguments, AreLengthsOf, IsInitialized, IsCall, IsReturn, IsStatement, AreStatements, AreArms, AreCases}
 use Rattle.aos_sim.specs.Code.{Within, NoRegion, AroundLoop, InLoop, Ways, loop_within, loop_ways, block_ways, block_at, block_code, exit_code, return_code, begin, kind_of, cells_of, place_code, arguments_code, value_code, values_code, make_instr, make_code, out_code, stash, unstash, initial_kinds, initialize_code, carry_out_instr, store_code, new_code, assign_code, change_code, changed_code, for_head, step_code, body_place, stat_code, stats_code, arms_code, cases_code, arm_place}
 use Rattle.aos_sim.specs.Search.{Search, Nowhere, At as Labels, Split, arms_in, search_of, label_code, search_size, search_code}
 use Rattle.aos_sim.specs.Need.{operands, arguments_need, place_need, value_need, values_need, out_need, assign_need, changed_need, stat_need, stats_need, arms_need, cases_need, stat_level, stats_level, arms_level, cases_level}
+use Rattle.aos_sim.proofs.Changes.{includes_itself}
 use Rattle.aos_sim.proofs.Sizes.{search_length, stats_length, arms_length, cases_length, arm_ahead, stats_above}
 use Rattle.aos_sim.proofs.Routines.{object_there}
 use Rattle.aos_pieces.specs.Piece.{Round, Piece}
@@ -72,13 +72,6 @@ alone_one A = refl
 some_values : (es : List Expr) → length es ≤ values_need es
 some_values [] = omega arith
 some_values (e ∷ es) = let h = some_values es in omega (arith, h)
-
--- a type of integers includes itself
-included_self : (w : Width) → Includes (type.Integer w) (type.Integer w)
-included_self W8 = refl
-included_self W16 = refl
-included_self W32 = refl
-included_self W64 = refl
 
 -- what a variable is changed by is a number
 amount_kind : (p : Program) (c : Changing) → kind_of p.types (amount_type c) ≡ N
@@ -440,12 +433,12 @@ module _ (p : Program) (o : Option Declared) (image : Image) (own : ℕ) (depth 
           (assign_piece here (type.Integer w) y from h.1 h.2 (at + 1 + length last + 1) [] (omega (arith, room))))))
           (recoded (ap (λ l. begin here ∷ (test ++ (i.JumpFalse end ∷ l))) (append_assoc b n (i.Jump t ∷ [])))
           (repeats here.line here.col {c = test} {b = b ++ n} end (omega (arith, l2)) refl (omega (arith, room))
-          (both (value_piece p o image own Procedure depth has refl (Read (type.Integer w) y) (type.Integer w) (h.1, refl, inl (included_self w)) (t + 1) [] (omega (arith, room)))
+          (both (value_piece p o image own Procedure depth has refl (Read (type.Integer w) y) (type.Integer w) (h.1, refl, inl (includes_itself w)) (t + 1) [] (omega (arith, room)))
           (one_then (i.Kept d N) refl refl (omega (arith, room)) may
           (one (i.Binary (binary.Cmp (until step))) refl refl (omega (arith, room)) (λ whole q. refl))))
           (both
           (moved (omega (arith, l1)) (stats_piece body h.5 g first x (suc d) (omega (arith, le, l1, l2, l3, l4, l5)) kept (omega (arith, room))))
-          (moved (omega (arith, l1)) (assign_piece here (type.Integer w) y (Binary (binary.Add w) (Read (type.Integer w) y) (Lit (literal.Int step))) h.1 (((h.1, refl, inl (included_self w)), inl h.4), included_self w) (first + length b) [] (omega (arith, room)))))))
+          (moved (omega (arith, l1)) (assign_piece here (type.Integer w) y (Binary (binary.Add w) (Read (type.Integer w) y) (Lit (literal.Int step))) h.1 (((h.1, refl, inl (includes_itself w)), inl h.4), includes_itself w) (first + length b) [] (omega (arith, room)))))))
       stat_piece (Block here false body) h g at x d le kept room = begins here (omega (arith, room)) (stats_piece body h g (at + 1) x d (omega (arith, le)) kept room)
       stat_piece (Block here true body) h g at x d le kept room =
           let b = stats_code p o body (at + 1 + 1) (block_ways true x) d in

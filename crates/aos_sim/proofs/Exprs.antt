@@ -64,7 +64,7 @@ use Rattle.aos_sim.proofs.Results.{Agrees, chr_agrees}
 use Rattle.aos_sim.proofs.Shortcuts.{and_does, or_does}
 
 -- what is copied as a whole is no scalar
-no_scalar : (o : Option TypeRow) → is_whole o ≡ true → is_scalar o ≡ false
+pub no_scalar : (o : Option TypeRow) → is_whole o ≡ true → is_scalar o ≡ false
 no_scalar None e = refl
 no_scalar (Some (row.Basic b)) e = absurd (cc)
 no_scalar (Some (row.Array n of)) e = refl

@@ -29,7 +29,7 @@ Agrees t k Undefined = ⊥
 pub agrees_if : (t : TType) (k : Sort) (g : Given) (b : Bool) → b ≡ true → Agrees t k g → Agrees t k (if b then g else Undefined)
 agrees_if t k g b e a = subst (λ c. Agrees t k (if c then g else Undefined)) (sym e) a
 
-is_least : (a b : ℤ) → a ≤ℤ b → int_le a b ≡ true
+pub is_least : (a b : ℤ) → a ≤ℤ b → int_le a b ≡ true
 is_least a b h = by (int_le a b) refl
   where
     by : (c : Bool) → int_le a b ≡ c → c ≡ true

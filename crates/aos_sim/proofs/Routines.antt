@@ -21,7 +21,7 @@ body m b = record { home = m; own = None; body = b }
 abbrev pub called : ℕ → Procedure → Routine
 called m q = routine_of m q
 
-length-bodies : (m : ℕ) (xs : List Module) → length (bodies_from m xs) ≡ length xs
+pub length-bodies : (m : ℕ) (xs : List Module) → length (bodies_from m xs) ≡ length xs
 length-bodies m [] = refl
 length-bodies m (x ∷ xs) = ap (λ n. suc n) (length-bodies (suc m) xs)
 

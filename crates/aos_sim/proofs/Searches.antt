@@ -10,18 +10,12 @@ use Rattle.aos_typed.specs.Meaning.{is_in}
 use Rattle.aos_typed.specs.Program.{Cases, NoElse, Else, OfLabels}
 use Rattle.aos_typed.specs.WellTyped.{meets, AreApart, labels_of}
 use Rattle.aos_sim.specs.Search.{rows_to, rows_from, arms_in, put_row, in_order, lowest, halved, search_of, found}
+use Rattle.aos_sim.proofs.Results.{is_least}
 
 -- Values and labels.
 
 within : (z : ℤ) (r : LabelRange) → is_in z r ≡ true → (r.low ≤ℤ z) × (z ≤ℤ r.high)
 within z r e = let p = and_parts (int_le r.low z) (int_le z r.high) e in (omega (arith, ints, p.0), omega (arith, ints, p.1))
-
-is_least : (a b : ℤ) → a ≤ℤ b → int_le a b ≡ true
-is_least a b h = by (int_le a b) refl
-  where
-    by : (c : Bool) → int_le a b ≡ c → c ≡ true
-    by true e = refl
-    by false e = absurd (omega (arith, ints, e, h))
 
 meeting : (r s : LabelRange) → r.low ≤ℤ s.high → s.low ≤ℤ r.high → r.low ≤ℤ r.high → s.low ≤ℤ s.high → meets r s ≡ false → ⊥
 meeting r s a b c d e = cc (e, and_from _ _ (and_from _ _ (is_least r.low s.high a) (is_least s.low r.high b)) (and_from _ _ (is_least r.low r.high c) (is_least s.low s.high d)))

@@ -1,11 +1,8 @@
 pub mod Keeping
-pub mod Rows
 pub mod Each
 pub mod Least
-pub mod Words
 pub mod Table
 pub mod Paths
-pub mod Entered
 pub mod Holds
 pub mod Found
 pub mod Told

@@ -6,6 +6,4 @@ pub mod Declarations
 pub mod Scope
 pub mod Home
 pub mod Env
-pub mod Entries
-pub mod Names
 pub mod Laws

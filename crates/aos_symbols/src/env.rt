@@ -1,6 +1,6 @@
 // What names stand for at a place of a module.
 
-ghost use Rattle.std.specs.Prelude.{◌≡◌, ◌+◌, Some, length, map, OnOk, IfOk, OnErr};
+ghost use Rattle.std.specs.Prelude.{◌≡◌, ◌+◌, ◌++◌, ◌∷◌, [], Some, length, map, OnOk, IfOk, OnErr};
 ghost use Rattle.std.specs.Map.{lookup};
 ghost use Rattle.std.specs.Option.{option_copied};
 ghost use Rattle.std.specs.Str.{bytes_eq};
@@ -115,7 +115,6 @@ pub enum Claim {
 }
 
 /// What names stand for at a place of a module.
-#[derive(Drop)]
 pub struct Env<'a> {
     /// The number of this module in load order, from 0.
     pub number: u32,
@@ -139,6 +138,32 @@ pub struct Env<'a> {
     pub is_exclusive: bool,
     /// Whether the place stands in the condition of an AWAIT, in which nothing is called.
     pub is_condition: bool,
+}
+
+// Crates above drop it by this one call.
+impl<'a> Drop for Env<'a> {
+    fn drop(self) {
+        let Env {
+            number: _,
+            before,
+            here,
+            path,
+            types,
+            places,
+            claims,
+            narrowed,
+            self_type: _,
+            is_exclusive: _,
+            is_condition: _,
+        } = self;
+        drop(before);
+        drop(here);
+        drop(path);
+        drop(types);
+        drop(places);
+        drop(claims);
+        drop(narrowed);
+    }
 }
 
 /// The predeclared names (Reali 2002, predeclared identifiers).
@@ -610,5 +635,31 @@ impl<'a> Env<'a> {
         }
         narrowed.push(one)?;
         Ok(mem::replace(&mut self.narrowed, narrowed))
+    }
+
+    /// What all modules up to this one have declared, and their types.
+    pub fn into_homes(self) -> Result<(Items<Home<'a>>, Types), AllocError>
+        ensures homes { IfOk result (λ r. r.0 ≡ self.entry.before ++ self.entry.here ∷ []) }
+        ensures types { IfOk result (λ r. r.1 ≡ self.entry.types) }
+    {
+        let Env {
+            number: _,
+            mut before,
+            here,
+            path,
+            types,
+            places,
+            claims,
+            narrowed,
+            self_type: _,
+            is_exclusive: _,
+            is_condition: _,
+        } = self;
+        drop(path);
+        drop(places);
+        drop(claims);
+        drop(narrowed);
+        before.push(here)?;
+        Ok((before, types))
     }
 }

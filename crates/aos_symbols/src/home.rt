@@ -4,7 +4,6 @@ ghost use Rattle.std.specs.Prelude.{◌≡◌, ◌≤◌, ◌<◌, ◌^◌, [], 
 ghost use Rattle.std.specs.Option.{option_copied};
 ghost use Rattle.aos_symbols.specs.Home as home;
 
-use crate::entries::MOST_NUMBERS;
 use crate::scope::{Constant, Scope};
 use crate::spelling::bytes_between;
 use aos_tree::{Items, Text};
@@ -12,6 +11,9 @@ use aos_types::{Signature, TypeId};
 use indexmap::IndexMap;
 use std::alloc::{AllocError, Global};
 use std::marker::Model;
+
+/// How many strings of a text can be told apart by their numbers.
+const MOST_STRINGS: usize = 4_294_967_296;
 
 /// An object type: the number of the module that declares it, the number of its scope there, in which its constants, fields and
 /// methods stand, the number of its first method among the module's signatures, and the place among its methods of its initializer.
@@ -28,7 +30,6 @@ pub struct ObjectScope {
 /// type declares. A record's fields are the variables of a scope. The first scope is the module's own; behind it come those of the
 /// types that it defines and then those of its procedures and methods, the first of which has the number `first`, each in the order
 /// of the text.
-#[derive(Drop)]
 pub struct Home<'a> {
     name: &'a [u8],
     text: &'a [u8],
@@ -47,7 +48,7 @@ fn strings_of(alloc: Global, strings: &[Text]) -> Result<IndexMap<u32, u32>, All
     ensures few { IfOk result (λ m. length m.entries ≤ 2 ^ 32) }
 {
     let mut all = IndexMap::new(alloc);
-    if strings.len() > MOST_NUMBERS {
+    if strings.len() > MOST_STRINGS {
         return Err(AllocError);
     }
     for string in strings {
@@ -83,6 +84,29 @@ impl<'a> Model for Home<'a> {
     } };
 
     ghost invariant = { λ h. length h.strings.entries ≤ 2 ^ 32 };
+}
+
+// Crates above drop it by this one call.
+impl<'a> Drop for Home<'a> {
+    fn drop(self) {
+        let Home {
+            name: _,
+            text: _,
+            strings,
+            scopes,
+            first: _,
+            signatures,
+            records,
+            objects,
+            slots,
+        } = self;
+        drop(strings);
+        drop(scopes);
+        drop(signatures);
+        drop(records);
+        drop(objects);
+        drop(slots);
+    }
 }
 
 impl<'a> Home<'a> {

@@ -1,14 +1,11 @@
-//! Scopes, what names stand for at a place of a module, and the rules of names: 12 and 13.
+//! Scopes, what names stand for at a place of a module, and broken rules.
 #![tactic(auto)]
 
 pub mod breach;
 mod chain;
-pub mod declarations;
-pub mod entries;
 pub mod env;
 pub mod home;
 mod laws;
-mod names;
 mod objects;
 pub mod scope;
 mod spelling;
@@ -21,14 +18,11 @@ pub use breach::{
     WRONG_MODIFIER, WRONG_NEW, WRONG_OPERANDS, WRONG_OVERRIDE, WRONG_RETURN, WRONG_SELECTOR,
     WRONG_SELF, WRONG_TEST, WRONG_TYPE, WRONG_WITH, note,
 };
-pub use declarations::{all_procedures, inner_decls, type_definitions};
-pub use entries::{declare, home_of};
 pub use env::{
     ANY, BASIC_TYPES, BOOLEAN, CHAR, Claim, Env, Field, HUGEINT, INTEGER, LONGINT, Lookup, Method,
     NIL, Narrowed, Open, PROCEDURE, SET, SHORTINT, Symbol, TEXT,
 };
 pub use home::{Home, ObjectScope};
 pub use laws::law_of_first;
-pub use names::check_names;
 pub use scope::{Constant, Entry, Function, Meaning, Routine, Scope};
 pub use spelling::{are_same, is_active, is_procedure_of_out, is_word, word};

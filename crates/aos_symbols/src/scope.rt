@@ -84,7 +84,6 @@ pub struct Entry {
 
 /// The names of a scope, the values of its constants and the types of its variables, so far as they are declared. A name is
 /// looked up in a hashed table, by its bytes.
-#[derive(Drop)]
 pub struct Scope<'a> {
     table: IndexMap<&'a [u8], Entry>,
     constants: Vec<Constant>,
@@ -101,6 +100,20 @@ impl<'a> Model for Scope<'a> {
       constants = s.constants.items;
       variables = s.variables.items;
     } };
+}
+
+// Crates above drop it by this one call.
+impl<'a> Drop for Scope<'a> {
+    fn drop(self) {
+        let Scope {
+            table,
+            constants,
+            variables,
+        } = self;
+        drop(table);
+        drop(constants);
+        drop(variables);
+    }
 }
 
 impl<'a> Scope<'a> {

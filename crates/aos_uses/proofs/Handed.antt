@@ -5,8 +5,8 @@ use Rattle.std.proofs.lemmas.Option.{slice_get-map}
 use Rattle.std.specs.Prelude.{Bool, false, Option, Some, None, slice_get, option_map, option_and_then, ◌-◌}
 use Rattle.std.specs.Option.{unwrap_or}
 use Rattle.aos_typed.specs.Routines.{Routine, parameters_of, routines}
-use Rattle.aos_laid.specs.declared.routines.Routine.{Routine as CodeRoutine}
-use Rattle.aos_laid.specs.Routines.{seen_routine, seen_routines}
+use Rattle.aos_dispatch.specs.declared.routines.Routine.{Routine as CodeRoutine}
+use Rattle.aos_dispatch.specs.Routines.{seen_routine, seen_routines}
 use Rattle.aos_typed.specs.declared.tree.TArgument.{TArgument}
 use Rattle.aos_typed.specs.Program.{Arguments, Program}
 use Rattle.aos_typed.specs.Seen.{seen_argument, seen_list}

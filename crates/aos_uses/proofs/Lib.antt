@@ -1,3 +1,3 @@
-pub mod Sizes
 pub mod Said
 pub mod Handed
+pub mod Largest

@@ -1,2 +1,3 @@
 pub mod Uses
-pub mod Sizes
+pub mod Guarded
+pub mod Fronts

@@ -4,15 +4,15 @@ ghost use Rattle.std.specs.Prelude.{◌≡◌, ◌≤◌, suc, ◌++◌, ◌∷�
 ghost use Rattle.std.specs.Option.{unwrap_or};
 ghost use Rattle.aos_typed.specs.Program.{Arguments, MethodOf, Program};
 ghost use Rattle.aos_typed.specs.Routines.{parameters_of};
-ghost use Rattle.aos_laid.specs.Routines.{seen_routine};
+ghost use Rattle.aos_dispatch.specs.Routines.{seen_routine};
 ghost use Rattle.aos_typed.specs.Seen.{seen_argument, seen_callee, seen_expr, seen_list, seen_parameter, seen_place, seen_program, seen_rows};
-ghost use Rattle.aos_uses.specs.Sizes.{callee_size, front_size, front_uses, place_size, rest_size, rest_uses, rows_size, value_size};
+ghost use Rattle.aos_dispatch.specs.Sizes.{callee_size, front_size, place_size, rest_size, rows_size, value_size};
+ghost use Rattle.aos_uses.specs.Fronts.{front_uses, rest_uses};
 ghost use Rattle.aos_uses.specs.Uses.{arguments_uses, call_uses, called, callee_number, expr_uses, follows, is_variable, place_uses, receiver_uses, rows_target, rows_uses, target, varies};
 
-use crate::fronts::Front;
 use crate::target::{array_target, is_own, is_self, place_target};
 use crate::uses::{Target, Use};
-use aos_laid::{Laid, Routine};
+use aos_dispatch::{Dispatch, Front, Routine};
 use aos_typed::{TArgument, TCallee, TExpr, TParameter, TPlace, TRows};
 use std::alloc::AllocError;
 
@@ -46,13 +46,13 @@ fn has_reference(routine: &Routine<'_>, parameter: usize) -> bool
 }
 
 // Whether a parameter of what runs under a number is one by reference.
-fn is_variable(laid: &Laid<'_>, number: u32, parameter: usize) -> bool
-    ensures { result ≡ is_variable (seen_program laid.now) number parameter }
+fn is_variable(dispatch: &Dispatch<'_>, number: u32, parameter: usize) -> bool
+    ensures { result ≡ is_variable (seen_program dispatch.now) number parameter }
 {
     if number == 0 {
         return false;
     }
-    match laid.routines().get(number as usize - 1) {
+    match dispatch.routines().get(number as usize - 1) {
         Some(routine) => has_reference(routine, parameter),
         None => false,
     }
@@ -96,26 +96,27 @@ fn put_called(uses: &mut Vec<Use>, callee: &TCallee) -> Result<(), AllocError>
 }
 
 // The number under which runs what a call names.
-fn callee_number(laid: &Laid<'_>, callee: &TCallee) -> Result<u32, AllocError>
-    ensures { IfOk result (λ n. n ≡ callee_number (seen_program laid.now) (seen_callee callee.now)) }
+fn callee_number(dispatch: &Dispatch<'_>, callee: &TCallee) -> Result<u32, AllocError>
+    ensures { IfOk result (λ n. n ≡ callee_number (seen_program dispatch.now) (seen_callee callee.now)) }
 {
     match callee {
-        TCallee::Plain(home, number) => laid.called(*home, *number),
-        TCallee::Dispatched(_, of, slot) => laid.method(*of, *slot),
-        TCallee::Upper(of, slot) => laid.method(*of, *slot),
-        TCallee::Through(_, of) => laid.body(*of),
+        TCallee::Plain(home, number) => dispatch.called(*home, *number),
+        TCallee::Dispatched(_, of, slot) => dispatch.method(*of, *slot),
+        TCallee::Upper(of, slot) => dispatch.method(*of, *slot),
+        TCallee::Through(_, of) => dispatch.body(*of),
     }
 }
 
 // A designator, but what it begins with.
 #[cycle(value_uses)]
 fn place_end<'b>(
-    laid: &Laid<'_>,
+    dispatch: &Dispatch<'_>,
     uses: &mut Vec<Use>,
     place: &'b TPlace,
 ) -> Result<Option<Front<'b>>, AllocError>
-    ensures uses { IfOk result (λ rest. uses.new.items ++ rest_uses (seen_program laid.now) rest ≡
-        uses.old.items ++ place_uses (seen_program laid.now) (seen_place place.now)) }
+    ensures uses { IfOk result (λ rest.
+        uses.new.items ++ rest_uses (seen_program dispatch.now) rest ≡
+        uses.old.items ++ place_uses (seen_program dispatch.now) (seen_place place.now)) }
     ensures less { IfOk result (λ rest. rest_size rest ≤ place_size (seen_place place.now)) }
 {
     match place {
@@ -129,7 +130,7 @@ fn place_end<'b>(
             Ok(Some(Front::Place(whole)))
         }
         TPlace::Index(whole, _, _, index) => {
-            value_uses(laid, uses, index)?;
+            value_uses(dispatch, uses, index)?;
             Ok(Some(Front::Place(whole)))
         }
         TPlace::Of(rows) => Ok(Some(Front::Rows(rows))),
@@ -144,19 +145,20 @@ fn place_end<'b>(
 
 #[cycle(value_uses)]
 fn rows_end<'b>(
-    laid: &Laid<'_>,
+    dispatch: &Dispatch<'_>,
     uses: &mut Vec<Use>,
     rows: &'b TRows,
 ) -> Result<Option<Front<'b>>, AllocError>
-    ensures uses { IfOk result (λ rest. uses.new.items ++ rest_uses (seen_program laid.now) rest ≡
-        uses.old.items ++ rows_uses (seen_program laid.now) (seen_rows rows.now)) }
+    ensures uses { IfOk result (λ rest.
+        uses.new.items ++ rest_uses (seen_program dispatch.now) rest ≡
+        uses.old.items ++ rows_uses (seen_program dispatch.now) (seen_rows rows.now)) }
     ensures less { IfOk result (λ rest. rest_size rest ≤ rows_size (seen_rows rows.now)) }
 {
     match rows {
         TRows::Known(place, _) => Ok(Some(Front::Place(place))),
         TRows::Opened(_, _) => Ok(None),
         TRows::Row(whole, _, index) => {
-            value_uses(laid, uses, index)?;
+            value_uses(dispatch, uses, index)?;
             Ok(Some(Front::Rows(whole)))
         }
         TRows::Spread(object, _) => {
@@ -170,45 +172,45 @@ fn rows_end<'b>(
 // What is handed over for a parameter of what runs under a number.
 #[cycle(value_uses)]
 fn argument_uses(
-    laid: &Laid<'_>,
+    dispatch: &Dispatch<'_>,
     uses: &mut Vec<Use>,
     argument: &TArgument,
     number: u32,
     parameter: usize,
 ) -> Result<(), AllocError>
     ensures { OnOk result ((more : Arguments) →
-        uses.new.items ++ arguments_uses (seen_program laid.now) number (suc parameter) more ≡
-        uses.old.items ++ arguments_uses (seen_program laid.now) number parameter (seen_argument argument.now more)) }
+        uses.new.items ++ arguments_uses (seen_program dispatch.now) number (suc parameter) more ≡
+        uses.old.items ++ arguments_uses (seen_program dispatch.now) number parameter (seen_argument argument.now more)) }
 {
     match argument {
-        TArgument::Scalar(value) => value_uses(laid, uses, value),
+        TArgument::Scalar(value) => value_uses(dispatch, uses, value),
         TArgument::Whole(place) => {
-            let target = place_target(laid, place)?;
-            put_varies(uses, is_variable(laid, number, parameter), target)?;
-            place_uses(laid, uses, place)
+            let target = place_target(dispatch, place)?;
+            put_varies(uses, is_variable(dispatch, number, parameter), target)?;
+            place_uses(dispatch, uses, place)
         }
         TArgument::Opening(rows) => {
-            let target = array_target(laid, rows)?;
-            put_varies(uses, is_variable(laid, number, parameter), target)?;
-            rows_uses(laid, uses, rows)
+            let target = array_target(dispatch, rows)?;
+            put_varies(uses, is_variable(dispatch, number, parameter), target)?;
+            rows_uses(dispatch, uses, rows)
         }
     }
 }
 
 /// What is handed over to what runs under a number.
 #[cycle(value_uses)]
-#[tactic(auto, using(crate::proofs::Sizes::argument_less, crate::proofs::Handed::arguments_next))]
+#[tactic(auto, using(aos_dispatch::proofs::Sizes::argument_less, crate::proofs::Handed::arguments_next))]
 pub fn arguments_uses(
-    laid: &Laid<'_>,
+    dispatch: &Dispatch<'_>,
     uses: &mut Vec<Use>,
     arguments: &[TArgument],
     number: u32,
 ) -> Result<(), AllocError>
     ensures { OnOk result (uses.new.items ≡
-        uses.old.items ++ arguments_uses (seen_program laid.now) number 0 (seen_list arguments.now)) }
+        uses.old.items ++ arguments_uses (seen_program dispatch.now) number 0 (seen_list arguments.now)) }
 {
     for parameter in 0..arguments.len() {
-        argument_uses(laid, uses, &arguments[parameter], number, parameter)?;
+        argument_uses(dispatch, uses, &arguments[parameter], number, parameter)?;
     }
     Ok(())
 }
@@ -229,50 +231,51 @@ fn receiver_of<'b>(callee: &'b TCallee) -> Option<Front<'b>>
 // A call, but what something is called on.
 #[cycle(value_uses)]
 fn call_end<'b>(
-    laid: &Laid<'_>,
+    dispatch: &Dispatch<'_>,
     uses: &mut Vec<Use>,
     callee: &'b TCallee,
     arguments: &[TArgument],
 ) -> Result<Option<Front<'b>>, AllocError>
-    ensures uses { IfOk result (λ rest. uses.new.items ++ rest_uses (seen_program laid.now) rest ≡
-        uses.old.items ++ call_uses (seen_program laid.now) (seen_callee callee.now) (seen_list arguments.now)) }
+    ensures uses { IfOk result (λ rest.
+        uses.new.items ++ rest_uses (seen_program dispatch.now) rest ≡
+        uses.old.items ++ call_uses (seen_program dispatch.now) (seen_callee callee.now) (seen_list arguments.now)) }
     ensures less { IfOk result (λ rest. rest_size rest ≤ suc (callee_size (seen_callee callee.now))) }
 {
-    let number = callee_number(laid, callee)?;
+    let number = callee_number(dispatch, callee)?;
     put_called(uses, callee)?;
-    arguments_uses(laid, uses, arguments, number)?;
+    arguments_uses(dispatch, uses, arguments, number)?;
     Ok(receiver_of(callee))
 }
 
 // A variable that is read, but what it begins with.
 fn read_end<'b>(
-    laid: &Laid<'_>,
+    dispatch: &Dispatch<'_>,
     uses: &mut Vec<Use>,
     place: &'b TPlace,
 ) -> Result<Option<Front<'b>>, AllocError>
-    ensures uses { IfOk result (λ rest. uses.new.items ++ rest_uses (seen_program laid.now) rest ≡ uses.old.items ++
-        (Use.Reads (target (seen_program laid.now) (seen_place place.now)) ∷ place_uses (seen_program laid.now) (seen_place place.now))) }
+    ensures uses { IfOk result (λ rest. uses.new.items ++ rest_uses (seen_program dispatch.now) rest ≡ uses.old.items ++
+        (Use.Reads (target (seen_program dispatch.now) (seen_place place.now)) ∷ place_uses (seen_program dispatch.now) (seen_place place.now))) }
     ensures less { IfOk result (λ rest. rest_size rest ≤ suc (place_size (seen_place place.now))) }
 {
-    put(uses, Use::Reads(place_target(laid, place)?))?;
+    put(uses, Use::Reads(place_target(dispatch, place)?))?;
     Ok(Some(Front::Place(place)))
 }
 
 // Two texts, but what the first one begins with.
 #[cycle(value_uses)]
 fn texts_end<'b>(
-    laid: &Laid<'_>,
+    dispatch: &Dispatch<'_>,
     uses: &mut Vec<Use>,
     left: &'b TRows,
     right: &TRows,
 ) -> Result<Option<Front<'b>>, AllocError>
-    ensures uses { IfOk result (λ rest. uses.new.items ++ rest_uses (seen_program laid.now) rest ≡ uses.old.items ++
-        ((Use.Reads (rows_target (seen_program laid.now) (seen_rows right.now)) ∷ rows_uses (seen_program laid.now) (seen_rows right.now)) ++
-        (Use.Reads (rows_target (seen_program laid.now) (seen_rows left.now)) ∷ rows_uses (seen_program laid.now) (seen_rows left.now)))) }
+    ensures uses { IfOk result (λ rest. uses.new.items ++ rest_uses (seen_program dispatch.now) rest ≡ uses.old.items ++
+        ((Use.Reads (rows_target (seen_program dispatch.now) (seen_rows right.now)) ∷ rows_uses (seen_program dispatch.now) (seen_rows right.now)) ++
+        (Use.Reads (rows_target (seen_program dispatch.now) (seen_rows left.now)) ∷ rows_uses (seen_program dispatch.now) (seen_rows left.now)))) }
     ensures less { IfOk result (λ rest. rest_size rest ≤ suc (rows_size (seen_rows left.now))) }
 {
-    array_read(laid, uses, right)?;
-    put(uses, Use::Reads(array_target(laid, left)?))?;
+    array_read(dispatch, uses, right)?;
+    put(uses, Use::Reads(array_target(dispatch, left)?))?;
     Ok(Some(Front::Rows(left)))
 }
 
@@ -296,28 +299,29 @@ fn method_end<'b>(
 // Two operands, but the first one.
 #[cycle(value_uses)]
 fn both_end<'b>(
-    laid: &Laid<'_>,
+    dispatch: &Dispatch<'_>,
     uses: &mut Vec<Use>,
     left: &'b TExpr,
     right: &TExpr,
 ) -> Result<Option<Front<'b>>, AllocError>
-    ensures uses { IfOk result (λ rest. uses.new.items ++ rest_uses (seen_program laid.now) rest ≡ uses.old.items ++
-        (expr_uses (seen_program laid.now) (seen_expr right.now) ++ expr_uses (seen_program laid.now) (seen_expr left.now))) }
+    ensures uses { IfOk result (λ rest. uses.new.items ++ rest_uses (seen_program dispatch.now) rest ≡ uses.old.items ++
+        (expr_uses (seen_program dispatch.now) (seen_expr right.now) ++ expr_uses (seen_program dispatch.now) (seen_expr left.now))) }
     ensures less { IfOk result (λ rest. rest_size rest ≤ suc (value_size (seen_expr left.now))) }
 {
-    value_uses(laid, uses, right)?;
+    value_uses(dispatch, uses, right)?;
     Ok(Some(Front::Value(left)))
 }
 
 // An expression, but what it begins with.
 #[cycle(value_uses)]
 fn value_end<'b>(
-    laid: &Laid<'_>,
+    dispatch: &Dispatch<'_>,
     uses: &mut Vec<Use>,
     value: &'b TExpr,
 ) -> Result<Option<Front<'b>>, AllocError>
-    ensures uses { IfOk result (λ rest. uses.new.items ++ rest_uses (seen_program laid.now) rest ≡
-        uses.old.items ++ expr_uses (seen_program laid.now) (seen_expr value.now)) }
+    ensures uses { IfOk result (λ rest.
+        uses.new.items ++ rest_uses (seen_program dispatch.now) rest ≡
+        uses.old.items ++ expr_uses (seen_program dispatch.now) (seen_expr value.now)) }
     ensures less { IfOk result (λ rest. rest_size rest ≤ value_size (seen_expr value.now)) }
 {
     match value {
@@ -326,103 +330,124 @@ fn value_end<'b>(
             put(uses, Use::SelfValue)?;
             Ok(None)
         }
-        TExpr::Read(_, place) => read_end(laid, uses, place),
+        TExpr::Read(_, place) => read_end(dispatch, uses, place),
         TExpr::Len(rows, _) => Ok(Some(Front::Rows(rows))),
         TExpr::LenBehind(rows, _) => Ok(Some(Front::Rows(rows))),
-        TExpr::CompareTexts(_, left, right) => texts_end(laid, uses, left, right),
-        TExpr::Function(callee, arguments) => call_end(laid, uses, callee, arguments),
+        TExpr::CompareTexts(_, left, right) => texts_end(dispatch, uses, left, right),
+        TExpr::Function(callee, arguments) => call_end(dispatch, uses, callee, arguments),
         TExpr::Unary(_, operand) => Ok(Some(Front::Value(operand))),
-        TExpr::Binary(_, left, right) => both_end(laid, uses, left, right),
-        TExpr::And(left, right) => both_end(laid, uses, left, right),
-        TExpr::Or(left, right) => both_end(laid, uses, left, right),
+        TExpr::Binary(_, left, right) => both_end(dispatch, uses, left, right),
+        TExpr::And(left, right) => both_end(dispatch, uses, left, right),
+        TExpr::Or(left, right) => both_end(dispatch, uses, left, right),
         TExpr::Element(operand) => Ok(Some(Front::Value(operand))),
         TExpr::Ord(operand) => Ok(Some(Front::Value(operand))),
         TExpr::Chr(operand) => Ok(Some(Front::Value(operand))),
-        TExpr::Same(left, right) => both_end(laid, uses, left, right),
+        TExpr::Same(left, right) => both_end(dispatch, uses, left, right),
         TExpr::Is(operand, _) => Ok(Some(Front::Value(operand))),
-        TExpr::IsRecord(place, _) => read_end(laid, uses, place),
+        TExpr::IsRecord(place, _) => read_end(dispatch, uses, place),
         TExpr::Guard(operand, _) => Ok(Some(Front::Value(operand))),
         TExpr::ProcedureOf(_, _) => Ok(None),
         TExpr::MethodOf(object, of, slot) => method_end(uses, object, *of, *slot),
-        TExpr::SameProcedure(left, right) => both_end(laid, uses, left, right),
+        TExpr::SameProcedure(left, right) => both_end(dispatch, uses, left, right),
     }
 }
 
 #[cycle(value_uses)]
 fn front_end<'b>(
-    laid: &Laid<'_>,
+    dispatch: &Dispatch<'_>,
     uses: &mut Vec<Use>,
     front: Front<'b>,
 ) -> Result<Option<Front<'b>>, AllocError>
-    ensures uses { IfOk result (λ rest. uses.new.items ++ rest_uses (seen_program laid.now) rest ≡
-        uses.old.items ++ front_uses (seen_program laid.now) front.entry) }
+    ensures uses { IfOk result (λ rest.
+        uses.new.items ++ rest_uses (seen_program dispatch.now) rest ≡
+        uses.old.items ++ front_uses (seen_program dispatch.now) front.entry) }
     ensures less { IfOk result (λ rest. rest_size rest ≤ front_size front.entry) }
 {
     match front {
-        Front::Value(value) => value_end(laid, uses, value),
-        Front::Place(place) => place_end(laid, uses, place),
-        Front::Rows(rows) => rows_end(laid, uses, rows),
+        Front::Value(value) => value_end(dispatch, uses, value),
+        Front::Place(place) => place_end(dispatch, uses, place),
+        Front::Rows(rows) => rows_end(dispatch, uses, rows),
     }
 }
 
 // A long designator and a long sum have as many parts, one in another: the loop over them takes no stack.
 #[cycle(value_uses)]
-fn front_uses(laid: &Laid<'_>, uses: &mut Vec<Use>, all: Front<'_>) -> Result<(), AllocError>
-    ensures { OnOk result (uses.new.items ≡ uses.old.items ++ front_uses (seen_program laid.now) all.entry) }
+fn front_uses(
+    dispatch: &Dispatch<'_>,
+    uses: &mut Vec<Use>,
+    all: Front<'_>,
+) -> Result<(), AllocError>
+    ensures { OnOk result (uses.new.items ≡ uses.old.items ++ front_uses (seen_program dispatch.now) all.entry) }
 {
     let mut rest = Some(all);
     while let Some(front) = rest {
-        rest = front_end(laid, uses, front)?;
+        rest = front_end(dispatch, uses, front)?;
     }
     Ok(())
 }
 
 /// What evaluating an expression uses.
 #[cycle(value_uses)]
-pub fn value_uses(laid: &Laid<'_>, uses: &mut Vec<Use>, value: &TExpr) -> Result<(), AllocError>
-    ensures { OnOk result (uses.new.items ≡ uses.old.items ++ expr_uses (seen_program laid.now) (seen_expr value.now)) }
+pub fn value_uses(
+    dispatch: &Dispatch<'_>,
+    uses: &mut Vec<Use>,
+    value: &TExpr,
+) -> Result<(), AllocError>
+    ensures { OnOk result (uses.new.items ≡ uses.old.items ++ expr_uses (seen_program dispatch.now) (seen_expr value.now)) }
 {
-    front_uses(laid, uses, Front::Value(value))
+    front_uses(dispatch, uses, Front::Value(value))
 }
 
 /// What finding a designator's place uses.
 #[cycle(value_uses)]
-pub fn place_uses(laid: &Laid<'_>, uses: &mut Vec<Use>, place: &TPlace) -> Result<(), AllocError>
-    ensures { OnOk result (uses.new.items ≡ uses.old.items ++ place_uses (seen_program laid.now) (seen_place place.now)) }
+pub fn place_uses(
+    dispatch: &Dispatch<'_>,
+    uses: &mut Vec<Use>,
+    place: &TPlace,
+) -> Result<(), AllocError>
+    ensures { OnOk result (uses.new.items ≡ uses.old.items ++ place_uses (seen_program dispatch.now) (seen_place place.now)) }
 {
-    front_uses(laid, uses, Front::Place(place))
+    front_uses(dispatch, uses, Front::Place(place))
 }
 
 /// What finding an array uses.
 #[cycle(value_uses)]
-pub fn rows_uses(laid: &Laid<'_>, uses: &mut Vec<Use>, rows: &TRows) -> Result<(), AllocError>
-    ensures { OnOk result (uses.new.items ≡ uses.old.items ++ rows_uses (seen_program laid.now) (seen_rows rows.now)) }
+pub fn rows_uses(
+    dispatch: &Dispatch<'_>,
+    uses: &mut Vec<Use>,
+    rows: &TRows,
+) -> Result<(), AllocError>
+    ensures { OnOk result (uses.new.items ≡ uses.old.items ++ rows_uses (seen_program dispatch.now) (seen_rows rows.now)) }
 {
-    front_uses(laid, uses, Front::Rows(rows))
+    front_uses(dispatch, uses, Front::Rows(rows))
 }
 
 /// An array that is read.
 #[cycle(value_uses)]
-pub fn array_read(laid: &Laid<'_>, uses: &mut Vec<Use>, rows: &TRows) -> Result<(), AllocError>
+pub fn array_read(
+    dispatch: &Dispatch<'_>,
+    uses: &mut Vec<Use>,
+    rows: &TRows,
+) -> Result<(), AllocError>
     ensures { OnOk result (uses.new.items ≡ uses.old.items ++
-        (Use.Reads (rows_target (seen_program laid.now) (seen_rows rows.now)) ∷ rows_uses (seen_program laid.now) (seen_rows rows.now))) }
+        (Use.Reads (rows_target (seen_program dispatch.now) (seen_rows rows.now)) ∷ rows_uses (seen_program dispatch.now) (seen_rows rows.now))) }
 {
-    put(uses, Use::Reads(array_target(laid, rows)?))?;
-    rows_uses(laid, uses, rows)
+    put(uses, Use::Reads(array_target(dispatch, rows)?))?;
+    rows_uses(dispatch, uses, rows)
 }
 
 /// What a call uses.
 pub fn call_uses(
-    laid: &Laid<'_>,
+    dispatch: &Dispatch<'_>,
     uses: &mut Vec<Use>,
     callee: &TCallee,
     arguments: &[TArgument],
 ) -> Result<(), AllocError>
     ensures { OnOk result (uses.new.items ≡
-        uses.old.items ++ call_uses (seen_program laid.now) (seen_callee callee.now) (seen_list arguments.now)) }
+        uses.old.items ++ call_uses (seen_program dispatch.now) (seen_callee callee.now) (seen_list arguments.now)) }
 {
-    match call_end(laid, uses, callee, arguments)? {
-        Some(object) => front_uses(laid, uses, object),
+    match call_end(dispatch, uses, callee, arguments)? {
+        Some(object) => front_uses(dispatch, uses, object),
         None => Ok(()),
     }
 }

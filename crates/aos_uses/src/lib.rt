@@ -2,7 +2,6 @@
 #![tactic(auto)]
 
 mod exprs;
-mod fronts;
 mod stats;
 mod target;
 pub mod uses;

@@ -3,12 +3,12 @@
 ghost use Rattle.std.specs.Prelude.{◌≡◌, ◌≤◌, IfOk};
 ghost use Rattle.aos_typed.specs.Program.{Field};
 ghost use Rattle.aos_typed.specs.Seen.{seen_expr, seen_place, seen_program, seen_rows};
-ghost use Rattle.aos_uses.specs.Sizes.{front_size, front_target, place_size, rest_size, rest_target, rows_size};
+ghost use Rattle.aos_dispatch.specs.Sizes.{front_size, place_size, rest_size, rows_size};
+ghost use Rattle.aos_uses.specs.Fronts.{front_target, rest_target};
 ghost use Rattle.aos_uses.specs.Uses.{is_own, is_self, plainly, rows_target, target};
 
-use crate::fronts::Front;
 use crate::uses::{Target, Variable};
-use aos_laid::Laid;
+use aos_dispatch::{Dispatch, Front};
 use aos_typed::{TExpr, TPlace, TRows, TType};
 use std::alloc::AllocError;
 
@@ -44,18 +44,18 @@ pub fn is_own(place: &TPlace) -> bool
 
 // A field: of an object it is a variable, of a record a part of what the record is.
 fn field_target<'b>(
-    laid: &Laid<'_>,
+    dispatch: &Dispatch<'_>,
     whole: &'b TPlace,
     of: TType,
     number: u32,
 ) -> Result<(Target, Option<Front<'b>>), AllocError>
-    ensures target { IfOk result (λ r. rest_target (seen_program laid.now) r.0 r.1 ≡
-        target (seen_program laid.now) (Field (seen_place whole.now) of number)) }
+    ensures target { IfOk result (λ r. rest_target (seen_program dispatch.now) r.0 r.1 ≡
+        target (seen_program dispatch.now) (Field (seen_place whole.now) of number)) }
     ensures less { IfOk result (λ r. rest_size r.1 ≤ place_size (Field (seen_place whole.now) of number)) }
 {
-    if laid.is_object(of) {
+    if dispatch.is_object(of) {
         let found = Target {
-            of: Variable::Field(laid.declarer(of, number)?, number),
+            of: Variable::Field(dispatch.declarer(of, number)?, number),
             through_self: is_own(whole),
         };
         Ok((found, None))
@@ -66,11 +66,11 @@ fn field_target<'b>(
 
 // The variable, or what it is the same of.
 fn place_end<'b>(
-    laid: &Laid<'_>,
+    dispatch: &Dispatch<'_>,
     place: &'b TPlace,
 ) -> Result<(Target, Option<Front<'b>>), AllocError>
-    ensures target { IfOk result (λ r. rest_target (seen_program laid.now) r.0 r.1 ≡
-        target (seen_program laid.now) (seen_place place.now)) }
+    ensures target { IfOk result (λ r. rest_target (seen_program dispatch.now) r.0 r.1 ≡
+        target (seen_program dispatch.now) (seen_place place.now)) }
     ensures less { IfOk result (λ r. rest_size r.1 ≤ place_size (seen_place place.now)) }
 {
     let none = plainly(Variable::Heap);
@@ -78,7 +78,7 @@ fn place_end<'b>(
         TPlace::ModuleVar(home, number) => { Ok((plainly(Variable::Module(*home, *number)), None)) }
         TPlace::Local(_) => Ok((plainly(Variable::Local), None)),
         TPlace::Passed(_) => Ok((plainly(Variable::Passed), None)),
-        TPlace::Field(whole, of, number) => field_target(laid, whole, *of, *number),
+        TPlace::Field(whole, of, number) => field_target(dispatch, whole, *of, *number),
         TPlace::Index(whole, _, _, _) => Ok((none, Some(Front::Place(whole)))),
         TPlace::Of(rows) => Ok((none, Some(Front::Rows(rows)))),
         TPlace::Deref(_, _) => Ok((none, None)),
@@ -87,9 +87,9 @@ fn place_end<'b>(
     }
 }
 
-fn rows_end<'b>(laid: &Laid<'_>, rows: &'b TRows) -> (Target, Option<Front<'b>>)
-    ensures target { rest_target (seen_program laid.now) result.0 result.1 ≡
-        rows_target (seen_program laid.now) (seen_rows rows.now) }
+fn rows_end<'b>(dispatch: &Dispatch<'_>, rows: &'b TRows) -> (Target, Option<Front<'b>>)
+    ensures target { rest_target (seen_program dispatch.now) result.0 result.1 ≡
+        rows_target (seen_program dispatch.now) (seen_rows rows.now) }
     ensures less { rest_size result.1 ≤ rows_size (seen_rows rows.now) }
 {
     let none = plainly(Variable::Heap);
@@ -103,28 +103,28 @@ fn rows_end<'b>(laid: &Laid<'_>, rows: &'b TRows) -> (Target, Option<Front<'b>>)
 }
 
 fn front_end<'b>(
-    laid: &Laid<'_>,
+    dispatch: &Dispatch<'_>,
     front: Front<'b>,
 ) -> Result<(Target, Option<Front<'b>>), AllocError>
-    ensures target { IfOk result (λ r. rest_target (seen_program laid.now) r.0 r.1 ≡
-        front_target (seen_program laid.now) front.entry) }
+    ensures target { IfOk result (λ r. rest_target (seen_program dispatch.now) r.0 r.1 ≡
+        front_target (seen_program dispatch.now) front.entry) }
     ensures less { IfOk result (λ r. rest_size r.1 ≤ front_size front.entry) }
 {
     match front {
         Front::Value(_) => Ok((plainly(Variable::Heap), None)),
-        Front::Place(place) => place_end(laid, place),
-        Front::Rows(rows) => Ok(rows_end(laid, rows)),
+        Front::Place(place) => place_end(dispatch, place),
+        Front::Rows(rows) => Ok(rows_end(dispatch, rows)),
     }
 }
 
 // A long designator has as many parts, one in another: the loop over them takes no stack.
-fn front_target(laid: &Laid<'_>, all: Front<'_>) -> Result<Target, AllocError>
-    ensures { IfOk result (λ t. t ≡ front_target (seen_program laid.now) all.entry) }
+fn front_target(dispatch: &Dispatch<'_>, all: Front<'_>) -> Result<Target, AllocError>
+    ensures { IfOk result (λ t. t ≡ front_target (seen_program dispatch.now) all.entry) }
 {
     let mut found = plainly(Variable::Heap);
     let mut rest = Some(all);
     while let Some(front) = rest {
-        let (last, before) = front_end(laid, front)?;
+        let (last, before) = front_end(dispatch, front)?;
         found = last;
         rest = before;
     }
@@ -132,15 +132,15 @@ fn front_target(laid: &Laid<'_>, all: Front<'_>) -> Result<Target, AllocError>
 }
 
 /// The variable that a designator names, in whole or in part, and whether it does so through SELF.
-pub fn place_target(laid: &Laid<'_>, place: &TPlace) -> Result<Target, AllocError>
-    ensures { IfOk result (λ t. t ≡ target (seen_program laid.now) (seen_place place.now)) }
+pub fn place_target(dispatch: &Dispatch<'_>, place: &TPlace) -> Result<Target, AllocError>
+    ensures { IfOk result (λ t. t ≡ target (seen_program dispatch.now) (seen_place place.now)) }
 {
-    front_target(laid, Front::Place(place))
+    front_target(dispatch, Front::Place(place))
 }
 
 /// The same of an array.
-pub fn array_target(laid: &Laid<'_>, rows: &TRows) -> Result<Target, AllocError>
-    ensures { IfOk result (λ t. t ≡ rows_target (seen_program laid.now) (seen_rows rows.now)) }
+pub fn array_target(dispatch: &Dispatch<'_>, rows: &TRows) -> Result<Target, AllocError>
+    ensures { IfOk result (λ t. t ≡ rows_target (seen_program dispatch.now) (seen_rows rows.now)) }
 {
-    front_target(laid, Front::Rows(rows))
+    front_target(dispatch, Front::Rows(rows))
 }

@@ -1,12 +1,11 @@
--- The loop over definitions: the targets are those of the walk so far.
-use Rattle.std.proofs.Common.{◌≡◌, drop}
-use Rattle.aos_symbols.specs.Breaches.{first_after}
+-- The loop over definitions: what is left leads to the same as the whole.
+use Rattle.std.proofs.Common.{drop}
 use Rattle.aos_symbols.specs.Judged.{walk}
-use Rattle.aos_check_decl.specs.Aliases as judge
+use Rattle.aos_check_decl.specs.Aliases.{with_target}
+use Rattle.aos_check_decl.proofs.Telling.{Leads}
 use Rattle.aos_check_decl.proofs.aliases.add_targets.Given as goal
 
 abbrev pub invariant-loop-def : goal.invariant-loop-def
-invariant-loop-def l = record {
-  noted : first_after l.found (walk (judge.with_target l.env) l.targets.items (drop l.def-index l.defs)).breaches ≡ first_after l.initial.found (walk (judge.with_target l.env) l.initial.targets.items l.defs).breaches;
-  answer : (walk (judge.with_target l.env) l.targets.items (drop l.def-index l.defs)).answer ≡ (walk (judge.with_target l.env) l.initial.targets.items l.defs).answer;
-}
+invariant-loop-def l =
+    Leads (walk (with_target l.env) l.targets.items (drop l.def-index l.defs))
+    (walk (with_target l.env) l.initial.targets.items l.defs) l.found l.initial.found

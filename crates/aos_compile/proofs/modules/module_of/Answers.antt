@@ -1,5 +1,5 @@
 -- A module of the typed program, from its parts.
-use Rattle.std.proofs.Common.{◌≡◌, ℕ, slice_get, suc, length, Vec, Global, map, ap, ◌∙◌}
+use Rattle.std.proofs.Common.{ℕ, slice_get, suc, length, Vec, Global, map, ap, ◌∙◌}
 use Rattle.std.specs.List.{zip}
 use Rattle.aos_typed.specs.declared.tree.TStat.{TStat}
 use Rattle.aos_typed.specs.Seen.{seen_variable, seen_procedure, seen_stats, seen_body}
@@ -17,22 +17,17 @@ returns c =
     let spelled = judge.spelling e.here.text tree.name in
     let variables = map (judge.variable_of e.here.text) (zip (single_variables tree.decls) (judge.variables_of (slice_get e.here.scopes 0))) in
     let procs = judge.procedures_of e.here.text e.here.scopes (judge.first_scope tree) (procedures tree.decls) e.here.signatures bodies in
-    let name = c.in_ok-name.ensures ∙ ap (λ t. judge.spelling t tree.name) c.text.ensures in
-    let declared = c.in_ok-variables.ensures
-    ∙ ap (λ ds. map (judge.variable_of e.here.text) (zip (single_variables ds) (judge.variables_of (slice_get e.here.scopes 0)))) c.as_slice-decls.ensures in
-    let first : c.in_ok-first.first ≡ judge.first_scope tree =
-    c.in_ok-first.ensures ∙ ap suc (c.in_ok-count_types.ensures ∙ ap (λ ds. length (type_defs ds)) c.as_slice-decls.ensures) in
+    let parts = c.in_ok-name in
     let procedures = c.in_ok-procedures.ensures
-    ∙ ap (λ ds. judge.procedures_of e.here.text e.here.scopes c.in_ok-first.first (procedures ds) e.here.signatures bodies) c.as_slice-decls.ensures
-    ∙ ap (λ k. judge.procedures_of e.here.text e.here.scopes k (procedures tree.decls) e.here.signatures bodies) first in
+    ∙ ap (λ ds. judge.procedures_of e.here.text e.here.scopes (suc (length (type_defs ds))) (procedures ds) e.here.signatures bodies) c.as_slice.ensures in
     let body = seen_body c.is_exclusive_body.result c.args.body.items in
-    let exclusive = c.is_exclusive_body.ensures ∙ ap (λ t. judge.has_exclusive t tree.body) c.text-2.ensures in
+    let exclusive = c.is_exclusive_body.ensures ∙ ap (λ t. judge.has_exclusive t tree.body) c.text.ensures in
     let told = map seen_procedure c.in_ok-procedures.procedures.items in
-    let given = map (λ (t : Vec ℕ Global). t.items) c.in_ok-texts.texts.items in
+    let given = map (λ (t : Vec ℕ Global). t.items) parts.texts.items in
     let texts = texts_of e.here in
-    ap (λ n. record { name = n; variables = map seen_variable c.in_ok-variables.variables.items; texts = given; procedures = told; body = body }) name
-    ∙ ap (λ vs. record { name = spelled; variables = vs; texts = given; procedures = told; body = body }) declared
-    ∙ ap (λ ts. record { name = spelled; variables = variables; texts = ts; procedures = told; body = body }) c.in_ok-texts.ensures
+    ap (λ n. record { name = n; variables = map seen_variable parts.variables.items; texts = given; procedures = told; body = body }) parts.ensures.name
+    ∙ ap (λ vs. record { name = spelled; variables = vs; texts = given; procedures = told; body = body }) parts.ensures.variables
+    ∙ ap (λ ts. record { name = spelled; variables = variables; texts = ts; procedures = told; body = body }) parts.ensures.texts
     ∙ ap (λ ps. record { name = spelled; variables = variables; texts = texts; procedures = ps; body = body }) procedures
     ∙ ap (λ b. record { name = spelled; variables = variables; texts = texts; procedures = procs; body = seen_body b c.args.body.items }) exclusive
     ∙ ap (λ b. record { name = spelled; variables = variables; texts = texts; procedures = procs; body = judge.body_with e.here.text tree.body b }) (stats_listed c.args.body.items)

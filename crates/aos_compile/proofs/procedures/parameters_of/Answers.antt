@@ -9,7 +9,7 @@ use Rattle.aos_compile.proofs.procedures.parameters_of.Goals as goal
 pub loop-number-preserved : goal.loop-number-preserved
 loop-number-preserved c =
     let p = c.in_ok-parameter_of.field-0 in
-    pairs_step (judge.parameter_of c.args.text.now) (map seen_parameter c.loop-number.all.items) c.deref-name-items.result.now c.args.parameters.now c.loop-number.number c.loop-number.number (c.loop-number.number + 1) _ c.in-Some.parameter.now
+    pairs_step (judge.parameter_of c.args.text.now) (map seen_parameter c.loop-number.all.items) c.args.names.now c.args.parameters.now c.loop-number.number c.loop-number.number (c.loop-number.number + 1) _ c.in-Some.parameter.now
     (seen_parameter p) (map seen_parameter c.push.new.self.items) c.loop-number-test.true
     (drop_item c.args.parameters.now c.loop-number.number c.in-Some.parameter.now c.in-Some.ensures.lookup.3.0 c.in-Some.ensures.lookup.1)
     c.in_ok-parameter_of.ensures

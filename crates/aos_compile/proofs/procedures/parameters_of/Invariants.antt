@@ -2,11 +2,10 @@
 use Rattle.std.proofs.Common.{◌≡◌, ◌++◌, map, drop}
 use Rattle.std.specs.List.{zip}
 use Rattle.aos_typed.specs.Seen.{seen_parameter}
-use Rattle.aos_symbols.specs.Declarations.{formal_names}
 use Rattle.aos_compile.specs.Modules as judge
 use Rattle.aos_compile.proofs.procedures.parameters_of.Given as goal
 
 abbrev pub invariant-loop-number : goal.invariant-loop-number
 invariant-loop-number l =
-    map seen_parameter l.all.items ++ map (judge.parameter_of l.text) (zip (drop l.number l.name-items) (drop l.number l.parameters))
-    ≡ map (judge.parameter_of l.text) (zip (formal_names l.formals) l.parameters)
+    map seen_parameter l.all.items ++ map (judge.parameter_of l.text) (zip (drop l.number l.names) (drop l.number l.parameters))
+    ≡ map (judge.parameter_of l.text) (zip l.names l.parameters)

@@ -2,8 +2,8 @@ use Rattle.std.proofs.Common.{◌<◌, ◌≤◌, All, length, sym, ap, ◌∙�
 use Rattle.aos_typed.specs.declared.tree.Program.{Program as TProgram}
 use Rattle.aos_typed.specs.Seen.{seen_program}
 use Rattle.aos_layout.proofs.Frames.{there_at}
-use Rattle.aos_laid.specs.Routines.{IsTyped, seen_routine, seen_routines}
-use Rattle.aos_laid.proofs.Listed.{routines_typed}
+use Rattle.aos_dispatch.specs.Routines.{IsTyped, seen_routine, seen_routines}
+use Rattle.aos_dispatch.proofs.Listed.{routines_typed}
 use Rattle.aos_sim.specs.Code.{body_code}
 use Rattle.aos_emit.proofs.Matching.{body_more, bodies_all}
 use Rattle.aos_emit.proofs.bodies.bodies_of.Goals as goal

@@ -1,6 +1,6 @@
 use Rattle.std.proofs.Common.{take}
 use Rattle.aos_typed.specs.Seen.{seen_program}
-use Rattle.aos_laid.specs.Routines.{seen_routines}
+use Rattle.aos_dispatch.specs.Routines.{seen_routines}
 use Rattle.aos_emit.proofs.Matching.{AreBodies}
 use Rattle.aos_emit.proofs.bodies.bodies_of.Given as goal
 

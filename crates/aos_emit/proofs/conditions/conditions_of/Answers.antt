@@ -3,8 +3,8 @@ use Rattle.aos_typed.specs.Conditions.{conditions, conditions_of}
 use Rattle.aos_typed.specs.declared.tree.Program.{Program as TProgram}
 use Rattle.aos_typed.specs.Seen.{seen_program}
 use Rattle.aos_layout.proofs.Frames.{there_at}
-use Rattle.aos_laid.specs.Routines.{IsTyped, seen_routine, seen_routines}
-use Rattle.aos_laid.proofs.Listed.{routines_typed}
+use Rattle.aos_dispatch.specs.Routines.{IsTyped, seen_routine, seen_routines}
+use Rattle.aos_dispatch.proofs.Listed.{routines_typed}
 use Rattle.aos_emit.specs.Conditions.{of_body, of_condition}
 use Rattle.aos_emit.proofs.Awaited.{of_routines, routines_first, routines_next, routines_last, codes_are, depths_are}
 use Rattle.aos_emit.proofs.conditions.conditions_of.Goals as goal

@@ -1,7 +1,7 @@
 use Rattle.std.proofs.Common.{◌<◌, length, map, ap, ◌∙◌, arith}
 use Rattle.aos_typed.specs.Seen.{seen_program}
-use Rattle.aos_laid.specs.Awaits.{seen_await}
-use Rattle.aos_laid.specs.Routines.{seen_routine}
+use Rattle.aos_dispatch.specs.Awaits.{seen_await}
+use Rattle.aos_dispatch.specs.Routines.{seen_routine}
 use Rattle.aos_emit.proofs.Awaited.{awaits_first, awaits_next, awaits_last}
 use Rattle.aos_emit.proofs.conditions.put_conditions.Goals as goal
 

@@ -2,7 +2,7 @@
 use Rattle.std.proofs.Common.{◌≡◌, ◌++◌, drop, map}
 use Rattle.aos_typed.specs.Conditions.{conditions_of}
 use Rattle.aos_typed.specs.Seen.{seen_program}
-use Rattle.aos_laid.specs.Routines.{seen_routine}
+use Rattle.aos_dispatch.specs.Routines.{seen_routine}
 use Rattle.aos_emit.specs.Conditions.{of_body, of_condition}
 use Rattle.aos_emit.proofs.Awaited.{of_awaits}
 use Rattle.aos_emit.proofs.conditions.put_conditions.Given as goal

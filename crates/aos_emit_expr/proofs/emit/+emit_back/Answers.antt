@@ -1,30 +1,28 @@
-use Rattle.std.proofs.Common.{◌≡◌, ◌<◌, ◌≤◌, ◌+◌, ◌-◌, ◌++◌, [], ◌∷◌, length, sym, ap, ◌∙◌, arith, rules}
-use Rattle.std.proofs.lemmas.Result.{IfOk-weaker}
-use Rattle.aos_typed.specs.Seen.{seen_list, seen_callee, seen_expr}
-use Rattle.aos_typed.proofs.Seen.{function_seen}
-use Rattle.aos_sim.specs.Code.{call_instr}
+use Rattle.std.proofs.Common.{◌≡◌, ◌<◌, ◌≤◌, ◌+◌, ◌-◌, length, suc, sym, ap, ◌∙◌, arith}
 use Rattle.aos_emit_expr.specs.Scope.{program_of, own_of}
-use Rattle.aos_emit_expr.specs.Back.{back_arguments, back_receiver, back_code}
-use Rattle.aos_emit_expr.proofs.Sizes.{call_within}
+use Rattle.aos_emit_expr.specs.Back.{first_of, back_first, back_source}
+use Rattle.aos_emit_expr.specs.Sizes.{source_size, first_size}
 use Rattle.aos_emit_expr.proofs.Turned.{argument_more}
 use Rattle.aos_emit_expr.proofs.emit.+emit_back.Goals as goal
 
-pub emit_value_end-emit_call_end-requires : goal.emit_value_end-emit_call_end-requires
-emit_value_end-emit_call_end-requires t c =
-    let x = c.in-Function in
-    let less = call_within _ _ _ _ (ap seen_expr x.is ∙ function_seen x.callee x.arguments) c.deref.ensures.value in
-    search (rules, less)
-
-pub emit_value_end-returns-in-Function-clause-code : goal.emit_value_end-returns-in-Function-clause-code
-emit_value_end-returns-in-Function-clause-code t c =
-    let x = c.in-Function in
+pub emit_back-loop-rest-preserved : goal.emit_back-loop-rest-preserved
+emit_back-loop-rest-preserved t c =
     let p = program_of c.args.scope.now in
     let own = own_of c.args.scope.now in
-    let code = c.args.code.now.items in
-    let callee = seen_callee x.callee in
-    IfOk-weaker c.emit_call_end.result _ _ (λ rest e. e
-    ∙ ap (λ l. back_receiver p own callee (back_arguments p own (seen_list l) (code ++ call_instr p callee ∷ []))) c.deref.ensures.value
-    ∙ sym (ap (λ v. back_code p own v code) (ap seen_expr x.is ∙ function_seen x.callee x.arguments))) c.emit_call_end.ensures.code
+    let code = c.loop-rest.code.items in
+    let new = c.emit_last.new.code.items in
+    let form = c.in_ok-form.form in
+    let rest = c.first_of-rest.result in
+    let put : back_first p own (first_of form) new ≡ back_source p own c.in-Some.source code = ap (back_first p own (first_of form)) c.in_ok-emit_last.ensures ∙ c.in_ok-form.ensures.code code in
+    let all : back_first p own rest new ≡ back_source p own c.args.all c.args.code.now.items = ap (λ r. back_first p own r new) c.first_of-rest.ensures.is ∙ put ∙ ap (λ r. back_first p own r code) (sym c.in-Some.is) ∙ c.loop-rest.invariant.0 in
+    let falls : first_size c.loop-rest.rest ≡ suc (source_size c.in-Some.source) = ap first_size c.in-Some.is in
+    let less : first_size rest ≤ suc (source_size c.args.all) = omega (arith, falls, c.first_of-rest.ensures.less, c.in_ok-form.ensures.size, c.loop-rest.invariant.1) in
+    (all, less)
+
+pub emit_back-loop-rest-smaller : goal.emit_back-loop-rest-smaller
+emit_back-loop-rest-smaller t c =
+    let falls : first_size c.loop-rest.rest ≡ suc (source_size c.in-Some.source) = ap first_size c.in-Some.is in
+    omega (arith, falls, c.first_of-rest.ensures.less, c.in_ok-form.ensures.size)
 
 pub emit_arguments_back-loop-left-preserved : goal.emit_arguments_back-loop-left-preserved
 emit_arguments_back-loop-left-preserved t c =

@@ -6,6 +6,9 @@ use Rattle.aos_emit_stat.proofs.objects.emit_new.Goals as goal
 
 pub returns : goal.returns
 returns c =
+    let s = c.args.scope.now in
+    let place = seen_place c.args.place.now in
+    let handed = seen_list c.args.arguments.now in
     on_ok_weaker c.put_made.result
-    (object_new (program_of c.args.scope.now) (own_of c.args.scope.now) c.args.at (seen_place c.args.place.now) c.args.object (seen_list c.args.arguments.now) c.args.level c.args.code.now.items _ _ _ _
-    c.in_ok-emit_begin.ensures c.in_ok-emit_place.ensures c.in_ok-emit_arguments.ensures) c.put_made.ensures
+    (object_new (program_of s) (own_of s) c.args.at place c.args.object handed c.args.level c.args.code.now.items c.emit_begin.new.code.items c.emit_front.new.code.items c.emit_source.new.code.items c.put_made.new.code.items
+    c.in_ok-emit_begin.ensures c.in_ok-emit_front.ensures c.in_ok-emit_source.ensures) c.put_made.ensures

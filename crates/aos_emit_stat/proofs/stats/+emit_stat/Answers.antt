@@ -12,13 +12,14 @@ use Rattle.aos_typed.specs.declared.tree.TCase.{out-TCase}
 use Rattle.aos_typed.specs.Seen.{seen_place, seen_expr, seen_stat, seen_stats, seen_else, arms_of, cases_of}
 use Rattle.aos_typed.proofs.Seen.{if_seen, case_seen, while_seen, repeat_seen, loop_seen, for_seen, block_seen, with_seen, with_record_seen}
 use Rattle.aos_sim.specs.Search.{arms_in, in_order, search_of, search_size, search_code}
-use Rattle.aos_sim.specs.Code.{Ways, loop_ways, block_ways, block_at, block_code, begin, place_code, value_code, arm_code, step_code, for_head, rounds_code, stats_code, arms_code, cases_code, arm_place}
+use Rattle.aos_sim.specs.Code.{Ways, loop_ways, block_ways, block_at, block_code, begin, value_code, arm_code, step_code, for_head, rounds_code, stats_code, arms_code, cases_code, arm_place}
 use Rattle.aos_sim.proofs.Sizes.{stats_length, arms_length}
+use Rattle.aos_emit_expr.specs.Adds.{front_code}
 use Rattle.aos_emit_expr.specs.Scope.{Inside, program_of, own_of, in_region}
 use Rattle.aos_emit_stat.specs.Ways.{within_of, left_to, pending}
 use Rattle.aos_emit_stat.specs.Places.{places_from, place_in, led}
 use Rattle.aos_emit_expr.specs.Pending.{pending_exit, pending_end}
-use Rattle.aos_laid.proofs.Heights.{within, arms_within, cases_within}
+use Rattle.aos_dispatch.proofs.Heights.{within, arms_within, cases_within}
 use Rattle.aos_emit_stat.proofs.Patch.{followed, guarded, choice_more, place_more, patched, ended, round_is, emitted}
 use Rattle.aos_emit_stat.proofs.Pending.{exit_known, arms_known}
 use Rattle.aos_emit_stat.proofs.Ways.{loop_left}
@@ -55,8 +56,8 @@ emit_stat-emit_loop-requires t c =
     let less = within _ _ _ _ (ap seen_stat x.is ∙ loop_seen x.at x.body) refl c.deref-in-Loop.ensures.value in
     search (rules, less)
 
-pub emit_stat-emit_rounds-requires : goal.emit_stat-emit_rounds-requires
-emit_stat-emit_rounds-requires t c =
+pub emit_stat-emit_for-requires : goal.emit_stat-emit_for-requires
+emit_stat-emit_for-requires t c =
     let x = c.in-For in
     let less = within _ _ _ _ (ap seen_stat x.is ∙ for_seen x.at x.of x.variable x.from x.to x.step x.body) refl c.deref-in-For.ensures.value in
     search (rules, less)
@@ -67,14 +68,14 @@ emit_stat-emit_block-requires t c =
     let less = within _ _ _ _ (ap seen_stat x.is ∙ block_seen x.at x.exclusive x.body) refl c.deref-in-Block.ensures.value in
     search (rules, less)
 
-pub emit_stat-emit_with-requires : goal.emit_stat-emit_with-requires
-emit_stat-emit_with-requires t c =
+pub emit_stat-emit_guarded-requires : goal.emit_stat-emit_guarded-requires
+emit_stat-emit_guarded-requires t c =
     let x = c.in-With in
     let less = within _ _ _ _ (ap seen_stat x.is ∙ with_seen x.at x.object x.body) refl c.deref-in-With.ensures.value in
     search (rules, less)
 
-pub emit_stat-emit_with_record-requires : goal.emit_stat-emit_with_record-requires
-emit_stat-emit_with_record-requires t c =
+pub emit_stat-emit_guarded-requires-in-WithRecord : goal.emit_stat-emit_guarded-requires-in-WithRecord
+emit_stat-emit_guarded-requires-in-WithRecord t c =
     let x = c.in-WithRecord in
     let less = within _ _ _ _ (ap seen_stat x.is ∙ with_record_seen x.at x.place x.body) refl c.deref-in-WithRecord.ensures.value in
     search (rules, less)
@@ -82,59 +83,77 @@ emit_stat-emit_with_record-requires t c =
 pub emit_stat-returns-in-If : goal.emit_stat-returns-in-If
 emit_stat-returns-in-If t c =
     let x = c.in-If in
-    on_ok_weaker c.emit_if.result (emitted (program_of c.args.scope.now) (own_of c.args.scope.now) (pending c.args.scope.now) c.args.code.now.items _ c.args.level _ _ _ (λ i. If x.at (arms_of (c.deref.ensures.value i) (seen_stats (c.deref-in-If.ensures.value i)))) (ap seen_stat x.is ∙ if_seen x.at x.arms x.body)) c.emit_if.ensures
+    on_ok_weaker c.emit_if.result
+    (emitted c.args.scope.now c.args.code.now.items c.emit_if.new.code.items c.args.level c.args.statement.now _ _ (λ i. If x.at (arms_of (c.deref.ensures.value i) (seen_stats (c.deref-in-If.ensures.value i)))) (ap seen_stat x.is ∙ if_seen x.at x.arms x.body)) c.emit_if.ensures
 
 pub emit_stat-returns-in-Case : goal.emit_stat-returns-in-Case
 emit_stat-returns-in-Case t c =
     let x = c.in-Case in
-    on_ok_weaker c.emit_case.result (emitted (program_of c.args.scope.now) (own_of c.args.scope.now) (pending c.args.scope.now) c.args.code.now.items _ c.args.level _ _ _ (ap (λ l. Case x.at (seen_expr x.value) (cases_of l (seen_else x.otherwise))) c.deref-in-Case.ensures.value) (ap seen_stat x.is ∙ case_seen x.at x.value x.cases x.otherwise)) c.emit_case.ensures
+    let same = ap (λ l. Case x.at (seen_expr x.value) (cases_of l (seen_else x.otherwise))) c.deref-in-Case.ensures.value in
+    on_ok_weaker c.emit_case.result
+    (emitted c.args.scope.now c.args.code.now.items c.emit_case.new.code.items c.args.level c.args.statement.now _ _ same (ap seen_stat x.is ∙ case_seen x.at x.value x.cases x.otherwise)) c.emit_case.ensures
 
 pub emit_stat-returns-in-While : goal.emit_stat-returns-in-While
 emit_stat-returns-in-While t c =
     let x = c.in-While in
-    on_ok_weaker c.emit_while.result (emitted (program_of c.args.scope.now) (own_of c.args.scope.now) (pending c.args.scope.now) c.args.code.now.items _ c.args.level _ _ _ (ap (λ l. While x.at (seen_expr x.test) (seen_stats l)) c.deref-in-While.ensures.value) (ap seen_stat x.is ∙ while_seen x.at x.test x.body)) c.emit_while.ensures
+    let same = ap (λ l. While x.at (seen_expr x.test) (seen_stats l)) c.deref-in-While.ensures.value in
+    on_ok_weaker c.emit_while.result
+    (emitted c.args.scope.now c.args.code.now.items c.emit_while.new.code.items c.args.level c.args.statement.now _ _ same (ap seen_stat x.is ∙ while_seen x.at x.test x.body)) c.emit_while.ensures
 
 pub emit_stat-returns-in-Repeat : goal.emit_stat-returns-in-Repeat
 emit_stat-returns-in-Repeat t c =
     let x = c.in-Repeat in
-    on_ok_weaker c.emit_repeat.result (emitted (program_of c.args.scope.now) (own_of c.args.scope.now) (pending c.args.scope.now) c.args.code.now.items _ c.args.level _ _ _ (ap (λ l. Repeat x.at (seen_stats l) (seen_expr x.test)) c.deref-in-Repeat.ensures.value) (ap seen_stat x.is ∙ repeat_seen x.at x.body x.test)) c.emit_repeat.ensures
+    let same = ap (λ l. Repeat x.at (seen_stats l) (seen_expr x.test)) c.deref-in-Repeat.ensures.value in
+    on_ok_weaker c.emit_repeat.result
+    (emitted c.args.scope.now c.args.code.now.items c.emit_repeat.new.code.items c.args.level c.args.statement.now _ _ same (ap seen_stat x.is ∙ repeat_seen x.at x.body x.test)) c.emit_repeat.ensures
 
 pub emit_stat-returns-in-Loop : goal.emit_stat-returns-in-Loop
 emit_stat-returns-in-Loop t c =
     let x = c.in-Loop in
-    on_ok_weaker c.emit_loop.result (emitted (program_of c.args.scope.now) (own_of c.args.scope.now) (pending c.args.scope.now) c.args.code.now.items _ c.args.level _ _ _ (ap (λ l. Loop x.at (seen_stats l)) c.deref-in-Loop.ensures.value) (ap seen_stat x.is ∙ loop_seen x.at x.body)) c.emit_loop.ensures
+    let same = ap (λ l. Loop x.at (seen_stats l)) c.deref-in-Loop.ensures.value in
+    on_ok_weaker c.emit_loop.result
+    (emitted c.args.scope.now c.args.code.now.items c.emit_loop.new.code.items c.args.level c.args.statement.now _ _ same (ap seen_stat x.is ∙ loop_seen x.at x.body)) c.emit_loop.ensures
+
+pub emit_stat-returns-in-For : goal.emit_stat-returns-in-For
+emit_stat-returns-in-For t c =
+    let x = c.in-For in
+    let same = ap (λ l. For x.at x.of (seen_place x.variable) (seen_expr x.from) (seen_expr x.to) x.step (seen_stats l)) c.deref-in-For.ensures.value in
+    on_ok_weaker c.emit_for.result
+    (emitted c.args.scope.now c.args.code.now.items c.emit_for.new.code.items c.args.level c.args.statement.now _ _ same (ap seen_stat x.is ∙ for_seen x.at x.of x.variable x.from x.to x.step x.body)) c.emit_for.ensures
 
 pub emit_stat-returns-in-Block : goal.emit_stat-returns-in-Block
 emit_stat-returns-in-Block t c =
     let x = c.in-Block in
-    on_ok_weaker c.emit_block.result (emitted (program_of c.args.scope.now) (own_of c.args.scope.now) (pending c.args.scope.now) c.args.code.now.items _ c.args.level _ _ _ (ap (λ l. Block x.at x.exclusive (seen_stats l)) c.deref-in-Block.ensures.value) (ap seen_stat x.is ∙ block_seen x.at x.exclusive x.body)) c.emit_block.ensures
+    let same = ap (λ l. Block x.at x.exclusive (seen_stats l)) c.deref-in-Block.ensures.value in
+    on_ok_weaker c.emit_block.result
+    (emitted c.args.scope.now c.args.code.now.items c.emit_block.new.code.items c.args.level c.args.statement.now _ _ same (ap seen_stat x.is ∙ block_seen x.at x.exclusive x.body)) c.emit_block.ensures
 
 pub emit_stat-returns-in-With : goal.emit_stat-returns-in-With
 emit_stat-returns-in-With t c =
     let x = c.in-With in
-    on_ok_weaker c.emit_with.result (emitted (program_of c.args.scope.now) (own_of c.args.scope.now) (pending c.args.scope.now) c.args.code.now.items _ c.args.level _ _ _ (ap (λ l. With x.at (seen_expr x.object) (seen_stats l)) c.deref-in-With.ensures.value) (ap seen_stat x.is ∙ with_seen x.at x.object x.body)) c.emit_with.ensures
+    let same = ap (λ l. With x.at (seen_expr x.object) (seen_stats l)) c.deref-in-With.ensures.value in
+    on_ok_weaker c.emit_guarded.result
+    (emitted c.args.scope.now c.args.code.now.items c.emit_guarded.new.code.items c.args.level c.args.statement.now _ _ same (ap seen_stat x.is ∙ with_seen x.at x.object x.body)) c.emit_guarded.ensures
 
 pub emit_stat-returns-in-WithRecord : goal.emit_stat-returns-in-WithRecord
 emit_stat-returns-in-WithRecord t c =
     let x = c.in-WithRecord in
-    on_ok_weaker c.emit_with_record.result (emitted (program_of c.args.scope.now) (own_of c.args.scope.now) (pending c.args.scope.now) c.args.code.now.items _ c.args.level _ _ _ (ap (λ l. WithRecord x.at (seen_place x.place) (seen_stats l)) c.deref-in-WithRecord.ensures.value) (ap seen_stat x.is ∙ with_record_seen x.at x.place x.body)) c.emit_with_record.ensures
+    let same = ap (λ l. WithRecord x.at (seen_place x.place) (seen_stats l)) c.deref-in-WithRecord.ensures.value in
+    on_ok_weaker c.emit_guarded-in-WithRecord.result
+    (emitted c.args.scope.now c.args.code.now.items c.emit_guarded-in-WithRecord.new.code.items c.args.level c.args.statement.now _ _ same (ap seen_stat x.is ∙ with_record_seen x.at x.place x.body)) c.emit_guarded-in-WithRecord.ensures
 
-pub emit_stat-returns-in_ok-emit_head-in-For : goal.emit_stat-returns-in_ok-emit_head-in-For
-emit_stat-returns-in_ok-emit_head-in-For t c =
-    let x = c.in-For in
+pub emit_for-returns : goal.emit_for-returns
+emit_for-returns t c =
     let p = program_of c.args.scope.now in
     let own = own_of c.args.scope.now in
     let base = c.args.code.now.items in
+    let here = c.args.at in
+    let w = c.args.width in
+    let q = seen_place c.args.variable.now in
     let d = c.args.level in
-    let q = seen_place x.variable in
-    let ss = seen_stats c.deref-in-For.result.now in
-    let head = for_head p own x.at x.of q (seen_expr x.from) (seen_expr x.to) (length base) d in
-    let rounds : ℕ → List Instr = λ n. rounds_code p own x.at x.of q x.step ss n (pending c.args.scope.now) d in
-    let first : c.emit_head.new.code.items ≡ base ++ head = c.in_ok-emit_head-in-For.ensures in
-    let whole = ap (λ l. For x.at x.of q (seen_expr x.from) (seen_expr x.to) x.step (seen_stats l)) c.deref-in-For.ensures.value in
-    let seen = ap seen_stat x.is ∙ for_seen x.at x.of x.variable x.from x.to x.step x.body in
-    let joined : c.emit_rounds.new.code.items ≡ c.emit_head.new.code.items ++ rounds (length c.emit_head.new.code.items) → c.emit_rounds.new.code.items ≡ base ++ (head ++ rounds (length base + length head)) = followed base c.emit_head.new.code.items c.emit_rounds.new.code.items head rounds first in
-    on_ok_weaker c.emit_rounds.result (λ e. emitted p own (pending c.args.scope.now) base c.emit_rounds.new.code.items d c.args.statement.now (For x.at x.of q (seen_expr x.from) (seen_expr x.to) x.step ss) _ whole seen (joined e)) c.emit_rounds.ensures
+    let head = for_head p own here w q (seen_expr c.args.from.now) (seen_expr c.args.to.now) (length base) d in
+    let rounds : ℕ → List Instr = λ n. rounds_code p own here w q c.args.step.now (seen_stats c.args.body.now) n (pending c.args.scope.now) d in
+    on_ok_weaker c.emit_rounds.result (followed base c.emit_head.new.code.items c.emit_rounds.new.code.items head rounds c.in_ok-emit_head.ensures) c.emit_rounds.ensures
 
 pub emit_arm-returns : goal.emit_arm-returns
 emit_arm-returns t c =
@@ -142,7 +161,7 @@ emit_arm-returns t c =
     let own = own_of c.args.scope.now in
     let base = c.args.code.now.items in
     let d = c.args.level in
-    patched base (value_code p own (seen_expr c.args.test.now) (length base)) (λ n. stats_code p own (seen_stats c.args.body.now) n (pending c.args.scope.now) d) _ _ _ _ _ _ (λ n. i.JumpFalse n) _ _ c.in_ok-emit_value.ensures (c.len-test_end.ensures ∙ c.emit_value.new.code.ok.0) c.in_ok-put.ensures c.in_ok-emit_stats.ensures c.in_ok-put-2.ensures (c.in_ok-end.ensures.is ∙ ap length c.deref.ensures.value)
+    patched base (value_code p own (seen_expr c.args.test.now) (length base)) (λ n. stats_code p own (seen_stats c.args.body.now) n (pending c.args.scope.now) d) _ _ _ _ _ _ (λ n. i.JumpFalse n) _ _ c.in_ok-emit_front.ensures (c.len-test_end.ensures ∙ c.emit_front.new.code.ok.0) c.in_ok-put.ensures c.in_ok-emit_stats.ensures c.in_ok-put-2.ensures (c.in_ok-end.ensures.is ∙ ap length c.deref.ensures.value)
 
 pub emit_while-returns : goal.emit_while-returns
 emit_while-returns t c =
@@ -197,21 +216,13 @@ emit_block-returns-else-exclusive t c =
     ∙ ap (λ b. base ++ (here ∷ block b (length base + 1))) (sym c.if-exclusive.false) in
     on_ok_weaker c.emit_stats.result turned c.emit_stats.ensures
 
-pub emit_with-returns : goal.emit_with-returns
-emit_with-returns t c =
+pub emit_guarded-returns : goal.emit_guarded-returns
+emit_guarded-returns t c =
     let base = c.args.code.now.items in
     let p = program_of c.args.scope.now in
     let own = own_of c.args.scope.now in
-    let guard = value_code p own (seen_expr c.args.object.now) (length base + 1) in
-    on_ok_weaker c.emit_stats.result (guarded base _ _ (begin c.args.at) guard i.Drop (λ n. stats_code p own (seen_stats c.args.body.now) n (pending c.args.scope.now) c.args.level) c.in_ok-emit_object.ensures) c.emit_stats.ensures
-
-pub emit_with_record-returns : goal.emit_with_record-returns
-emit_with_record-returns t c =
-    let base = c.args.code.now.items in
-    let p = program_of c.args.scope.now in
-    let own = own_of c.args.scope.now in
-    let guard = place_code p own (seen_place c.args.place.now) (length base + 1) in
-    on_ok_weaker c.emit_stats.result (guarded base _ _ (begin c.args.at) guard i.Drop (λ n. stats_code p own (seen_stats c.args.body.now) n (pending c.args.scope.now) c.args.level) c.in_ok-emit_record.ensures) c.emit_stats.ensures
+    let first = front_code p own c.args.guarded (length base + 1) in
+    on_ok_weaker c.emit_stats.result (guarded base c.emit_one.new.code.items c.emit_stats.new.code.items (begin c.args.at) first i.Drop (λ n. stats_code p own (seen_stats c.args.body.now) n (pending c.args.scope.now) c.args.level) c.in_ok-emit_one.ensures) c.emit_stats.ensures
 
 pub emit_repeat-returns : goal.emit_repeat-returns
 emit_repeat-returns t c =
@@ -223,11 +234,11 @@ emit_repeat-returns t c =
     let b = stats_code p own (seen_stats c.args.body.now) (length base + 1) (pending c.args.scope.now) c.args.level in
     let test : ℕ → List Instr = λ n. value_code p own (seen_expr c.args.condition.now) n in
     let e2 = followed base c.emit_begin.new.code.items c.emit_stats.new.code.items (here ∷ []) (λ n. stats_code p own (seen_stats c.args.body.now) n (pending c.args.scope.now) c.args.level) c.in_ok-emit_begin.ensures c.in_ok-emit_stats.ensures in
-    let e3 = followed base c.emit_stats.new.code.items c.emit_value.new.code.items (here ∷ b) test e2 c.in_ok-emit_value.ensures in
+    let e3 = followed base c.emit_stats.new.code.items c.emit_front.new.code.items (here ∷ b) test e2 c.in_ok-emit_front.ensures in
     let n : length base + suc (length b) ≡ length base + 1 + length b = omega arith in
     let there : start ≡ length base = c.in_ok-start.ensures.is ∙ ap length c.deref.ensures.value in
     let last = length base + 1 + length b in
-    let turned : c.put.new.code.items ≡ c.emit_value.new.code.items ++ i.JumpFalse start ∷ [] → c.put.new.code.items ≡ base ++ (here ∷ (b ++ (test last ++ i.JumpFalse (length base) ∷ []))) = λ e. e ∙ ap (λ l. l ++ i.JumpFalse start ∷ []) e3
+    let turned : c.put.new.code.items ≡ c.emit_front.new.code.items ++ i.JumpFalse start ∷ [] → c.put.new.code.items ≡ base ++ (here ∷ (b ++ (test last ++ i.JumpFalse (length base) ∷ []))) = λ e. e ∙ ap (λ l. l ++ i.JumpFalse start ∷ []) e3
     ∙ append_assoc base (here ∷ (b ++ test (length base + suc (length b)))) (i.JumpFalse start ∷ [])
     ∙ ap (λ l. base ++ (here ∷ l)) (append_assoc b (test (length base + suc (length b))) (i.JumpFalse start ∷ []))
     ∙ ap (λ m. base ++ (here ∷ (b ++ (test m ++ i.JumpFalse start ∷ [])))) n
@@ -244,7 +255,7 @@ emit_left-returns t c =
     let d = c.args.level in
     let at = length base in
     let body : ℕ → List Instr = λ n. stats_code p own ss at (left_to c.args.scope.now n) d in
-    let code = c.in_ok-emit_stats.ensures in
+    let code : c.emit_stats.new.code.items ≡ base ++ body pending_exit = c.in_ok-emit_stats.ensures in
     let long = ap length code ∙ length-append base (body pending_exit) in
     let same = stats_length p own ss at u pending_exit 0 d in
     let len = c.len.ensures ∙ c.emit_stats.new.code.ok.0 in
@@ -307,7 +318,7 @@ emit_if-returns t c =
     let d = c.args.level in
     let c1 = c.emit_begin.new.code.items in
     let at = length c1 in
-    let code = c.in_ok-emit_arms.ensures in
+    let code : c.emit_arms.new.code.items ≡ c1 ++ arms_code p own all at pending_end (pending c.args.scope.now) d = c.in_ok-emit_arms.ensures in
     let long = ap length code ∙ length-append c1 (arms_code p own all at pending_end (pending c.args.scope.now) d) in
     let same = arms_length p own all at pending_end 0 (within_of c.args.scope.now) pending_exit pending_exit d in
     let len = ap length c.deref.ensures.value in
@@ -349,8 +360,8 @@ emit_case-returns t c =
     let d = c.args.level in
     let here = begin c.args.at in
     let v = value_code p own (seen_expr c.args.selector.now) (length base + 1) in
-    let e2 = followed base c.emit_begin.new.code.items c.emit_value.new.code.items (here ∷ []) (λ n. value_code p own (seen_expr c.args.selector.now) n) c.in_ok-emit_begin.ensures c.in_ok-emit_value.ensures in
-    let e3 = followed base c.emit_value.new.code.items c.put.new.code.items (here ∷ v) (λ n. i.Keep d N ∷ []) e2 c.in_ok-put.ensures in
+    let e2 = followed base c.emit_begin.new.code.items c.emit_front.new.code.items (here ∷ []) (λ n. value_code p own (seen_expr c.args.selector.now) n) c.in_ok-emit_begin.ensures c.in_ok-emit_front.ensures in
+    let e3 = followed base c.emit_front.new.code.items c.put.new.code.items (here ∷ v) (λ n. i.Keep d N ∷ []) e2 c.in_ok-put.ensures in
     let arms : ℕ → List Instr = λ n. cases_code p own all n (n + length (cases_code p own all n 0 (pending c.args.scope.now) d)) (pending c.args.scope.now) d in
     let search : ℕ → List Instr = λ n. (let first = n + search_size (search_of all) in search_code (arm_place p own all first (pending c.args.scope.now) d) (arms_in all) (search_of all) d n ++ arms first) in
     let front = here ∷ (v ++ i.Keep d N ∷ []) in

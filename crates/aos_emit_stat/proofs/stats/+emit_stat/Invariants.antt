@@ -5,7 +5,7 @@ use Rattle.aos_emit_expr.specs.Scope.{program_of, own_of}
 use Rattle.aos_emit_stat.specs.Ways.{pending}
 use Rattle.aos_emit_stat.specs.Places.{places_from}
 use Rattle.aos_emit_expr.specs.Pending.{pending_end}
-use Rattle.aos_laid.proofs.Heights.{height, heights, arms_height, cases_height}
+use Rattle.aos_dispatch.proofs.Heights.{height, heights, arms_height, cases_height}
 use Rattle.aos_emit_stat.proofs.stats.+emit_stat.Given as goal
 
 -- the code so far and that of the rest is that of all
@@ -39,11 +39,8 @@ decreases-emit_region l = 5 * heights (seen_stats l.body.now) + 2
 abbrev pub decreases-emit_block : goal.decreases-emit_block
 decreases-emit_block l = 5 * heights (seen_stats l.body.now) + 3
 
-abbrev pub decreases-emit_with : goal.decreases-emit_with
-decreases-emit_with l = 5 * heights (seen_stats l.body.now) + 2
-
-abbrev pub decreases-emit_with_record : goal.decreases-emit_with_record
-decreases-emit_with_record l = 5 * heights (seen_stats l.body.now) + 2
+abbrev pub decreases-emit_guarded : goal.decreases-emit_guarded
+decreases-emit_guarded l = 5 * heights (seen_stats l.body.now) + 2
 
 abbrev pub decreases-emit_repeat : goal.decreases-emit_repeat
 decreases-emit_repeat l = 5 * heights (seen_stats l.body.now) + 2
@@ -56,6 +53,9 @@ decreases-emit_loop l = 5 * heights (seen_stats l.body.now) + 3
 
 abbrev pub decreases-emit_rounds : goal.decreases-emit_rounds
 decreases-emit_rounds l = 5 * heights (seen_stats l.body.now) + 2
+
+abbrev pub decreases-emit_for : goal.decreases-emit_for
+decreases-emit_for l = 5 * heights (seen_stats l.body.now) + 3
 
 abbrev pub decreases-emit_arms : goal.decreases-emit_arms
 decreases-emit_arms l = 5 * arms_height (arms_of l.arms.now (seen_stats l.otherwise.now)) + 3

@@ -6,7 +6,7 @@ use Rattle.aos_guard.proofs.conditions.all_told.Goals as goal
 
 pub loop-routine-preserved : goal.loop-routine-preserved
 loop-routine-preserved c =
-    let p = seen_program c.args.laid.now in
+    let p = seen_program c.args.dispatch.now in
     let told = c.loop-routine.all.items in
     let here = c.in_ok-here.here.items in
     let are = subst (λ r. AreTold p (found_of r) here) c.routine-item.is c.in_ok-here.ensures in
@@ -16,5 +16,5 @@ loop-routine-preserved c =
 
 pub returns : goal.returns
 returns c =
-    all_last (seen_program c.args.laid.now) c.routines-routines.result.now c.loop-routine.routine-index c.loop-routine.all.items
+    all_last (seen_program c.args.dispatch.now) c.routines-routines.result.now c.loop-routine.routine-index c.loop-routine.all.items
     (omega (arith, c.loop-routine-test.false)) c.loop-routine.invariant

@@ -9,7 +9,7 @@ pub returns-clause-each : goal.returns-clause-each
 returns-clause-each c =
     record {
       told = c.in_ok-all.all.items;
-      are = subst (λ p. AreTold (seen_program p) (conditions (seen_program p)) c.in_ok-all.all.items) c.in_ok-laid.ensures.laid c.in_ok-all.ensures;
+      are = subst (λ p. AreTold (seen_program p) (conditions (seen_program p)) c.in_ok-all.all.items) c.in_ok-dispatch.ensures c.in_ok-all.ensures;
       once = c.in_ok-sort_by_key.ensures.permutation;
     }
 

@@ -1,13 +1,13 @@
 use Rattle.std.proofs.Common.{◌≡◌, ◌↔◌, suc, true, false, IsTrue, subst, rules, arith}
 use Rattle.aos_typed.specs.Seen.{seen_program}
-use Rattle.aos_laid.specs.Routines.{seen_routine}
-use Rattle.aos_guard.specs.Guarded.{Each, Spares}
+use Rattle.aos_dispatch.specs.Routines.{seen_routine}
+use Rattle.aos_uses.specs.Guarded.{Each, Spares}
 use Rattle.aos_guard.proofs.Texts.{rest_more, rest_no, rest_yes}
 use Rattle.aos_guard.proofs.guarded.texts_spare.Goals as goal
 
 pub returns-then-not-text_spares : goal.returns-then-not-text_spares
 returns-then-not-text_spares c =
-    let p = seen_program c.args.laid.now in
+    let p = seen_program c.args.dispatch.now in
     let R = Spares p c.args.variable in
     let k = c.loop-index.index in
     let n = c.in_ok-number.number in
@@ -21,7 +21,7 @@ returns-then-not-text_spares c =
 
 pub loop-index-preserved : goal.loop-index-preserved
 loop-index-preserved c =
-    let p = seen_program c.args.laid.now in
+    let p = seen_program c.args.dispatch.now in
     let R = Spares p c.args.variable in
     let k = c.loop-index.index in
     let n = c.in_ok-number.number in
@@ -35,5 +35,5 @@ loop-index-preserved c =
 
 pub returns : goal.returns
 returns c =
-    let p = seen_program c.args.laid.now in
+    let p = seen_program c.args.dispatch.now in
     rest_yes p (Spares p c.args.variable) c.routines-routines.result.now c.loop-index.index c.routines-routines.ensures (omega (arith, c.loop-index-test.false)) c.loop-index.invariant

@@ -1,12 +1,12 @@
 use Rattle.std.proofs.Common.{◌≡◌, suc, IsTrue, subst, arith}
 use Rattle.aos_typed.specs.Seen.{seen_program}
-use Rattle.aos_guard.specs.Guarded.{Each, Keeps}
+use Rattle.aos_uses.specs.Guarded.{Each, Keeps}
 use Rattle.aos_guard.proofs.Adds.{Adds, says_more, says_last}
 use Rattle.aos_guard.proofs.quiet.edges_of.Goals as goal
 
 pub loop-index-preserved : goal.loop-index-preserved
 loop-index-preserved c =
-    let p = seen_program c.args.laid.now in
+    let p = seen_program c.args.dispatch.now in
     let ms = c.args.marks.now in
     let i = c.loop-index.index in
     let n = c.in_ok-number.number in
@@ -18,5 +18,5 @@ loop-index-preserved c =
 
 pub returns : goal.returns
 returns c =
-    says_last c.args.marks.now (seen_program c.args.laid.now) c.loop-index.edges.items c.args.texts.now c.loop-index.index
+    says_last c.args.marks.now (seen_program c.args.dispatch.now) c.loop-index.edges.items c.args.texts.now c.loop-index.index
     (omega (arith, c.loop-index-test.false)) c.loop-index.invariant

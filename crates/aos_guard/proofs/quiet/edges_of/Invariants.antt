@@ -5,4 +5,4 @@ use Rattle.aos_guard.proofs.quiet.edges_of.Given as goal
 
 -- the edges of the texts before this one
 abbrev pub invariant-loop-index : goal.invariant-loop-index
-invariant-loop-index l = Says l.marks (seen_program l.laid) l.edges.items l.texts l.index
+invariant-loop-index l = Says l.marks (seen_program l.dispatch) l.edges.items l.texts l.index

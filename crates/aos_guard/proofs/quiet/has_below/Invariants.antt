@@ -5,4 +5,4 @@ use Rattle.aos_guard.proofs.quiet.has_below.Given as goal
 
 -- no base before this one
 abbrev pub invariant-loop-base : goal.invariant-loop-base
-invariant-loop-base l = BelowBefore (seen_program l.laid) l.owner l.slot l.named l.base
+invariant-loop-base l = BelowBefore (seen_program l.dispatch) l.owner l.slot l.named l.base

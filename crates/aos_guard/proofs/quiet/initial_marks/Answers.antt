@@ -6,4 +6,4 @@ use Rattle.aos_guard.proofs.quiet.initial_marks.Goals as goal
 pub returns : goal.returns
 returns c =
     let loop = c.loop-index in
-    marks_end (seen_program c.args.laid.now) loop.marks.items c.routines-routines.result.now loop.index c.routines-routines.ensures (omega (arith, c.loop-index-test.false)) loop.invariant.length loop.invariant.marks
+    marks_end (seen_program c.args.dispatch.now) loop.marks.items c.routines-routines.result.now loop.index c.routines-routines.ensures (omega (arith, c.loop-index-test.false)) loop.invariant.length loop.invariant.marks

@@ -4,5 +4,5 @@ use Rattle.aos_guard.proofs.quiet.put_raised.Goals as goal
 
 pub returns : goal.returns
 returns c =
-    raised_put c.args.marks.now (seen_program c.args.laid.now) c.args.edges.now.items c.put_edge.new.edges.items c.put_named.new.edges.items
+    raised_put c.args.marks.now (seen_program c.args.dispatch.now) c.args.edges.now.items c.put_edge.new.edges.items c.put_named.new.edges.items
     c.args.text c.args.of c.args.slot c.raised.result c.raised.ensures c.in_ok-put_edge.ensures c.in_ok-put_named.ensures

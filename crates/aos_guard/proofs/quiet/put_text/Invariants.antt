@@ -5,4 +5,4 @@ use Rattle.aos_guard.proofs.quiet.put_text.Given as goal
 
 -- the edges so far and the uses that are left say what all uses do
 abbrev pub invariant-loop-one : goal.invariant-loop-one
-invariant-loop-one l = Left l.marks (seen_program l.laid) l.fn.edges.items l.edges.items l.text l.uses l.one-index
+invariant-loop-one l = Left l.marks (seen_program l.dispatch) l.fn.edges.items l.edges.items l.text l.uses l.one-index

@@ -2,14 +2,14 @@ use Rattle.std.proofs.Common.{ℕ, Bool, IsTrue, subst}
 use Rattle.std.specs.Prelude.{◌↔◌}
 use Rattle.aos_typed.specs.Seen.{seen_program}
 use Rattle.aos_guard.specs.Edges.{InTexts}
-use Rattle.aos_guard.specs.Guarded.{Keeps}
+use Rattle.aos_uses.specs.Guarded.{Keeps}
 use Rattle.aos_guard.specs.Marks.{IsClosed, IsLeft, IsWithin, marked}
 use Rattle.aos_guard.proofs.Found.{quiet_found}
 use Rattle.aos_guard.proofs.quiet.quiet_of.Goals as goal
 
 pub returns : goal.returns
 returns c =
-    let p = seen_program c.args.laid.now in
+    let p = seen_program c.args.dispatch.now in
     let texts = c.args.texts.now in
     let old = c.in_ok-marks.marks.items in
     let edges = c.in_ok-edges.edges.items in

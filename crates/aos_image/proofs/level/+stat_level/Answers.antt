@@ -3,7 +3,7 @@ use Rattle.std.specs.Prelude.{◌≡◌, IfOk}
 use Rattle.aos_typed.specs.Seen.{seen_stat, seen_stats, seen_else, arms_of, cases_of}
 use Rattle.aos_typed.proofs.Seen.{if_seen, case_seen, while_seen, repeat_seen, loop_seen, for_seen, block_seen, with_seen, with_record_seen}
 use Rattle.aos_sim.specs.Need.{stat_level, stats_level, arms_level, cases_level}
-use Rattle.aos_laid.proofs.Heights.{within, arms_within, cases_within}
+use Rattle.aos_dispatch.proofs.Heights.{within, arms_within, cases_within}
 use Rattle.aos_image.proofs.level.+stat_level.Goals as goal
 
 pub stat_level-arms_level-requires : goal.stat_level-arms_level-requires

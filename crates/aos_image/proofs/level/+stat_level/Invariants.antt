@@ -1,7 +1,7 @@
 use Rattle.std.proofs.Common.{◌≡◌, ◌+◌, ◌*◌, drop, max}
 use Rattle.aos_typed.specs.Seen.{seen_stat, seen_stats, seen_else, arms_of, cases_of}
 use Rattle.aos_sim.specs.Need.{stats_level, arms_level, cases_level}
-use Rattle.aos_laid.proofs.Heights.{height, heights, arms_height, cases_height}
+use Rattle.aos_dispatch.proofs.Heights.{height, heights, arms_height, cases_height}
 use Rattle.aos_image.proofs.level.+stat_level.Given as goal
 
 -- what is kept so far and by the rest is what all keep

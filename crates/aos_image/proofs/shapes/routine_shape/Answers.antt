@@ -1,6 +1,6 @@
 use Rattle.std.proofs.Common.{sym, ap, ◌∙◌}
 use Rattle.aos_typed.specs.Seen.{seen_program}
-use Rattle.aos_laid.specs.Routines.{seen_routine}
+use Rattle.aos_dispatch.specs.Routines.{seen_routine}
 use Rattle.aos_sim.specs.Shows.{shape_of}
 use Rattle.aos_image.proofs.shapes.routine_shape.Goals as goal
 

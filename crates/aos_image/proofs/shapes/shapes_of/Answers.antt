@@ -3,8 +3,8 @@ use Rattle.aos_typed.specs.declared.tree.Program.{Program as TProgram}
 use Rattle.aos_typed.specs.Routines.{routines}
 use Rattle.aos_typed.specs.Seen.{seen_program}
 use Rattle.aos_layout.proofs.Frames.{there_at}
-use Rattle.aos_laid.specs.Routines.{IsTyped, seen_routine, seen_routines}
-use Rattle.aos_laid.proofs.Listed.{routines_typed}
+use Rattle.aos_dispatch.specs.Routines.{IsTyped, seen_routine, seen_routines}
+use Rattle.aos_dispatch.proofs.Listed.{routines_typed}
 use Rattle.aos_sim.specs.Shows.{shape_of}
 use Rattle.aos_image.proofs.Known.{shape_more, shapes_all}
 use Rattle.aos_image.proofs.shapes.shapes_of.Goals as goal

@@ -1,7 +1,7 @@
 use Rattle.std.proofs.Common.{◌≡◌, map, take}
 use Rattle.aos_typed.specs.Seen.{seen_program}
 use Rattle.aos_layout.specs.Seen.{seen_shape}
-use Rattle.aos_laid.specs.Routines.{seen_routines}
+use Rattle.aos_dispatch.specs.Routines.{seen_routines}
 use Rattle.aos_sim.specs.Shows.{shape_of}
 use Rattle.aos_image.proofs.shapes.shapes_of.Given as goal
 

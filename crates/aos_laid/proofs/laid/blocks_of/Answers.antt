@@ -5,7 +5,7 @@ use Rattle.aos_typed.specs.WellTyped.{IsVariableType}
 use Rattle.aos_layout.proofs.Frames.{there_at}
 use Rattle.aos_layout.specs.Block.{block_shape}
 use Rattle.aos_layout.specs.Seen.{seen_block}
-use Rattle.aos_laid.proofs.Lists.{more_of, next_of}
+use Rattle.aos_dispatch.proofs.Lists.{more_of, next_of}
 use Rattle.aos_laid.proofs.Found.{narrow_more}
 use Rattle.aos_laid.proofs.laid.blocks_of.Goals as goal
 

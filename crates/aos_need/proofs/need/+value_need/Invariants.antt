@@ -2,7 +2,7 @@ use Rattle.std.proofs.Common.{◌≡◌, ◌≤◌, ◌+◌, ◌*◌, suc, drop,
 use Rattle.aos_typed.specs.Program.{NoMore}
 use Rattle.aos_typed.specs.Seen.{seen_place, seen_rows, seen_argument, seen_list, seen_callee, seen_expr}
 use Rattle.aos_sim.specs.Need.{arguments_need}
-use Rattle.aos_emit_expr.specs.Sizes.{place_size, rows_size, arguments_size, callee_size, value_size, front_size, rest_size}
+use Rattle.aos_dispatch.specs.Sizes.{place_size, rows_size, arguments_size, callee_size, value_size, front_size, rest_size}
 use Rattle.aos_need.specs.Fronts.{front_need, rest_need}
 use Rattle.aos_need.proofs.need.+value_need.Given as goal
 
@@ -36,23 +36,14 @@ decreases-arguments_need l = 16 * arguments_size (seen_list l.arguments.now) + 2
 abbrev pub decreases-call_end : goal.decreases-call_end
 decreases-call_end l = 16 * (callee_size (seen_callee l.callee.now) + arguments_size (seen_list l.arguments.now)) + 3
 
-abbrev pub decreases-function_end : goal.decreases-function_end
-decreases-function_end l = 16 * (callee_size (seen_callee l.callee.now) + arguments_size (seen_list l.arguments.now)) + 4
+abbrev pub decreases-both_end : goal.decreases-both_end
+decreases-both_end l = 16 * (front_size l.first + front_size l.second) + 8
 
 abbrev pub decreases-value_end : goal.decreases-value_end
 decreases-value_end l = 16 * value_size (seen_expr l.value.now)
 
 abbrev pub decreases-front_end : goal.decreases-front_end
-decreases-front_end l = 16 * front_size l.front + 1
+decreases-front_end l = 16 * front_size l.front + 4
 
 abbrev pub decreases-front_need : goal.decreases-front_need
 decreases-front_need l = 16 * front_size l.all + 6
-
-abbrev pub decreases-value_need : goal.decreases-value_need
-decreases-value_need l = 16 * value_size (seen_expr l.value.now) + 7
-
-abbrev pub decreases-place_need : goal.decreases-place_need
-decreases-place_need l = 16 * place_size (seen_place l.place.now) + 7
-
-abbrev pub decreases-rows_need : goal.decreases-rows_need
-decreases-rows_need l = 16 * rows_size (seen_rows l.rows.now) + 7

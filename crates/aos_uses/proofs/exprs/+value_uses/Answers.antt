@@ -3,7 +3,7 @@ use Rattle.std.proofs.lemmas.Result.{IfOk-weaker}
 use Rattle.aos_typed.specs.Seen.{seen_list, seen_callee, seen_expr, seen_program}
 use Rattle.aos_typed.proofs.Seen.{function_seen}
 use Rattle.aos_uses.specs.Uses.{call_uses, expr_uses}
-use Rattle.aos_uses.proofs.Sizes.{call_within}
+use Rattle.aos_dispatch.proofs.Sizes.{call_within}
 use Rattle.aos_uses.proofs.exprs.+value_uses.Goals as goal
 
 pub value_end-call_end-requires : goal.value_end-call_end-requires
@@ -15,7 +15,7 @@ value_end-call_end-requires t c =
 pub value_end-returns-in-Function-clause-uses : goal.value_end-returns-in-Function-clause-uses
 value_end-returns-in-Function-clause-uses t c =
     let x = c.in-Function in
-    let p = seen_program c.args.laid.now in
+    let p = seen_program c.args.dispatch.now in
     let base = c.args.uses.now.items in
     IfOk-weaker c.call_end.result _ _ (λ rest e. e
     ∙ ap (λ l. base ++ call_uses p (seen_callee x.callee) (seen_list l)) c.deref.ensures.value

@@ -2,14 +2,15 @@
 use Rattle.std.proofs.Common.{◌≡◌, ◌≤◌, ◌+◌, ◌*◌, ◌++◌, suc, drop}
 use Rattle.aos_typed.specs.Program.{NoMore}
 use Rattle.aos_typed.specs.Seen.{seen_place, seen_rows, seen_argument, seen_list, seen_callee, seen_expr, seen_program}
-use Rattle.aos_uses.specs.Sizes.{place_size, rows_size, arguments_size, callee_size, value_size, front_size, rest_size, front_uses, rest_uses}
+use Rattle.aos_dispatch.specs.Sizes.{place_size, rows_size, arguments_size, callee_size, value_size, front_size, rest_size}
+use Rattle.aos_uses.specs.Fronts.{front_uses, rest_uses}
 use Rattle.aos_uses.specs.Uses.{arguments_uses}
 use Rattle.aos_uses.proofs.exprs.+value_uses.Given as goal
 
 -- the uses so far and those of what is left are those of all, and what is left is no more
 abbrev pub invariant-front_uses-loop-rest : goal.invariant-front_uses-loop-rest
 invariant-front_uses-loop-rest l =
-    let p = seen_program l.laid in
+    let p = seen_program l.dispatch in
     (l.uses.items ++ rest_uses p l.rest ≡ l.fn.uses.items ++ front_uses p l.fn.all) × (rest_size l.rest ≤ suc (front_size l.fn.all))
 
 abbrev pub decreases-front_uses-loop-rest : goal.decreases-front_uses-loop-rest
@@ -18,7 +19,7 @@ decreases-front_uses-loop-rest l = rest_size l.rest
 -- those of the arguments that are left
 abbrev pub invariant-arguments_uses-loop-parameter : goal.invariant-arguments_uses-loop-parameter
 invariant-arguments_uses-loop-parameter l =
-    let p = seen_program l.laid in
+    let p = seen_program l.dispatch in
     l.uses.items ++ arguments_uses p l.number l.parameter (seen_list (drop l.parameter l.arguments))
     ≡ l.fn.uses.items ++ arguments_uses p l.number 0 (seen_list l.arguments)
 

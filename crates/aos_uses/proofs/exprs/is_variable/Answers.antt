@@ -12,7 +12,7 @@ returns-in-Some c =
     let r = c.in-Some.routine.now in
     let found = c.in-Some.ensures.lookup in
     let some : 1 ≤ c.args.number = omega (arith, c.if-number-eq0.false) in
-    reference_there (seen_program c.args.laid.now) rs c.routines.ensures c.args.number c.args.parameter r _ some
+    reference_there (seen_program c.args.dispatch.now) rs c.routines.ensures c.args.number c.args.parameter r _ some
     (slice_get_read rs (length rs) k r refl (ltb-true k (length rs) (sym found.0)) found.1) c.has_reference.ensures
 
 pub returns-in-None : goal.returns-in-None
@@ -21,4 +21,4 @@ returns-in-None c =
     let k = c.args.number - 1 in
     let some : 1 ≤ c.args.number = omega (arith, c.if-number-eq0.false) in
     let le : length rs ≤ k = omega (arith, ltb-false k (length rs) (sym c.in-None.ensures.lookup.0)) in
-    reference_none (seen_program c.args.laid.now) rs c.routines.ensures c.args.number c.args.parameter some (slice_get_past rs k le)
+    reference_none (seen_program c.args.dispatch.now) rs c.routines.ensures c.args.number c.args.parameter some (slice_get_past rs k le)

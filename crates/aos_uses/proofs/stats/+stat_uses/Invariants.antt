@@ -1,26 +1,26 @@
 -- What the loops keep, and what falls in each call.
 use Rattle.std.proofs.Common.{◌≡◌, ◌+◌, ◌*◌, ◌++◌, drop}
 use Rattle.aos_typed.specs.Seen.{seen_stat, seen_stats, seen_else, seen_program, arms_of, cases_of}
-use Rattle.aos_laid.proofs.Heights.{height, heights, arms_height, cases_height}
+use Rattle.aos_dispatch.proofs.Heights.{height, heights, arms_height, cases_height}
 use Rattle.aos_uses.specs.Uses.{arms_uses, cases_uses, stats_uses}
 use Rattle.aos_uses.proofs.stats.+stat_uses.Given as goal
 
 -- the uses so far and those of the rest are those of all
 abbrev pub invariant-stats_uses-loop-statement : goal.invariant-stats_uses-loop-statement
 invariant-stats_uses-loop-statement l =
-    let p = seen_program l.laid in
+    let p = seen_program l.dispatch in
     l.uses.items ++ stats_uses p l.exclusive (seen_stats (drop l.statement-index l.statements))
     ≡ l.fn.uses.items ++ stats_uses p l.exclusive (seen_stats l.fn.statements)
 
 abbrev pub invariant-arms_uses-loop-arm : goal.invariant-arms_uses-loop-arm
 invariant-arms_uses-loop-arm l =
-    let p = seen_program l.laid in
+    let p = seen_program l.dispatch in
     l.uses.items ++ arms_uses p l.exclusive (arms_of (drop l.arm-index l.arms) (seen_stats l.otherwise))
     ≡ l.fn.uses.items ++ arms_uses p l.exclusive (arms_of l.fn.arms (seen_stats l.fn.otherwise))
 
 abbrev pub invariant-cases_uses-loop-case : goal.invariant-cases_uses-loop-case
 invariant-cases_uses-loop-case l =
-    let p = seen_program l.laid in
+    let p = seen_program l.dispatch in
     l.uses.items ++ cases_uses p l.exclusive (cases_of (drop l.case-index l.cases) (seen_else l.otherwise))
     ≡ l.fn.uses.items ++ cases_uses p l.exclusive (cases_of l.fn.cases (seen_else l.fn.otherwise))
 

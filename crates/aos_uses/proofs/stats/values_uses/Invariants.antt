@@ -7,5 +7,5 @@ use Rattle.aos_uses.proofs.stats.values_uses.Given as goal
 -- the uses so far and those of the rest are those of all
 abbrev pub invariant-loop-value : goal.invariant-loop-value
 invariant-loop-value l =
-    let p = seen_program l.laid in
+    let p = seen_program l.dispatch in
     l.uses.items ++ values_uses p (map seen_expr (drop l.value-index l.values)) ≡ l.fn.uses.items ++ values_uses p (map seen_expr l.fn.values)

@@ -1,12 +1,9 @@
-use Rattle.std.proofs.Common.{◌≡◌, ap, ◌∙◌, arith}
-use Rattle.std.proofs.lemmas.List.{length-map}
+use Rattle.std.proofs.Common.{◌≡◌, ◌∙◌, subst}
+use Rattle.std.specs.Prelude.{IfOk}
 use Rattle.aos_typed.specs.Numbers.{body_number}
-use Rattle.aos_typed.specs.Seen.{seen_module, seen_program}
+use Rattle.aos_typed.specs.Seen.{seen_program}
 use Rattle.aos_laid.proofs.laid.Laid.body.Goals as goal
 
 pub returns : goal.returns
 returns c =
-    let p = c.self.inside.program.now in
-    let is : c.in_ok-all.all ≡ body_number (seen_program p) c.args.of =
-    omega (arith, c.in_ok-all.ensures, c.in_ok-behind.ensures, c.len.ensures, length-map p.modules.items seen_module) in
-    is ∙ ap (λ q. body_number (seen_program q) c.args.of) c.self.view_is
+    subst (λ p. IfOk c.body.result (λ n. n ≡ body_number (seen_program p) c.args.of)) (c.self.invariant.same ∙ c.self.view_is) c.body.ensures

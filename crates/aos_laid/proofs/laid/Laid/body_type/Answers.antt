@@ -1,13 +1,9 @@
-use Rattle.std.proofs.Common.{ap, sym, ◌∙◌}
-use Rattle.std.specs.Prelude.{slice_get}
+use Rattle.std.proofs.Common.{◌≡◌, ◌∙◌, subst}
+use Rattle.std.specs.Prelude.{IfOk}
 use Rattle.aos_typed.specs.Methods.{body_type}
 use Rattle.aos_typed.specs.Seen.{seen_program}
-use Rattle.aos_laid.proofs.Told.{body_is}
 use Rattle.aos_laid.proofs.laid.Laid.body_type.Goals as goal
 
 pub returns : goal.returns
 returns c =
-    let t = c.args.of in
-    body_is (seen_program c.self.inside.program.now) c.self.inside.bodies.items t c.in_ok-found.found c.self.invariant.bodies
-    (ap (λ l. slice_get l t) (sym c.deref.ensures.value) ∙ c.in_ok-found.ensures)
-    ∙ ap (λ p. body_type (seen_program p) t) c.self.view_is
+    subst (λ p. IfOk c.body_type.result (λ n. n ≡ body_type (seen_program p) c.args.of)) (c.self.invariant.same ∙ c.self.view_is) c.body_type.ensures

@@ -1,0 +1,4 @@
+mod Endings
+pub mod Places
+pub mod Changed
+pub mod CallTyping

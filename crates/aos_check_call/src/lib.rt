@@ -1,0 +1,15 @@
+//! Calls as statements: of procedures and methods, of the predeclared procedures, and of those of module Out.
+#![tactic(auto)]
+
+mod calls;
+mod methods;
+mod news;
+mod out;
+mod procedures;
+mod refusals;
+mod routines;
+mod texts;
+
+pub use calls::called;
+pub use refusals::refused;
+pub use texts::{put_text, text_to, value_fits};

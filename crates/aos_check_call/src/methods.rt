@@ -1,0 +1,206 @@
+// Calls of what a designator is: of a method, of what a value of a procedure type stands for, or of what is no procedure.
+
+ghost use Rattle.std.specs.Prelude.{◌≡◌, OnOk, IfOk, option_map};
+ghost use Rattle.aos_typed.specs.Seen.{seen_stat};
+ghost use Rattle.aos_symbols.specs.Breaches.{first_after};
+ghost use Rattle.aos_symbols.specs.Judged.{kept};
+ghost use Rattle.aos_designators.specs.Seen.{seen_bound, seen_part};
+ghost use Rattle.aos_check_call.specs.Calls as judge;
+
+use crate::procedures::perform;
+use crate::refusals::refused;
+use aos_base::Pos;
+use aos_check_expr::{bracketed, follow_selectors};
+use aos_designators::{Bound, Part, bound_part, plain, spot_of_part};
+use aos_made_stat::MadeStat;
+use aos_operators::Class;
+use aos_symbols::{Breach, Env, WRONG_CALL};
+use aos_tree::{Desig, Expr, Selector};
+use std::alloc::{AllocError, Global};
+
+/// A call of what can't be called, which begins at a place.
+fn no_call(found: &mut Option<Breach>, at: Pos, class: Class) -> Option<MadeStat>
+    ensures noted { found.new ≡ first_after found.old (judge.no_call at class).breaches }
+    ensures answer { option_map seen_stat result ≡ (judge.no_call at class).answer }
+{
+    match class {
+        Class::Unknown => None,
+        Class::Constant(_) => refused(found, WRONG_CALL, at),
+        Class::Variable => refused(found, WRONG_CALL, at),
+        Class::ReadOnly => refused(found, WRONG_CALL, at),
+        Class::Computed => refused(found, WRONG_CALL, at),
+        Class::Procedure(_, _) => refused(found, WRONG_CALL, at),
+    }
+}
+
+/// A call of a variable or a value, which begins at a place.
+#[tactic(auto, using(aos_symbols::proofs::Keeping::after_more))]
+fn called_spot(
+    alloc: Global,
+    found: &mut Option<Breach>,
+    env: &Env<'_>,
+    first: Pos,
+    part: Part,
+) -> Result<Option<MadeStat>, AllocError>
+    ensures noted { OnOk result (found.new ≡ first_after found.old
+        (judge.called_spot env.now first (kept (seen_part part))).breaches) }
+    ensures answer { IfOk result (λ s. option_map seen_stat s ≡
+        (judge.called_spot env.now first (kept (seen_part part))).answer) }
+{
+    let spot = spot_of_part(alloc, found, env, part)?;
+    Ok(no_call(found, first, spot.known.class))
+}
+
+/// A call of a method, or of what a value of a procedure type stands for, with these arguments.
+fn perform_bound(
+    alloc: Global,
+    found: &mut Option<Breach>,
+    env: &Env<'_>,
+    first: Pos,
+    bound: Bound,
+    arguments: &[Expr],
+) -> Result<Option<MadeStat>, AllocError>
+    ensures noted { OnOk result (found.new ≡ first_after found.old
+        (judge.perform_bound env.now first (seen_bound bound) arguments.now).breaches) }
+    ensures answer { IfOk result (λ s. option_map seen_stat s ≡
+        (judge.perform_bound env.now first (seen_bound bound) arguments.now).answer) }
+{
+    let heading = bound.heading;
+    perform(alloc, found, env, first, bound.callee, heading, arguments)
+}
+
+/// A call, without a bracket, of what a designator is that begins at a place.
+fn called_alone(
+    alloc: Global,
+    found: &mut Option<Breach>,
+    env: &Env<'_>,
+    first: Pos,
+    part: Part,
+) -> Result<Option<MadeStat>, AllocError>
+    ensures noted { OnOk result (found.new ≡ first_after found.old
+        (judge.called_alone env.now first (seen_part part)).breaches) }
+    ensures answer { IfOk result (λ s. option_map seen_stat s ≡
+        (judge.called_alone env.now first (seen_part part)).answer) }
+{
+    match bound_part(alloc, env, first, part)? {
+        Part::Waits(bound) => perform_bound(alloc, found, env, first, bound, &[]),
+        Part::Begun(head) => called_spot(alloc, found, env, first, Part::Begun(head)),
+        Part::Meant(spot) => called_spot(alloc, found, env, first, Part::Meant(spot)),
+    }
+}
+
+/// A bracket, which stands here, behind what it doesn't call.
+#[tactic(auto, using(aos_symbols::proofs::Keeping::after_more))]
+fn bracketed_spot(
+    alloc: Global,
+    found: &mut Option<Breach>,
+    env: &Env<'_>,
+    first: Pos,
+    part: Part,
+    at: Pos,
+    arguments: &[Expr],
+) -> Result<Option<MadeStat>, AllocError>
+    ensures noted { OnOk result (found.new ≡ first_after found.old
+        (judge.bracketed_spot env.now first (seen_part part) at arguments.now).breaches) }
+    ensures answer { IfOk result (λ s. option_map seen_stat s ≡
+        (judge.bracketed_spot env.now first (seen_part part) at arguments.now).answer) }
+{
+    let called = bracketed(alloc, found, env, first, part, at, arguments)?;
+    called_spot(alloc, found, env, first, called)
+}
+
+/// A call, with a bracket that stands here, of what a designator is so far that begins at a place.
+fn called_with(
+    alloc: Global,
+    found: &mut Option<Breach>,
+    env: &Env<'_>,
+    first: Pos,
+    part: Part,
+    at: Pos,
+    arguments: &[Expr],
+) -> Result<Option<MadeStat>, AllocError>
+    ensures noted { OnOk result (found.new ≡ first_after found.old
+        (judge.called_with env.now first (seen_part part) at arguments.now).breaches) }
+    ensures answer { IfOk result (λ s. option_map seen_stat s ≡
+        (judge.called_with env.now first (seen_part part) at arguments.now).answer) }
+{
+    match bound_part(alloc, env, first, part)? {
+        Part::Waits(bound) => perform_bound(alloc, found, env, first, bound, arguments),
+        Part::Begun(head) => {
+            bracketed_spot(alloc, found, env, first, Part::Begun(head), at, arguments)
+        },
+        Part::Meant(spot) => {
+            bracketed_spot(alloc, found, env, first, Part::Meant(spot), at, arguments)
+        },
+    }
+}
+
+/// A call of what a designator is, without a bracket behind it.
+#[tactic(auto, using(aos_symbols::proofs::Keeping::after_more))]
+fn called_whole(
+    alloc: Global,
+    found: &mut Option<Breach>,
+    env: &Env<'_>,
+    desig: &Desig,
+) -> Result<Option<MadeStat>, AllocError>
+    ensures noted { OnOk result (found.new ≡ first_after found.old
+        (judge.called_whole env.now desig.now).breaches) }
+    ensures answer { IfOk result (λ s. option_map seen_stat s ≡
+        (judge.called_whole env.now desig.now).answer) }
+{
+    let first = desig.name.pos;
+    let begun = Part::Begun(plain(env, desig.name));
+    let selectors = desig.selectors.as_slice();
+    let part = follow_selectors(alloc, found, env, first, begun, selectors)?;
+    called_alone(alloc, found, env, first, part)
+}
+
+/// All selectors but the last one.
+fn before_last(selectors: &[Selector]) -> &[Selector]
+    ensures { result.now ≡ judge.before_last selectors.now }
+{
+    &selectors[..selectors.len().saturating_sub(1)]
+}
+
+/// A call of what a designator is before its last selector, which is a bracket that stands here.
+#[tactic(auto, using(aos_symbols::proofs::Keeping::after_more))]
+fn called_before(
+    alloc: Global,
+    found: &mut Option<Breach>,
+    env: &Env<'_>,
+    desig: &Desig,
+    at: Pos,
+    arguments: &[Expr],
+) -> Result<Option<MadeStat>, AllocError>
+    ensures noted { OnOk result (found.new ≡ first_after found.old
+        (judge.called_before env.now desig.now at arguments.now).breaches) }
+    ensures answer { IfOk result (λ s. option_map seen_stat s ≡
+        (judge.called_before env.now desig.now at arguments.now).answer) }
+{
+    let first = desig.name.pos;
+    let begun = Part::Begun(plain(env, desig.name));
+    let before = before_last(desig.selectors.as_slice());
+    let part = follow_selectors(alloc, found, env, first, begun, before)?;
+    called_with(alloc, found, env, first, part, at, arguments)
+}
+
+/// A call of what a designator is: of a method, of what a value of a procedure type stands for, or of what is no procedure.
+#[tactic(auto, using(crate::proofs::Endings::called_bracket))]
+pub fn called_value(
+    alloc: Global,
+    found: &mut Option<Breach>,
+    env: &Env<'_>,
+    desig: &Desig,
+) -> Result<Option<MadeStat>, AllocError>
+    ensures noted { OnOk result (found.new ≡
+        first_after found.old (judge.called_value env.now desig.now).breaches) }
+    ensures answer { IfOk result (λ s.
+        option_map seen_stat s ≡ (judge.called_value env.now desig.now).answer) }
+{
+    match desig.selectors.as_slice().last() {
+        Some(Selector::Paren(at, arguments)) => {
+            called_before(alloc, found, env, desig, *at, arguments.as_slice())
+        },
+        _ => called_whole(alloc, found, env, desig),
+    }
+}

@@ -1,0 +1,334 @@
+// NEW.
+
+ghost use Rattle.std.specs.Prelude.{◌≡◌, [], map, OnOk, IfOk, option_map};
+ghost use Rattle.std.specs.Option.{option_copied};
+ghost use Rattle.aos_typed.specs.Seen.{seen_expr, seen_list, seen_stat};
+ghost use Rattle.aos_symbols.specs.Breaches.{first_after};
+ghost use Rattle.aos_symbols.specs.Judged.{walk};
+ghost use Rattle.aos_operators.specs.Seen.{seen_spot};
+ghost use Rattle.aos_check_call.specs.Calls as judge;
+
+use crate::refusals::refused;
+use aos_base::Pos;
+use aos_check_expr::{arguments_for, desig_alone, designator, expr};
+use aos_made::MadeArguments;
+use aos_made_stat::{MadeExprs, MadeStat};
+use aos_operators::{
+    Class, Spot, is_number, is_object_type, is_pointer_type, made_number, place_of, target_of,
+};
+use aos_symbols::{ARGUMENT_COUNT, Breach, Env, Method, NOT_BUILT, READ_ONLY, WRONG_NEW, note};
+use aos_tree::{Desig, Expr};
+use aos_typed::open_array;
+use aos_types::{Signature, TypeId};
+use std::alloc::{AllocError, Global};
+
+/// Whether NEW makes what a variable of a type holds; one that isn't known may be any.
+fn is_made(env: &Env<'_>, of: Option<TypeId>) -> bool
+    ensures { result ≡ judge.is_made env.now of }
+{
+    match of {
+        Some(of) => is_pointer_type(env, of) || is_object_type(env, of),
+        None => true,
+    }
+}
+
+/// NEW stands at a place, and its argument begins at `first`: that must be a pointer or an object variable that may be written.
+#[tactic(auto, using(aos_symbols::proofs::Keeping::after_more))]
+fn refuse_new(found: &mut Option<Breach>, env: &Env<'_>, at: Pos, first: Pos, spot: &Spot)
+    ensures { found.new ≡
+        first_after found.old (judge.new_breaches env.now at first (seen_spot spot.now)) }
+{
+    if !is_made(env, spot.known.of) {
+        note(found, WRONG_NEW, at);
+    }
+    match spot.known.class {
+        Class::Unknown => {},
+        Class::Variable => {},
+        Class::ReadOnly => note(found, READ_ONLY, first),
+        Class::Constant(_) => note(found, WRONG_NEW, at),
+        Class::Computed => note(found, WRONG_NEW, at),
+        Class::Procedure(_, _) => note(found, WRONG_NEW, at),
+    }
+}
+
+/// How many lengths are written in NEW of a variable of this type.
+fn lengths_wanted(env: &Env<'_>, of: TypeId) -> u64
+    ensures { result ≡ judge.lengths_wanted env.now of }
+{
+    match target_of(env, of) {
+        Some(to) => open_array(&env.types, to).dimensions,
+        None => 0,
+    }
+}
+
+/// NEW of a variable of this type, at a place, with so many lengths.
+fn refuse_count(
+    found: &mut Option<Breach>,
+    env: &Env<'_>,
+    at: Pos,
+    of: Option<TypeId>,
+    count: usize,
+)
+    ensures { found.new ≡
+        first_after found.old (judge.count_breaches env.now at of count) }
+{
+    let Some(known) = of else {
+        return;
+    };
+    if is_made(env, of) && lengths_wanted(env, known) != count as u64 {
+        note(found, ARGUMENT_COUNT, at);
+    }
+}
+
+/// Whether a part of this type may be a length, in NEW of a variable of a type: it is an integer, or the variable's type isn't known.
+fn may_be_length(made: Option<TypeId>, length: Option<TypeId>) -> bool
+    ensures { result ≡ judge.may_be_length made length }
+{
+    made.is_none() || is_number(length)
+}
+
+/// One more length, in NEW at a place of a variable of a type.
+#[tactic(auto, using(aos_symbols::proofs::Keeping::after_more))]
+fn put_length(
+    alloc: Global,
+    found: &mut Option<Breach>,
+    env: &Env<'_>,
+    at: Pos,
+    of: Option<TypeId>,
+    lengths: &mut MadeExprs,
+    part: &Expr,
+) -> Result<(), AllocError>
+    ensures noted { OnOk result (found.new ≡ first_after found.old
+        (judge.with_length env.now at of (map seen_expr lengths.old) part.now).breaches) }
+    ensures answer { OnOk result (map seen_expr lengths.new ≡
+        (judge.with_length env.now at of (map seen_expr lengths.old) part.now).answer) }
+{
+    let value = expr(alloc, found, env, part)?;
+    if !may_be_length(of, value.known.of) {
+        note(found, WRONG_NEW, at);
+    }
+    lengths.push(value.typed)?;
+    Ok(())
+}
+
+/// The lengths in NEW at a place of a variable of a type.
+#[tactic(auto, using(aos_symbols::proofs::Keeping::after_more, aos_symbols::proofs::Steps::walk_step, aos_symbols::proofs::Steps::walk_end))]
+fn lengths_of(
+    alloc: Global,
+    found: &mut Option<Breach>,
+    env: &Env<'_>,
+    at: Pos,
+    of: Option<TypeId>,
+    parts: &[Expr],
+) -> Result<MadeExprs, AllocError>
+    ensures noted { OnOk result (found.new ≡ first_after found.old
+        (walk (judge.with_length env.now at of) [] parts.now).breaches) }
+    ensures answer { IfOk result (λ ns. map seen_expr ns ≡
+        (walk (judge.with_length env.now at of) [] parts.now).answer) }
+{
+    let mut lengths = MadeExprs::new(alloc);
+    for part in parts {
+        put_length(alloc, found, env, at, of, &mut lengths, part)?;
+    }
+    Ok(lengths)
+}
+
+fn made_type(env: &Env<'_>, of: Option<TypeId>) -> Result<u32, AllocError>
+    ensures { IfOk result (λ n. n ≡ judge.made_type env.now of) }
+{
+    match of {
+        Some(of) => made_number(env, of),
+        None => Ok(0),
+    }
+}
+
+/// NEW at a place of what a pointer leads to, with these lengths.
+#[tactic(auto, using(aos_symbols::proofs::Keeping::after_more))]
+fn new_lengths(
+    alloc: Global,
+    found: &mut Option<Breach>,
+    env: &Env<'_>,
+    at: Pos,
+    spot: Spot,
+    lengths: &[Expr],
+) -> Result<Option<MadeStat>, AllocError>
+    ensures noted { OnOk result (found.new ≡ first_after found.old
+        (judge.new_lengths env.now at (seen_spot spot) lengths.now).breaches) }
+    ensures answer { IfOk result (λ s. option_map seen_stat s ≡
+        (judge.new_lengths env.now at (seen_spot spot) lengths.now).answer) }
+{
+    let of = spot.known.of;
+    refuse_count(found, env, at, of, lengths.len());
+    let made = made_type(env, of)?;
+    let lengths = lengths_of(alloc, found, env, at, of, lengths)?;
+    let one = MadeStat::make(alloc, at, place_of(spot.held), made, lengths)?;
+    Ok(Some(one))
+}
+
+/// What an initializer with this signature is handed, in NEW at a place.
+#[tactic(auto, using(aos_symbols::proofs::Keeping::after_more, aos_rules::proofs::Listed::as_listed))]
+fn initialized_by(
+    alloc: Global,
+    found: &mut Option<Breach>,
+    env: &Env<'_>,
+    at: Pos,
+    signature: Option<&Signature>,
+    arguments: &[Expr],
+) -> Result<MadeArguments, AllocError>
+    ensures noted { OnOk result (found.new ≡ first_after found.old
+        (judge.initialized_by env.now at (option_copied signature.entry) arguments.now).breaches) }
+    ensures answer { IfOk result (λ more. seen_list more ≡
+        (judge.initialized_by env.now at (option_copied signature.entry) arguments.now).answer) }
+{
+    match signature {
+        Some(signature) => {
+            let parameters = signature.parameters.as_slice();
+            let handing = arguments_for(alloc, found, env, at, parameters, arguments)?;
+            Ok(handing.given)
+        },
+        None => {
+            note(found, NOT_BUILT, at);
+            Ok(MadeArguments::new(alloc))
+        },
+    }
+}
+
+/// What the initializer is handed, in NEW at a place; without one there are no arguments.
+fn initialized(
+    alloc: Global,
+    found: &mut Option<Breach>,
+    env: &Env<'_>,
+    at: Pos,
+    initializer: Option<Method>,
+    arguments: &[Expr],
+) -> Result<MadeArguments, AllocError>
+    ensures noted { OnOk result (found.new ≡ first_after found.old
+        (judge.initialized env.now at initializer arguments.now).breaches) }
+    ensures answer { IfOk result (λ more. seen_list more ≡
+        (judge.initialized env.now at initializer arguments.now).answer) }
+{
+    match initializer {
+        Some(method) => {
+            let signature = env.signature(method.home, method.number);
+            initialized_by(alloc, found, env, at, signature, arguments)
+        },
+        None => {
+            if !arguments.is_empty() {
+                note(found, ARGUMENT_COUNT, at);
+            }
+            Ok(MadeArguments::new(alloc))
+        },
+    }
+}
+
+/// Whether NEW of a variable of this type makes an object, and not what a pointer leads to.
+fn makes_object(env: &Env<'_>, of: Option<TypeId>) -> bool
+    ensures { result ≡ judge.makes_object env.now of }
+{
+    match of {
+        Some(of) => is_object_type(env, of),
+        None => false,
+    }
+}
+
+/// The initializer of a type, where it has one.
+fn initializer_of(env: &Env<'_>, of: Option<TypeId>) -> Result<Option<Method>, AllocError>
+    ensures { IfOk result (λ m. m ≡ judge.initializer_of env.now of) }
+{
+    match of {
+        Some(of) => env.initializer(of),
+        None => Ok(None),
+    }
+}
+
+/// NEW at a place of an object, with these arguments.
+#[tactic(auto, using(aos_symbols::proofs::Keeping::after_more))]
+fn new_object(
+    alloc: Global,
+    found: &mut Option<Breach>,
+    env: &Env<'_>,
+    at: Pos,
+    spot: Spot,
+    arguments: &[Expr],
+) -> Result<Option<MadeStat>, AllocError>
+    ensures noted { OnOk result (found.new ≡ first_after found.old
+        (judge.new_object env.now at (seen_spot spot) arguments.now).breaches) }
+    ensures answer { IfOk result (λ s. option_map seen_stat s ≡
+        (judge.new_object env.now at (seen_spot spot) arguments.now).answer) }
+{
+    let of = spot.known.of;
+    let initializer = initializer_of(env, of)?;
+    let made = made_type(env, of)?;
+    let given = initialized(alloc, found, env, at, initializer, arguments)?;
+    let one = MadeStat::object(alloc, at, place_of(spot.held), made, given)?;
+    Ok(Some(one))
+}
+
+/// NEW of a designator that begins at `first`, with these arguments, in a call that begins at a place.
+#[tactic(auto, using(aos_symbols::proofs::Keeping::after_more))]
+fn new_with(
+    alloc: Global,
+    found: &mut Option<Breach>,
+    env: &Env<'_>,
+    at: Pos,
+    first: Pos,
+    spot: Spot,
+    arguments: &[Expr],
+) -> Result<Option<MadeStat>, AllocError>
+    ensures noted { OnOk result (found.new ≡ first_after found.old
+        (judge.new_with env.now at first (seen_spot spot) arguments.now).breaches) }
+    ensures answer { IfOk result (λ s. option_map seen_stat s ≡
+        (judge.new_with env.now at first (seen_spot spot) arguments.now).answer) }
+{
+    refuse_new(found, env, at, first, &spot);
+    if makes_object(env, spot.known.of) {
+        new_object(alloc, found, env, at, spot, arguments)
+    } else {
+        new_lengths(alloc, found, env, at, spot, arguments)
+    }
+}
+
+/// NEW of an argument that begins at `first`, and is a designator or not, with these others, in a call that begins at a place.
+#[tactic(auto, using(aos_symbols::proofs::Keeping::after_more))]
+fn new_of(
+    alloc: Global,
+    found: &mut Option<Breach>,
+    env: &Env<'_>,
+    at: Pos,
+    first: Pos,
+    variable: Option<&Desig>,
+    arguments: &[Expr],
+) -> Result<Option<MadeStat>, AllocError>
+    ensures noted { OnOk result (found.new ≡ first_after found.old
+        (judge.new_of env.now at first (option_copied variable.entry) arguments.now).breaches) }
+    ensures answer { IfOk result (λ s. option_map seen_stat s ≡
+        (judge.new_of env.now at first (option_copied variable.entry) arguments.now).answer) }
+{
+    let Some(variable) = variable else {
+        return Ok(refused(found, WRONG_NEW, at));
+    };
+    let spot = designator(alloc, found, env, variable)?;
+    new_with(alloc, found, env, at, first, spot, arguments)
+}
+
+/// NEW of these arguments, in a call that begins at a place.
+pub fn new_call(
+    alloc: Global,
+    found: &mut Option<Breach>,
+    env: &Env<'_>,
+    at: Pos,
+    arguments: &[Expr],
+) -> Result<Option<MadeStat>, AllocError>
+    ensures noted { OnOk result (found.new ≡
+        first_after found.old (judge.new_call env.now at arguments.now).breaches) }
+    ensures answer { IfOk result
+        (λ s. option_map seen_stat s ≡ (judge.new_call env.now at arguments.now).answer) }
+{
+    match arguments.split_first() {
+        Some((variable, more)) => {
+            let desig = desig_alone(variable);
+            new_of(alloc, found, env, at, variable.pos, desig, more)
+        },
+        None => Ok(refused(found, ARGUMENT_COUNT, at)),
+    }
+}

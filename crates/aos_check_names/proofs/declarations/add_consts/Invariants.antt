@@ -1,0 +1,5 @@
+use Rattle.std.proofs.Common.{◌≡◌, ◌++◌, map, take}
+use Rattle.aos_check_names.proofs.declarations.add_consts.Given as goal
+
+abbrev pub invariant-loop-def : goal.invariant-loop-def
+invariant-loop-def l = l.names.items ≡ l.initial.names.items ++ map (λ c. c.def.name) (take l.def-index l.defs)

@@ -1,0 +1,3 @@
+pub mod Designators
+pub mod Methods
+pub mod Seen

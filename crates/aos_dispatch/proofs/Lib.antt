@@ -1,0 +1,9 @@
+pub mod Lists
+pub mod Heights
+pub mod Sizes
+pub mod Arguments
+pub mod Firsts
+pub mod Tables
+pub mod Listed
+pub mod Told
+pub mod Bases

@@ -1,0 +1,8 @@
+//! The scopes of a module as its declarations make them, before any of these is looked at.
+#![tactic(auto)]
+
+pub mod declarations;
+pub mod entries;
+
+pub use declarations::{all_procedures, inner_decls, type_definitions};
+pub use entries::{declare, home_of};

@@ -1,5 +1,0 @@
-use Rattle.std.proofs.Common.{◌≡◌, ◌++◌, map, take}
-use Rattle.aos_symbols.proofs.declarations.add_types.Given as goal
-
-abbrev pub invariant-loop-def : goal.invariant-loop-def
-invariant-loop-def l = l.names.items ≡ l.initial.names.items ++ map (λ d. d.def.name) (take l.def-index l.defs)

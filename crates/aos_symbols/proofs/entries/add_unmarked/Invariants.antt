@@ -1,6 +1,0 @@
-use Rattle.std.proofs.Common.{◌≡◌, ◌++◌, map, take}
-use Rattle.aos_symbols.specs.Entries as entries
-use Rattle.aos_symbols.proofs.entries.add_unmarked.Given as goal
-
-abbrev pub invariant-loop-name : goal.invariant-loop-name
-invariant-loop-name l = l.all.items ≡ l.initial.all.items ++ map entries.unmarked (take l.name-index l.names)
