@@ -1,12 +1,13 @@
 //! Cases of the way from a text to its typed program: tokens, trees, passes, the table of types, the load order, and which
-//! conditions are local. The words name files of cases.
+//! conditions are local; and of the words that the program is given. The words of this one name files of cases.
 //!
 //! A question is a section, and behind it stands the answer that is wanted, `told`. Its text is asked for its `tokens`; for
 //! the `expression` or the `block` that it begins with, where as many productions are open round it as `nested` says; for
 //! the `shape` of that expression, and of the `name` behind the first token; for the `module` that it is, and what its
 //! `passes` come to; whether it and `other` have one tree, `trees`; and for the `order` of modules. Of the table `types`, in
 //! which `set` puts another row, the questions are `relation`, `fits`, `scalars` and `contained`. Of files, which are the
-//! sections with a point in their names, they are `conditions` and, with their places, `places`.
+//! sections with a point in their names, they are `conditions` and, with their places, `places`. Of a text of `words` it is
+//! the command that they are.
 #![tactic(auto)]
 
 mod conditions;
@@ -19,6 +20,7 @@ mod tokens;
 mod trees;
 mod types;
 mod untold;
+mod words;
 
 use crate::questions::{flaw_of, is_question, text_or, told_of};
 use aos_cases::{Asks, Case, answer_files, tell};

@@ -8,6 +8,7 @@ use crate::relations::{told_contained, told_fits, told_relation, told_scalars};
 use crate::tokens::told_tokens;
 use crate::trees::told_trees;
 use crate::untold::{Untold, told_instead};
+use crate::words::told_words;
 use aos_cases::Section;
 use std::alloc::{AllocError, Global};
 
@@ -28,6 +29,7 @@ fn is_question_of_text(name: &str) -> bool {
             | "passes"
             | "trees"
             | "order"
+            | "words"
     )
 }
 
@@ -87,6 +89,7 @@ fn told_of_text(alloc: Global, sections: &[Section], question: &Section) -> Resu
         "module" => told_module(alloc, text),
         "passes" => told_passes(alloc, text),
         "order" => told_order(alloc, text),
+        "words" => told_words(alloc, text),
         _ => told_trees(alloc, text, text_or(sections, "other", "")),
     }
 }

@@ -1,0 +1,4 @@
+mod Numerals
+mod Steps
+mod First
+mod Ranges

@@ -1,0 +1,4 @@
+pub mod Number
+pub mod Forms
+pub mod Words
+pub mod Shown

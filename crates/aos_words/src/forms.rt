@@ -1,0 +1,60 @@
+// The simple commands of clap that read the words.
+
+ghost use Rattle.std.specs.Prelude.{◌≡◌, false, IfOk};
+ghost use Rattle.clap.specs.Walk.{rule_of};
+ghost use Rattle.clap.specs.Simple.{app_of};
+ghost use Rattle.aos_words.specs.Forms.{option_rule, required_rule, files_rule};
+ghost use Rattle.aos_words.specs.Forms.{run_form, replay_form, files_form};
+
+use clap::{Arg, Command};
+use std::alloc::{AllocError, Global};
+
+// `--NAME VALUE`
+fn option<'a>(alloc: Global, name: &'a str) -> Arg<'a>
+    ensures rule { rule_of result ≡ option_rule name.entry.now }
+    ensures local { result.global ≡ false }
+{
+    Arg::new(alloc, name).long(name)
+}
+
+// The same, where it has to be given.
+fn required<'a>(alloc: Global, name: &'a str) -> Arg<'a>
+    ensures rule { rule_of result ≡ required_rule name.entry.now }
+    ensures local { result.global ≡ false }
+{
+    Arg::new(alloc, name).long(name).required(true)
+}
+
+// `FILE...`
+fn files<'a>(alloc: Global) -> Arg<'a>
+    ensures rule { rule_of result ≡ files_rule }
+    ensures local { result.global ≡ false }
+{
+    Arg::new(alloc, "FILE").required(true).num_args(1..)
+}
+
+/// `run [--workers n] [--budget b] FILE...`
+pub fn run_form<'a>(alloc: Global) -> Result<Command<'a>, AllocError>
+    ensures { IfOk result (λ c. app_of c ≡ run_form) }
+{
+    Command::new(alloc, "run")
+        .arg(option(alloc, "workers"))?
+        .arg(option(alloc, "budget"))?
+        .arg(files(alloc))
+}
+
+/// `replay --script S FILE...`
+pub fn replay_form<'a>(alloc: Global) -> Result<Command<'a>, AllocError>
+    ensures { IfOk result (λ c. app_of c ≡ replay_form) }
+{
+    Command::new(alloc, "replay")
+        .arg(required(alloc, "script"))?
+        .arg(files(alloc))
+}
+
+/// `NAME FILE...`
+pub fn files_form<'a>(alloc: Global, name: &'a str) -> Result<Command<'a>, AllocError>
+    ensures { IfOk result (λ c. app_of c ≡ files_form name.entry.now) }
+{
+    Command::new(alloc, name).arg(files(alloc))
+}
