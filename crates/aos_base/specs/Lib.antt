@@ -2,6 +2,7 @@ pub mod Number
 pub mod Set
 pub mod Operators
 pub mod Lock
+pub mod Priority
 pub mod Book
 pub mod Machine
 pub mod Schedule

@@ -1,11 +1,12 @@
-//! What every other crate stands on: places in a text, refusals, widths and their arithmetic, names of locks, verdicts,
-//! outcomes and events. Its definitions have the semantics of the kernel over activities of any kind.
+//! What every other crate stands on: places in a text, refusals, widths and their arithmetic, names of locks, priorities,
+//! verdicts, outcomes and events. Its definitions have the semantics of the kernel over activities of any kind.
 #![tactic(auto)]
 
 pub mod kernel;
 pub mod number;
 pub mod operator;
 pub mod place;
+pub mod priority;
 pub mod set;
 pub mod text;
 
@@ -13,5 +14,6 @@ pub use kernel::{Did, Event, LockName, MAX_STEPS, Outcome, Sched, Verdict};
 pub use number::{Relation, Width, abs, add, ash, div, fits, modulo, mul, neg, related, sub};
 pub use operator::{Binary, Given, Unary, apply_binary, apply_unary, natural, truth};
 pub use place::Root;
+pub use priority::Priority;
 pub use set::{set_has, set_span};
 pub use text::{NoMemory, Pos, Refusal};

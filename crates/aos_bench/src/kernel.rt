@@ -66,9 +66,14 @@ fn add_all(alloc: Global, image: &mut Image, activities: u32) -> Result<(), Allo
     add_module(alloc, image, 1)?;
     image.types.push(TypeDesc {
         base: 0,
+        cells: 0,
         kinds: Vec::new(alloc),
         methods: Vec::new(alloc),
+        init: 0,
         body: 3,
+        active: true,
+        priority: 2,
+        safe: false,
     })?;
     add_first(alloc, image, activities)?;
     add_region(alloc, image)?;

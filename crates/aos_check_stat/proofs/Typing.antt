@@ -409,5 +409,5 @@ module _ (p : Inside) where
   body_sound e whole may_be_active None = λ h. tt
   body_sound e whole may_be_active (Some b) =
       let f = judge.within_body b.modifiers e in
-      holds_bind AreFine AreFine (judged (modifier_breaches e.here.text may_be_active b.modifiers) []) (λ none. walk (judge.stat_in f false) none b.body.stats)
+      holds_bind AreFine AreFine (judged (judge.body_breaches e may_be_active b.modifiers) []) (λ none. walk (judge.stat_in f false) none b.body.stats)
       (λ h. tt) (λ none are. holds_walk AreFine (judge.stat_in f false) (stat_in_sound f (region_whole p e whole (are_exclusive e.here.text b.modifiers))) b.body.stats none are)

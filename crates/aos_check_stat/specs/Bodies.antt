@@ -1,11 +1,14 @@
--- The third pass: bodies. Built are assignments, calls, all other statements, and of the modifiers ACTIVE on an object's body, and
--- EXCLUSIVE on any body or block.
+-- The third pass: bodies. Built are assignments, calls, all other statements, and of the modifiers ACTIVE and PRIORITY on an object's
+-- body, and EXCLUSIVE on any body or block.
 -- A statement that isn't built is refused at its first token, a modifier at itself.
 use Rattle.std.specs.Prelude.{ℕ, ℤ, pos, ◌||◌, drop, List, [], ◌∷◌, ◌++◌, length, codes, Bool, true, false, not, ◌&&◌, Option, Some, None, is_some, if◌then◌else◌, ◌==◌}
-use Rattle.std.specs.Option.{is_none, option_map}
-use Rattle.std.specs.List.{list_any}
+use Rattle.std.specs.Option.{is_none, option_map, option_and_then, unwrap_or}
+use Rattle.std.specs.List.{list_any, flat_map, fold}
 use Rattle.std.specs.Ordering.{int_eq}
+use Rattle.aos_base.specs.declared.priority.Priority.{Priority}
+use Rattle.aos_base.specs.declared.priority.Priority.TheVariants.{Normal}
 use Rattle.aos_base.specs.declared.text.Pos.{Pos}
+use Rattle.aos_base.specs.Priority.{with_number}
 use Rattle.aos_tree.specs.declared.name.Name.{Name}
 use Rattle.aos_tree.specs.declared.name.Qualident.{Qualident}
 use Rattle.aos_tree.specs.declared.expr.Expr.{Expr as TreeExpr, out-Expr}
@@ -31,9 +34,9 @@ use Rattle.aos_symbols.specs.declared.env.Lookup.{Lookup}
 use Rattle.aos_symbols.specs.declared.env.Lookup.TheVariants.{Unknown as NoName, NotExported, Found}
 use Rattle.aos_symbols.specs.declared.env.Narrowed.{Narrowed}
 use Rattle.aos_symbols.specs.declared.env.Env.{Env}
-use Rattle.aos_symbols.specs.Breaches.{breach, breach_unless}
+use Rattle.aos_symbols.specs.Breaches.{breach, breach_unless, first_after}
 use Rattle.aos_symbols.specs.Judged.{Judged, judged, kept, bind, walk}
-use Rattle.aos_symbols.specs.Spelling.{is_word, is_active}
+use Rattle.aos_symbols.specs.Spelling.{is_word, is_active, is_priority}
 use Rattle.aos_symbols.specs.Env as env
 use Rattle.aos_types.specs.declared.row.TypeId.{TypeId}
 use Rattle.aos_operators.specs.declared.known.Class.{Class}
@@ -42,6 +45,7 @@ use Rattle.aos_operators.specs.Known.{Answer, Spot, Held, Stands, Value, passes,
 use Rattle.aos_operators.specs.Operations.{number}
 use Rattle.aos_operators.specs.Kinds.{has_parts}
 use Rattle.aos_operators.specs.Places.{place_of, place_in}
+use Rattle.aos_rules.specs.Arrays.{number_in}
 use Rattle.aos_rules.specs.Assignable as assignable
 use Rattle.aos_rules.specs.TypeNames.{known_type}
 use Rattle.aos_designators.specs.declared.designators.Head.{Head}
@@ -64,10 +68,10 @@ put ts (Some x) = ts ++ x ∷ []
 abbrev pub exit_of : Bool → Pos → Judged (Option Stat)
 exit_of in_loop at = if in_loop then kept (Some (Exit at)) else refused 39 at
 
--- Modifiers: those that aren't built, and of the others one EXCLUSIVE on any body or block, and one ACTIVE on an object's body, in any
--- order, each without a value.
-abbrev pub is_later : List ℕ → Modifier → Bool
-is_later text m = is_word text (codes "PRIORITY") m.name || is_word text (codes "SAFE") m.name
+-- Modifiers: SAFE isn't built. Of the others one EXCLUSIVE may stand on any body or block, and on an object's body one ACTIVE, and beside
+-- that one PRIORITY, in any order. PRIORITY has a value, and the others have none.
+abbrev pub is_safe : List ℕ → Modifier → Bool
+is_safe text m = is_word text (codes "SAFE") m.name
 
 abbrev pub is_exclusive : List ℕ → Modifier → Bool
 is_exclusive text m = is_word text (codes "EXCLUSIVE") m.name
@@ -76,25 +80,72 @@ is_exclusive text m = is_word text (codes "EXCLUSIVE") m.name
 abbrev pub are_exclusive : List ℕ → List Modifier → Bool
 are_exclusive text ms = list_any (is_exclusive text) ms
 
+-- among these PRIORITY may stand: the body may be active, and is
+abbrev pub takes_priority : List ℕ → (may_be_active : Bool) → List Modifier → Bool
+takes_priority text may_be_active ms = may_be_active && list_any (is_active text) ms
+
 -- one that may still stand there
-abbrev pub is_allowed : List ℕ → (may_be_active may_be_exclusive : Bool) → Modifier → Bool
-is_allowed text may_be_active may_be_exclusive m =
+abbrev pub is_plain : List ℕ → (may_be_active may_be_exclusive : Bool) → Modifier → Bool
+is_plain text may_be_active may_be_exclusive m =
     ((may_be_active && is_active text m) || (may_be_exclusive && is_exclusive text m)) && is_none m.value
 
-abbrev pub modifier_breach : List ℕ → (may_be_active may_be_exclusive : Bool) → Modifier → List Breach
-modifier_breach text may_be_active may_be_exclusive m =
-    if is_later text m then breach 99 m.name.pos
-    else breach_unless (is_allowed text may_be_active may_be_exclusive m) 45 m.name.pos
+abbrev pub is_allowed : List ℕ → (may_be_active may_be_exclusive may_have_priority : Bool) → Modifier → Bool
+is_allowed text may_be_active may_be_exclusive may_have_priority m =
+    if is_priority text m then may_have_priority && is_some m.value else is_plain text may_be_active may_be_exclusive m
 
-abbrev pub breaches_behind : List ℕ → (may_be_active may_be_exclusive : Bool) → List Modifier → List Breach
-breaches_behind text may_be_active may_be_exclusive [] = []
-breaches_behind text may_be_active may_be_exclusive (m ∷ ms) =
-    modifier_breach text may_be_active may_be_exclusive m
-    ++ breaches_behind text (may_be_active && not (is_active text m)) (may_be_exclusive && not (is_exclusive text m)) ms
+abbrev pub modifier_breach : List ℕ → (may_be_active may_be_exclusive may_have_priority : Bool) → Modifier → List Breach
+modifier_breach text may_be_active may_be_exclusive may_have_priority m =
+    if is_safe text m then breach 99 m.name.pos
+    else breach_unless (is_allowed text may_be_active may_be_exclusive may_have_priority m) 45 m.name.pos
 
--- those of a body that may be active or not
+abbrev pub breaches_behind : List ℕ → (may_be_active may_be_exclusive may_have_priority : Bool) → List Modifier → List Breach
+breaches_behind text may_be_active may_be_exclusive may_have_priority [] = []
+breaches_behind text may_be_active may_be_exclusive may_have_priority (m ∷ ms) =
+    modifier_breach text may_be_active may_be_exclusive may_have_priority m
+    ++ breaches_behind text (may_be_active && not (is_active text m)) (may_be_exclusive && not (is_exclusive text m))
+    (may_have_priority && not (is_priority text m)) ms
+
+-- those of a body or a block that may be active or not
 abbrev pub modifier_breaches : List ℕ → (may_be_active : Bool) → List Modifier → List Breach
-modifier_breaches text may_be_active ms = breaches_behind text may_be_active true ms
+modifier_breaches text may_be_active ms = breaches_behind text may_be_active true (takes_priority text may_be_active ms) ms
+
+-- The value of PRIORITY is a constant from 1 to 3, or else the modifier is refused; a value that breaks a rule itself breaks that one
+-- alone. A PRIORITY that may not stand there has been refused at itself, which is before its value.
+
+-- the priority that a constant names
+abbrev pub level_in : Class → Option Priority
+level_in c = option_and_then with_number (number_in c)
+
+-- of a value, with the first rule that it breaks itself
+abbrev pub level_breaches : Pos → Option Breach → Class → List Breach
+level_breaches at (Some own) c = breach own.rule own.pos
+level_breaches at None c = breach_unless (is_some (level_in c)) 45 at
+
+abbrev pub value_breaches : Env → Pos → Option TreeExpr → List Breach
+value_breaches e at None = []
+value_breaches e at (Some x) = level_breaches at (first_after None (expr e x).breaches) (expr e x).answer.known.class
+
+abbrev pub priority_breaches : Env → Modifier → List Breach
+priority_breaches e m = if is_priority e.here.text m then value_breaches e m.name.pos m.value else []
+
+-- those of a whole body
+abbrev pub body_breaches : Env → (may_be_active : Bool) → List Modifier → List Breach
+body_breaches e may_be_active ms = modifier_breaches e.here.text may_be_active ms ++ flat_map (priority_breaches e) ms
+
+-- the priority of the activities that carry out a body: that which its PRIORITY names, or else the normal one
+abbrev pub level_of : Env → Option TreeExpr → Priority
+level_of e None = Normal
+level_of e (Some x) = unwrap_or (level_in (expr e x).answer.known.class) Normal
+
+abbrev pub said_by : Env → Priority → Modifier → Priority
+said_by e before m = if is_priority e.here.text m then level_of e m.value else before
+
+abbrev pub said_in : Env → List Modifier → Priority
+said_in e ms = fold (said_by e) Normal ms
+
+abbrev pub priority_of : Env → Option TreeBlock → Priority
+priority_of e None = Normal
+priority_of e (Some b) = said_in e b.modifiers
 
 -- in an exclusive block, or in none
 abbrev pub in_region : (is_exclusive : Bool) → Env → Env
@@ -393,5 +444,5 @@ module _ (e : Env) where
 abbrev pub body_of : Env → Bool → Option TreeBlock → Judged (List Stat)
 body_of e may_be_active None = kept []
 body_of e may_be_active (Some b) =
-    bind (judged (modifier_breaches e.here.text may_be_active b.modifiers) []) (λ none.
+    bind (judged (body_breaches e may_be_active b.modifiers) []) (λ none.
     walk (stat_in (within_body b.modifiers e) false) none b.body.stats)

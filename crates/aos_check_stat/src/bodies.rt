@@ -5,7 +5,7 @@ ghost use Rattle.aos_typed.specs.Seen.{seen_stat, seen_stats};
 ghost use Rattle.aos_symbols.specs.Breaches.{first_after};
 ghost use Rattle.aos_check_stat.specs.Bodies as judge;
 
-use crate::modifiers::{are_exclusive, refuse_modifiers};
+use crate::modifiers::{are_exclusive, refuse_of_body};
 use crate::statements::stats_in;
 use aos_symbols::{Breach, Env};
 use aos_tree::Block;
@@ -34,7 +34,7 @@ pub fn body_of(
             let text = env.here.text();
             let modifiers = block.modifiers.as_slice();
             let exclusive = are_exclusive(text, modifiers);
-            refuse_modifiers(found, text, may_be_active, modifiers);
+            refuse_of_body(alloc, found, env, may_be_active, modifiers)?;
             let around = env.is_exclusive;
             env.is_exclusive = exclusive;
             let stats = stats_in(alloc, found, env, false, block.body.stats.as_slice())?;

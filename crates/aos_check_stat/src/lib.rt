@@ -11,4 +11,4 @@ mod statements;
 mod withs;
 
 pub use bodies::body_of;
-pub use modifiers::are_exclusive;
+pub use modifiers::{are_exclusive, priority_of};

@@ -1,6 +1,7 @@
 -- An image as a machine: its memory, its frames, and the turns of an activity.
 use Rattle.std.specs.Prelude.{ℕ, zero, suc, ℤ, pos, negsuc, ◌+◌, List, [], ◌∷◌, ◌++◌, length, take, drop, Bool, true, false, Option, Some, None, map, sum_by, nat_lt, nat_eq, if◌then◌else◌, is_some, option_and_then, option_map, slice_get}
 use Rattle.std.specs.List.{flat_map, list_all}
+use Rattle.std.specs.Option.{unwrap_or}
 use Rattle.aos_base.specs.declared.text.Pos.{Pos}
 use Rattle.aos_base.specs.declared.number.Relation.{Relation}
 use Rattle.aos_base.specs.declared.place.Root.{Root}
@@ -11,8 +12,11 @@ use Rattle.aos_base.specs.declared.kernel.LockName.{LockName}
 use Rattle.aos_base.specs.declared.kernel.LockName.TheVariants.{Module as ModuleLock, Object as ObjectLock}
 use Rattle.aos_base.specs.declared.kernel.Verdict.{Verdict}
 use Rattle.aos_base.specs.declared.kernel.Verdict.TheVariants.{Holds, Fails as HoldsNot, Traps}
+use Rattle.aos_base.specs.declared.priority.Priority.{Priority}
+use Rattle.aos_base.specs.declared.priority.Priority.TheVariants.{Normal}
 use Rattle.aos_base.specs.Number.{places_of, justified, holds, array_lengths}
 use Rattle.aos_base.specs.Operators.{natural, flag}
+use Rattle.aos_base.specs.Priority.{number_of, with_number}
 use Rattle.aos_base.specs.Text.{order, ended_within, cut_within}
 use Rattle.aos_base.specs.Book.{Where}
 use Rattle.aos_base.specs.Machine.{Turn, Machine, State, start_of}
@@ -420,6 +424,14 @@ abbrev pub object_frames : ℕ → Option TypeDesc → Frames
 object_frames o None = record { following = []; frames = [] }
 object_frames o (Some t) = record { following = []; frames = map (body_frame o) (bodies t.body) }
 
+-- the priority of the activities of a type's objects, by the number in its description; the normal one where no priority has that number
+abbrev pub level : ℕ → Priority
+level n = unwrap_or (with_number n) Normal
+
+abbrev pub object_priority : Option TypeDesc → Priority
+object_priority None = Normal
+object_priority (Some t) = level t.priority
+
 abbrev pub or_below : Option Pos → ℕ → Where → Where
 or_below None home below = below
 or_below (Some p) home below = record { module_ = home; pos = p }
@@ -545,6 +557,10 @@ module _ (image : Image) where
   abbrev pub body_of : Memory → ℕ → Frames
   body_of mem o = object_frames o (option_and_then (numbered image.types.items) (type_of_object o mem))
 
+  -- and the activity's priority
+  abbrev pub priority_of : Memory → ℕ → Priority
+  priority_of mem o = object_priority (option_and_then (numbered image.types.items) (type_of_object o mem))
+
   abbrev pub position_or : Where → List Frame → Where
   position_or none [] = none
   position_or none (f ∷ fs) = or_below f.at (home_of f.procedure) (position_or none fs)
@@ -592,7 +608,7 @@ module _ (image : Image) where
         regions = λ fs. regions_of fs.frames;
         position = position;
         body = body_of;
-        priority = λ mem o. 2;
+        priority = λ mem o. number_of (priority_of mem o);
         anew = λ fs. None;
       }
 

@@ -56,12 +56,22 @@ pub struct ModuleDesc {
 pub struct TypeDesc {
     /// The number of the type that it extends, 0 for none.
     pub base: u32,
+    /// How many cells an object has; of an open array, one element.
+    pub cells: u32,
     /// The kinds of an object's cells, in their order; of an open array those of one element.
     pub kinds: Vec<Kind>,
     /// The numbers of the procedures that are its methods, by their slots.
     pub methods: Vec<u32>,
+    /// The number of the procedure that is its objects' initializer, 0 for none.
+    pub init: u32,
     /// The number of the procedure that is its objects' body, 0 for none.
     pub body: u32,
+    /// Whether an activity of each object's own carries out that body; else its creator does.
+    pub active: bool,
+    /// The priority of such activities: 1, 2 or 3.
+    pub priority: u8,
+    /// Whether they begin anew after a trap.
+    pub safe: bool,
 }
 
 /// A program in code. Procedures are numbered from 1, and procedure p has shape and body p - 1; so are types. The

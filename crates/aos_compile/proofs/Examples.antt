@@ -4,6 +4,7 @@ use Rattle.std.specs.Str.Lossy.{utf8_lossy}
 use denote.Hole.Carrier.{out, shown, hidden}
 use Rattle.aos_tree.specs.declared.expr.Factor.TheBlock.{shown-the_row-Product-6, shown-the_row-Addition-5}
 use Rattle.aos_base.specs.declared.number.Width.TheVariants.{W32}
+use Rattle.aos_base.specs.declared.priority.Priority.TheVariants.{Normal}
 use Rattle.aos_base.specs.declared.text.Pos.{Pos}
 use Rattle.aos_tree.specs.declared.name.Name.{Name}
 use Rattle.aos_tree.specs.declared.expr.Expr.{Expr as TreeExpr, Expr', Expr-right-None', out-Expr}
@@ -207,6 +208,7 @@ an_object_of_another_module : elaborate (codes "MODULE A; IMPORT B; BEGIN NEW(B.
             home = 0;
             has_body = true;
             is_active = true;
+            priority = Normal;
             body = record { name = []; of = Some 0; is_initializer = false; parameters = []; locals = []; result = None; body = plain_body Nothing };
             methods = [];
           }

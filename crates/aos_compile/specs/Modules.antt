@@ -3,6 +3,8 @@
 use Rattle.std.specs.Prelude.{ℕ, suc, ◌+◌, List, [], ◌∷◌, ◌++◌, length, map, drop, Bool, true, false, Option, Some, None, is_some, option_map, option_and_then, slice_get}
 use Rattle.std.specs.List.{zip, list_any}
 use Rattle.std.specs.Str.Lossy.{utf8_lossy}
+use Rattle.aos_base.specs.declared.priority.Priority.{Priority}
+use Rattle.aos_base.specs.declared.priority.Priority.TheVariants.{Normal}
 use Rattle.aos_base.specs.declared.text.Pos.{Pos}
 use Rattle.aos_tree.specs.declared.name.Name.{Name}
 use Rattle.aos_tree.specs.declared.stat.Block.{Block}
@@ -37,7 +39,7 @@ use Rattle.aos_symbols.specs.Env as env
 use Rattle.aos_operators.specs.Known.{type_as, type_of}
 use Rattle.aos_check_decl.specs.Methods.{defined_type}
 use Rattle.aos_check_decl.specs.Pass.{declare}
-use Rattle.aos_check_stat.specs.Bodies.{listed, are_exclusive, body_of}
+use Rattle.aos_check_stat.specs.Bodies.{listed, are_exclusive, body_of, priority_of}
 
 -- the modules that are elaborated: what they declare, the types of all, and their programs
 pub record World : Type 0 where
@@ -77,23 +79,25 @@ body_with text b ss = record { is_exclusive = has_exclusive text b; statements =
 abbrev pub empty_body : Body
 empty_body = record { is_exclusive = false; statements = Nothing }
 
--- What a module says beside its types: a name, whether there is a body, whether that is active and that body, and the methods, each
--- with its slot. First stand those that the module's own declarations define; then those of its procedures and methods, and those that
--- are written elsewhere.
+-- What a module says beside its types: a name, whether there is a body, whether that is active, at which priority, and that body, and
+-- the methods, each with its slot. First stand those that the module's own declarations define; then those of its procedures and
+-- methods, and those that are written elsewhere.
 
 pub record Beside : Type 0 where
   pub name : List ℕ
   pub has_body : Bool
   pub is_active : Bool
+  pub priority : Priority
   pub body : Body
   pub methods : List Method
 
 -- a type that isn't an object type with a name
 abbrev pub local_type : Env → TypeDef → Beside
-local_type e d = record { name = spelling e.here.text d.def.name; has_body = false; is_active = false; body = empty_body; methods = [] }
+local_type e d =
+    record { name = spelling e.here.text d.def.name; has_body = false; is_active = false; priority = Normal; body = empty_body; methods = [] }
 
 abbrev pub unnamed_type : Pos → Beside
-unnamed_type at = record { name = []; has_body = false; is_active = false; body = empty_body; methods = [] }
+unnamed_type at = record { name = []; has_body = false; is_active = false; priority = Normal; body = empty_body; methods = [] }
 
 abbrev pub other_types : Env → Tree → List Beside
 other_types e m = map (local_type e) (local_types (all_procedures m.decls)) ++ map unnamed_type e.places
@@ -167,6 +171,7 @@ beside_in e first d (Some x) =
       name = spelling e.here.text d.def.name;
       has_body = is_some (object_body d.value);
       is_active = has_active e.here.text (object_body d.value);
+      priority = priority_of f (object_body d.value);
       body = body_with e.here.text (object_body d.value) (listed ss);
       methods = methods_of e first x.1 (methods_in d) bs;
     })))
@@ -215,6 +220,7 @@ object_of e k x =
       home = e.number;
       has_body = x.has_body;
       is_active = x.is_active;
+      priority = x.priority;
       body = body_beside (row_of e.types (id_of (Named k))) k x.body;
       methods = map (method_beside k) x.methods;
     }

@@ -27,6 +27,7 @@ seen_beside x =
       name = string_bytes x.name;
       has_body = x.has_body;
       is_active = x.is_active;
+      priority = x.priority;
       body = seen_body x.is_exclusive x.body.items;
       methods = map seen_method x.methods.items;
     }

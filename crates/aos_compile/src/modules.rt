@@ -301,6 +301,7 @@ fn object_of(
         name,
         has_body,
         is_active,
+        priority,
         is_exclusive,
         body,
         methods,
@@ -311,6 +312,7 @@ fn object_of(
         home: env.number,
         has_body,
         is_active,
+        priority,
         body: body_beside(alloc, row, number, is_exclusive, body)?,
         methods: methods_beside(alloc, number, methods)?,
     })

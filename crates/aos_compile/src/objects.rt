@@ -9,14 +9,14 @@ ghost use Rattle.aos_symbols.specs.Judged.{walk};
 ghost use Rattle.aos_symbols.specs.Declarations.{type_defs, procedures, methods_in, all_procedures as procedures_of_all, local_types as types_of_procedures, seen_procedures, seen_types};
 ghost use Rattle.aos_symbols.specs.Env as env_of;
 ghost use Rattle.aos_symbols.specs.Spelling.{is_active as is_active_modifier};
-ghost use Rattle.aos_check_stat.specs.Bodies.{body_of as body_of_env, listed};
+ghost use Rattle.aos_check_stat.specs.Bodies.{body_of as body_of_env, listed, priority_of as priority_of_env};
 ghost use Rattle.aos_compile.specs.Modules as judge;
 ghost use Rattle.aos_compile.specs.Seen.{seen_beside, seen_bodies};
 
 use crate::procedures::{first_scope, is_exclusive_body, procedures_of};
-use aos_base::Pos;
+use aos_base::{Pos, Priority};
 use aos_check_decl::defined_type;
-use aos_check_stat::body_of;
+use aos_check_stat::{body_of, priority_of};
 use aos_entries::{all_procedures, inner_decls, type_definitions};
 use aos_symbols::{Breach, Env, Home, ObjectScope, is_active, word};
 use aos_tree::{Block, Decl, Modifier, Module, Name, Proc, TypeDef, TypeExpr};
@@ -25,12 +25,13 @@ use aos_types::TypeId;
 use std::alloc::{AllocError, Global};
 
 /// What a module says beside one of its types: its name, which is empty where it has none, whether it has a body, whether that is
-/// active, whether it is exclusive, its statements, and its methods.
+/// active, at which priority, whether it is exclusive, its statements, and its methods.
 #[derive(Drop)]
 pub struct Beside {
     pub name: String,
     pub has_body: bool,
     pub is_active: bool,
+    pub priority: Priority,
     pub is_exclusive: bool,
     pub body: Vec<TStat>,
     pub methods: Vec<TMethod>,
@@ -137,8 +138,18 @@ fn procedure_bodies(
     Ok(bodies)
 }
 
-/// The statements of the body of a definition's object type, and those of its methods, of which the first has the scope with this
-/// number.
+/// The priority of the activities that carry out a type's body.
+fn object_priority(alloc: Global, env: &Env<'_>, of: &TypeExpr) -> Result<Priority, AllocError>
+    ensures { IfOk result (λ p. p ≡ priority_of_env env.now (judge.object_body of.now)) }
+{
+    match of {
+        TypeExpr::Object(_, _, _, body, _) => priority_of(alloc, env, body),
+        _ => Ok(Priority::Normal),
+    }
+}
+
+/// The statements of the body of a definition's object type, those of its methods, of which the first has the scope with this number,
+/// and the priority of the activities that carry out the body.
 #[tactic(auto, using(aos_symbols::proofs::Keeping::after_more))]
 fn bodies_within(
     alloc: Global,
@@ -147,7 +158,7 @@ fn bodies_within(
     of: TypeId,
     scope: u32,
     def: &TypeDef,
-) -> Result<(Vec<TStat>, Vec<Vec<TStat>>), AllocError>
+) -> Result<(Vec<TStat>, Vec<Vec<TStat>>, Priority), AllocError>
     ensures noted { OnOk result (found.new ≡ first_after found.old
         ((body_of_env (env_of.within_object env.old of) true (judge.object_body def.now.value)).breaches
         ++ (judge.bodies_from (env_of.within_object env.old of) scope [] (methods_in def.now)).breaches)) }
@@ -155,15 +166,18 @@ fn bodies_within(
         (body_of_env (env_of.within_object env.old of) true (judge.object_body def.now.value)).answer) }
     ensures methods { IfOk result (λ r. map (λ ss. seen_stats ss.items) r.1.items ≡
         (judge.bodies_from (env_of.within_object env.old of) scope [] (methods_in def.now)).answer) }
+    ensures priority { IfOk result (λ r. r.2 ≡
+        priority_of_env (env_of.within_object env.old of) (judge.object_body def.now.value)) }
     ensures env { OnOk result (env.new ≡ env.old) }
 {
     let self_type = env.self_type;
     let outer = env.enter_object(alloc, of)?;
+    let priority = object_priority(alloc, env, &def.value)?;
     let body = statements_of(alloc, found, env, &def.value)?;
     let methods = procedure_bodies(alloc, found, env, scope, inner_decls(&def.value))?;
     env.path = outer;
     env.self_type = self_type;
-    Ok((body, methods))
+    Ok((body, methods, priority))
 }
 
 /// Procedures as the methods that an object type declares, in their order.
@@ -268,12 +282,13 @@ fn object_beside(
 {
     let scope = number_at(first, object.methods)?;
     let name = spelling_of(alloc, env.here.text(), def.def.name)?;
-    let (body, bodies) = bodies_within(alloc, found, env, of, scope, def)?;
+    let (body, bodies, priority) = bodies_within(alloc, found, env, of, scope, def)?;
     let methods = methods_of(alloc, env, first, object, inner_decls(&def.value), bodies)?;
     Ok(Beside {
         name,
         has_body: has_body(&def.value),
         is_active: has_active(env.here.text(), &def.value),
+        priority,
         is_exclusive: has_exclusive(env.here.text(), &def.value),
         body,
         methods,
@@ -288,6 +303,7 @@ fn local_type(alloc: Global, env: &Env<'_>, def: &TypeDef) -> Result<Beside, All
         name: spelling_of(alloc, env.here.text(), def.def.name)?,
         has_body: false,
         is_active: false,
+        priority: Priority::Normal,
         is_exclusive: false,
         body: Vec::new(alloc),
         methods: Vec::new(alloc),
@@ -405,6 +421,7 @@ fn add_unnamed(alloc: Global, objects: &mut Vec<Beside>, places: &[Pos]) -> Resu
             name: String::new(alloc),
             has_body: false,
             is_active: false,
+            priority: Priority::Normal,
             is_exclusive: false,
             body: Vec::new(alloc),
             methods: Vec::new(alloc),

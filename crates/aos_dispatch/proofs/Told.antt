@@ -7,6 +7,7 @@ use Rattle.std.proofs.lemmas.Bool.{true≢false}
 use Rattle.std.proofs.lemmas.List.{length-map}
 use Rattle.std.proofs.lemmas.List.FromFn.{map-range_with_len_more, length-map-range_with_len, get_or-map-range_with_len}
 use Rattle.std.proofs.lemmas.Option.{slice_get-map, slice_get_within, slice_get-get_or}
+use Rattle.aos_base.specs.declared.priority.Priority.TheVariants.{Normal}
 use Rattle.aos_typed.specs.declared.tree.TObject.{TObject}
 use Rattle.aos_typed.specs.declared.tree.Program.{Program as TProgram}
 use Rattle.aos_typed.specs.Methods.{base_type, or_base, nearest_by, nearest, initial_slot, methods_in, body_type, initializer}
@@ -14,7 +15,7 @@ use Rattle.aos_typed.specs.Program.{ObjectType, Program}
 use Rattle.aos_typed.specs.Seen.{seen_object, seen_program}
 use Rattle.aos_dispatch.specs.declared.nearest.Asked.{Asked}
 use Rattle.aos_dispatch.specs.declared.nearest.Asked.TheVariants.{Body, Initializer}
-use Rattle.aos_dispatch.specs.Dispatch.{active_of}
+use Rattle.aos_dispatch.specs.Dispatch.{active_of, priority_of}
 use Rattle.aos_dispatch.specs.Nearest.{told_at, told_of, told_by, tells_some, AreNearest}
 
 -- a step along a chain, of which as many types are left as there are behind number i
@@ -102,6 +103,14 @@ pub active_is : (os : List TObject) (t : ℕ) → active_of (slice_get os t) ≡
 active_is os t = by (slice_get os t) ∙ ap (λ o. unwrap_or (option_map (λ (x : ObjectType). x.is_active) o) false) (sym (slice_get-map seen_object os t))
   where
     by : (o : Option TObject) → active_of o ≡ unwrap_or (option_map (λ (x : ObjectType). x.is_active) (option_map seen_object o)) false
+    by None = refl
+    by (Some x) = refl
+
+-- and the priority of these
+pub priority_is : (os : List TObject) (t : ℕ) → priority_of (slice_get os t) ≡ unwrap_or (option_map (λ (o : ObjectType). o.priority) (slice_get (map seen_object os) t)) Normal
+priority_is os t = by (slice_get os t) ∙ ap (λ o. unwrap_or (option_map (λ (x : ObjectType). x.priority) o) Normal) (sym (slice_get-map seen_object os t))
+  where
+    by : (o : Option TObject) → priority_of o ≡ unwrap_or (option_map (λ (x : ObjectType). x.priority) (option_map seen_object o)) Normal
     by None = refl
     by (Some x) = refl
 

@@ -3,6 +3,8 @@ use Rattle.std.specs.Prelude.{◌≡◌, ◌≤◌, ◌^◌, ℕ, suc, ◌+◌, 
 use Rattle.std.specs.List.{range_with_len}
 use Rattle.std.specs.declared.vec.Vec.{Vec}
 use Rattle.std.specs.declared.alloc.Global.{Global}
+use Rattle.aos_base.specs.declared.priority.Priority.{Priority}
+use Rattle.aos_base.specs.declared.priority.Priority.TheVariants.{Normal}
 use Rattle.aos_types.specs.declared.row.TypeId.{TypeId}
 use Rattle.aos_types.specs.declared.row.TypeRow.{TypeRow}
 use Rattle.aos_typed.specs.declared.tree.TObject.{TObject}
@@ -51,3 +53,8 @@ there_in rows t = if nat_lt (id_of t).0 (length rows) then Some (id_of t) else N
 abbrev pub active_of : Option TObject → Bool
 active_of None = false
 active_of (Some o) = o.is_active
+
+-- and their priority
+abbrev pub priority_of : Option TObject → Priority
+priority_of None = Normal
+priority_of (Some o) = o.priority

@@ -7,12 +7,12 @@ ghost use Rattle.aos_types.specs.Table as table;
 ghost use Rattle.aos_types.specs.Table.{row_of};
 ghost use Rattle.aos_typed.specs.declared.tree.TType.TheVariants.{Named};
 ghost use Rattle.aos_typed.specs.Fields as fields;
-ghost use Rattle.aos_typed.specs.Methods.{body_type, initializer, is_active, method_number, own_numbers, slots};
+ghost use Rattle.aos_typed.specs.Methods.{body_type, initializer, is_active, method_number, own_numbers, own_priority, slots};
 ghost use Rattle.aos_typed.specs.Numbers.{body_number, id_of, procedure_number};
 ghost use Rattle.aos_typed.specs.Routines.{routines};
 ghost use Rattle.aos_typed.specs.Seen.{seen_program};
 ghost use Rattle.aos_typed.specs.WellTyped.{IsWellTyped};
-ghost use Rattle.aos_dispatch.specs.Dispatch.{active_of};
+ghost use Rattle.aos_dispatch.specs.Dispatch.{active_of, priority_of};
 ghost use Rattle.aos_dispatch.specs.Routines.{seen_routines};
 
 use crate::chains::{comes_to, declarer, is_object};
@@ -21,6 +21,7 @@ use crate::nearest::{Asked, nearest_of_each, told_in};
 use crate::numbers::{after, first_number, firsts_of, method_firsts, next, number_at};
 use crate::routines::{Routine, routines_of};
 use crate::types::type_in;
+use aos_base::Priority;
 use aos_typed::{Program, TObject, TType};
 use aos_types::Types;
 use std::alloc::{AllocError, Global};
@@ -80,6 +81,16 @@ fn active_in(objects: &[TObject], of: u32) -> bool
     match objects.get(of as usize) {
         Some(object) => object.is_active,
         None => false,
+    }
+}
+
+// The priority of those activities.
+fn priority_in(objects: &[TObject], of: u32) -> Priority
+    ensures { result ≡ priority_of (slice_get objects.now of) }
+{
+    match objects.get(of as usize) {
+        Some(object) => object.priority,
+        None => Priority::Normal,
     }
 }
 
@@ -201,6 +212,13 @@ impl<'a> Dispatch<'a> {
         ensures { result ≡ is_active (seen_program self.now) of }
     {
         active_in(&self.program.objects, of)
+    }
+
+    /// The priority of the activities that carry out the body of a type, by the type's number in the program.
+    pub fn priority(&self, of: u32) -> Priority
+        ensures { result ≡ own_priority (seen_program self.now) of }
+    {
+        priority_in(&self.program.objects, of)
     }
 
     /// The number of the body beside a type, by the type's number in the program.

@@ -1,5 +1,5 @@
 -- What describes the modules and the types of a program, one more of them, and all.
-use Rattle.std.proofs.Common.{◌≡◌, ◌<◌, ℕ, zero, suc, ◌+◌, List, [], ◌∷◌, ◌++◌, Some, Option, length, map, take, drop, get_or, refl, sym, ap, ◌∙◌, subst, arith}
+use Rattle.std.proofs.Common.{◌≡◌, ◌<◌, ℕ, zero, suc, ◌+◌, List, [], ◌∷◌, ◌++◌, false, Some, Option, length, map, take, drop, get_or, refl, sym, ap, ◌∙◌, subst, arith}
 use Rattle.std.specs.Prelude.{slice_get}
 use Rattle.std.specs.List.{flat_map, range_with_len}
 use Rattle.std.specs.String.{string_bytes}
@@ -19,7 +19,7 @@ use Rattle.aos_code.specs.declared.image.TypeDesc.{TypeDesc}
 use Rattle.aos_layout.specs.Layout.{variable_cells}
 use Rattle.aos_dispatch.proofs.Lists.{more, more_of, next_of, count_of}
 use Rattle.aos_sim.specs.Shows.{numbers_from, text_cells, first_cells, base_number}
-use Rattle.aos_image.specs.Made.{body_at, base_at, kinds_at, methods_at, AreModules, AreTypesOf}
+use Rattle.aos_image.specs.Made.{active_at, base_at, body_at, initial_at, kinds_at, methods_at, priority_at, AreModules, IsTypeOf, AreTypesOf}
 
 numbers-append : {A : Type 0} (k : ℕ) (xs : List A) (x : A) → numbers_from k (xs ++ x ∷ []) ≡ numbers_from k xs ++ (k + length xs) ∷ []
 numbers-append k [] x = let e : k ≡ k + 0 = omega arith in ap (λ n. n ∷ []) e
@@ -48,13 +48,18 @@ module _ (p : Program) where
       }))
 
 -- one more type
-pub type_more : (p : Program) (k j : ℕ) (ts ts' : List TypeDesc) (t : TypeDesc) → predeclared_types + k ≡ j → ts' ≡ ts ++ t ∷ [] → t.body ≡ body_at p k → t.base ≡ base_at p j → t.kinds.items ≡ kinds_at p j → t.methods.items ≡ methods_at p k → AreTypesOf p k ts → AreTypesOf p (k + 1) ts'
-type_more p k j ts ts' t number is body base kinds methods h =
+pub type_more : (p : Program) (k j : ℕ) (ts ts' : List TypeDesc) (t : TypeDesc) → predeclared_types + k ≡ j → ts' ≡ ts ++ t ∷ [] → IsTypeOf p k j t → AreTypesOf p k ts → AreTypesOf p (k + 1) ts'
+type_more p k j ts ts' t number is one h =
     subst (λ l. AreTypesOf p (k + 1) l) (sym is) (record {
-      bodies = more (λ (x : TypeDesc). x.body) ts _ t (body_at p k) h.bodies body ∙ sym (map-range_with_len_more (body_at p) 0 k k (omega arith));
-      methods = more (λ (x : TypeDesc). x.methods.items) ts _ t (methods_at p k) h.methods methods ∙ sym (map-range_with_len_more (methods_at p) 0 k k (omega arith));
-      bases = more (λ (x : TypeDesc). x.base) ts _ t (base_at p j) h.bases base ∙ sym (map-range_with_len_more (base_at p) predeclared_types k j number);
-      kinds = more (λ (x : TypeDesc). x.kinds.items) ts _ t (kinds_at p j) h.kinds kinds ∙ sym (map-range_with_len_more (kinds_at p) predeclared_types k j number);
+      bases = more (λ (x : TypeDesc). x.base) ts _ t (base_at p j) h.bases one.base ∙ sym (map-range_with_len_more (base_at p) predeclared_types k j number);
+      counts = more_of (λ (x : TypeDesc). x.cells) (λ (x : TypeDesc). length x.kinds.items) ts ts t t h.counts one.cells;
+      kinds = more (λ (x : TypeDesc). x.kinds.items) ts _ t (kinds_at p j) h.kinds one.kinds ∙ sym (map-range_with_len_more (kinds_at p) predeclared_types k j number);
+      methods = more (λ (x : TypeDesc). x.methods.items) ts _ t (methods_at p k) h.methods one.methods ∙ sym (map-range_with_len_more (methods_at p) 0 k k (omega arith));
+      initials = more (λ (x : TypeDesc). x.init) ts _ t (initial_at p k) h.initials one.initial ∙ sym (map-range_with_len_more (initial_at p) 0 k k (omega arith));
+      bodies = more (λ (x : TypeDesc). x.body) ts _ t (body_at p k) h.bodies one.body ∙ sym (map-range_with_len_more (body_at p) 0 k k (omega arith));
+      actives = more (λ (x : TypeDesc). x.active) ts _ t (active_at p k) h.actives one.active ∙ sym (map-range_with_len_more (active_at p) 0 k k (omega arith));
+      priorities = more (λ (x : TypeDesc). x.priority) ts _ t (priority_at p k) h.priorities one.priority ∙ sym (map-range_with_len_more (priority_at p) 0 k k (omega arith));
+      safes = more_of (λ (x : TypeDesc). x.safe) (λ (x : TypeDesc). false) ts ts t t h.safes one.safe;
     })
 
 -- what is behind the first elements of a list, by its numbers in the list

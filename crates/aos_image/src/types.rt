@@ -1,22 +1,32 @@
 // The types of an image: their bases, the kinds of their objects' cells, their methods by slots, and what their objects carry out.
 
-ghost use Rattle.std.specs.Prelude.{◌≡◌, ◌<◌, ◌≤◌, ◌^◌, ◌∷◌, [], ◌++◌, length, IfOk, OnOk};
+ghost use Rattle.std.specs.Prelude.{◌≡◌, ◌<◌, ◌≤◌, ◌^◌, ◌∷◌, [], ◌++◌, false, length, IfOk, OnOk};
 ghost use Rattle.aos_types.specs.Chain.{NoneContainsItself};
 ghost use Rattle.aos_types.specs.Table.{row_of, base_of};
 ghost use Rattle.aos_typed.specs.Seen.{seen_program};
 ghost use Rattle.aos_typed.specs.WellTyped.{IsWellTyped};
 ghost use Rattle.aos_layout.specs.Marks.{AreMade};
 ghost use Rattle.aos_sim.specs.Shows.{made_kinds, base_number};
-ghost use Rattle.aos_image.specs.Made.{AreTypesOf, body_at};
+ghost use Rattle.aos_image.specs.Made.{AreTypesOf, active_at, body_at, initial_at, priority_at};
 
 use aos_base::NoMemory;
-use aos_code::TypeDesc;
+use aos_code::{Kind, TypeDesc};
 use aos_dispatch::PREDECLARED_TYPES;
 use aos_laid::Laid;
 use aos_layout::{base_number, made_kinds, made_types};
 use aos_typed::Program;
 use aos_types::{TypeId, Types};
 use std::alloc::{AllocError, Global};
+
+// How many kinds these are.
+fn count_of(kinds: &[Kind]) -> Result<u32, AllocError>
+    ensures { IfOk result (λ n. n ≡ length kinds.now) }
+{
+    match u32::try_from(kinds.len()) {
+        Ok(count) => Ok(count),
+        Err(_) => Err(AllocError),
+    }
+}
 
 // Numbers behind others.
 fn copy_of(alloc: Global, numbers: &[u32]) -> Result<Vec<u32>, AllocError>
@@ -27,30 +37,52 @@ fn copy_of(alloc: Global, numbers: &[u32]) -> Result<Vec<u32>, AllocError>
     Ok(copy)
 }
 
-// The description of a type, which has these methods, and whose objects' body is the procedure of this number.
+// What the objects of a type carry out: their initializer and their body, by the numbers of the procedures, 0 for none; whether the
+// body is active, and the number of the priority of its activities.
+#[derive(Clone, Copy)]
+struct Carried {
+    init: u32,
+    body: u32,
+    active: bool,
+    priority: u8,
+}
+
+// The description of a type, which has these methods, and whose objects carry this out. More kinds than there are numbers of 32 bits
+// are in no well-typed program: there is no memory for them.
 fn describe_type(
     alloc: Global,
     types: &Types,
     made: &[bool],
     of: TypeId,
     methods: &[u32],
-    body: u32,
+    carried: Carried,
 ) -> Result<TypeDesc, NoMemory>
     requires none_contains_itself { NoneContainsItself types.now }
     requires there { of.0 < length types.now }
     requires made { AreMade types.now made.now }
     ensures base { IfOk result (λ d. d.base ≡ base_number (base_of (row_of types.now of))) }
+    ensures cells { IfOk result (λ d. d.cells ≡ length d.kinds.items) }
     ensures kinds { IfOk result (λ d. d.kinds.items ≡ made_kinds types.now of) }
     ensures methods { IfOk result (λ d. d.methods.items ≡ methods.now) }
-    ensures start { IfOk result (λ d. d.body ≡ body) }
+    ensures initial { IfOk result (λ d. d.init ≡ carried.init) }
+    ensures start { IfOk result (λ d. d.body ≡ carried.body) }
+    ensures active { IfOk result (λ d. d.active ≡ carried.active) }
+    ensures priority { IfOk result (λ d. d.priority ≡ carried.priority) }
+    ensures safe { IfOk result (λ d. d.safe ≡ false) }
 {
     let kinds = made_kinds(alloc, types, made, of)?;
+    let cells = count_of(&kinds)?;
     let methods = copy_of(alloc, methods)?;
     Ok(TypeDesc {
         base: base_number(types, of),
+        cells,
         kinds,
         methods,
-        body,
+        init: carried.init,
+        body: carried.body,
+        active: carried.active,
+        priority: carried.priority,
+        safe: false,
     })
 }
 
@@ -73,6 +105,57 @@ fn body_of(laid: &Laid<'_>, of: u32) -> Result<u32, AllocError>
     Ok(number)
 }
 
+// The number of the initializer that the objects of a type have, 0 where they have none.
+fn initializer_of(laid: &Laid<'_>, of: u32) -> Result<u32, AllocError>
+    ensures { IfOk result (λ n. n ≡ initial_at (seen_program laid.now) of) }
+{
+    let Some(slot) = laid.initializer(of)? else {
+        return Ok(0);
+    };
+    let number = laid.method(of, slot)?;
+    Ok(number)
+}
+
+// Whether the body that the objects of a type have is active.
+fn active_of(laid: &Laid<'_>, of: u32) -> Result<bool, AllocError>
+    ensures { IfOk result (λ b. b ≡ active_at (seen_program laid.now) of) }
+{
+    let Some(t) = laid.body_type(of)? else {
+        return Ok(false);
+    };
+    Ok(laid.is_active(t))
+}
+
+// The number of the priority of the activities that carry out that body, 2 where there is none.
+fn priority_of(laid: &Laid<'_>, of: u32) -> Result<u8, AllocError>
+    ensures { IfOk result (λ n. n ≡ priority_at (seen_program laid.now) of) }
+{
+    let Some(t) = laid.body_type(of)? else {
+        return Ok(2);
+    };
+    let priority = laid.priority(t);
+    Ok(priority.number())
+}
+
+// What the objects of a type carry out.
+fn carried_of(laid: &Laid<'_>, of: u32) -> Result<Carried, AllocError>
+    ensures initial { IfOk result (λ c. c.init ≡ initial_at (seen_program laid.now) of) }
+    ensures start { IfOk result (λ c. c.body ≡ body_at (seen_program laid.now) of) }
+    ensures active { IfOk result (λ c. c.active ≡ active_at (seen_program laid.now) of) }
+    ensures priority { IfOk result (λ c. c.priority ≡ priority_at (seen_program laid.now) of) }
+{
+    let init = initializer_of(laid, of)?;
+    let body = body_of(laid, of)?;
+    let active = active_of(laid, of)?;
+    let priority = priority_of(laid, of)?;
+    Ok(Carried {
+        init,
+        body,
+        active,
+        priority,
+    })
+}
+
 /// The types that a program names. The body of a type's objects is that of its nearest base that has one, itself first.
 pub fn types_of(
     alloc: Global,
@@ -89,10 +172,10 @@ pub fn types_of(
     let made = made_types(alloc, &program.types)?;
     let mut types = Vec::new(alloc);
     for number in 0..program.objects.len() {
-        let body = body_of(laid, number as u32)?;
+        let carried = carried_of(laid, number as u32)?;
         let methods = laid.methods(number as u32);
         let of = TypeId(number as u32 + PREDECLARED_TYPES);
-        let one = describe_type(alloc, &program.types, &made, of, methods, body)?;
+        let one = describe_type(alloc, &program.types, &made, of, methods, carried)?;
         put_type(&mut types, one)?;
     }
     Ok(types)

@@ -10,6 +10,7 @@ use Rattle.aos_base.specs.declared.kernel.LockName.{LockName}
 use Rattle.aos_base.specs.declared.kernel.Did.{Did}
 use Rattle.aos_base.specs.declared.kernel.Did.TheVariants.{Went, Ended, Enter, Leave, Await, Start, Trapped}
 use Rattle.aos_base.specs.declared.text.Pos.{Pos}
+use Rattle.aos_base.specs.declared.priority.Priority.{Priority}
 use Rattle.aos_base.specs.Rooted.{Made}
 use Rattle.aos_base.specs.Lock.{Wants, Entry, Condition}
 use Rattle.aos_base.specs.Book as book
@@ -29,7 +30,6 @@ use Rattle.aos_cpu.proofs.Growing.{turn_grows}
 use Rattle.aos_cpu.specs.Turns.{where_in, Alike, Shown, Rests, IsBefore, WhereLeft}
 use Rattle.std.specs.Option.{option_map}
 use Rattle.aos_ready.specs.Order.{number_of}
-use Rattle.aos_ready.specs.declared.ready.Priority.TheVariants.{Normal}
 use Rattle.aos_line.specs.declared.line.Line.{Line}
 use Rattle.aos_line.specs.Stands.{Stands, IsOn, started_of}
 use Rattle.aos_line.proofs.Readings.{place-moved, place-unmoved, place-gone, place-other}
@@ -499,20 +499,20 @@ shows_known image earlier d st activities stack same room h =
       unspent = h.unspent;
     }
 
--- a new activity is ready
-pub shows_born : (image : Image) (earlier : List Event) (d : Desk) (st : State Memory Frames) (n : ℕ) (activities : Vec Activity Global) (line : Line) (events : Vec Event Global) (locks : Vec LockName Global) (frames : Kept) (fs : Frames) →
-    n ≡ length d.activities.items → n < 65536 → activities.items ≡ d.activities.items ++ record { priority = Normal; next = Runs; condition = 0; locks = locks; frames = frames } ∷ [] → Stands line (move n (book.Ready 2) st.book.line) st.book.owner → started_of line ≡ suc (started_of d.line) → events.items ≡ d.events.items ++ event.Start n ∷ [] →
+-- a new activity is ready at this priority
+pub shows_born : (image : Image) (earlier : List Event) (d : Desk) (st : State Memory Frames) (p : Priority) (n : ℕ) (activities : Vec Activity Global) (line : Line) (events : Vec Event Global) (locks : Vec LockName Global) (frames : Kept) (fs : Frames) →
+    n ≡ length d.activities.items → n < 65536 → activities.items ≡ d.activities.items ++ record { priority = p; next = Runs; condition = 0; locks = locks; frames = frames } ∷ [] → Stands line (move n (book.Ready (number_of p)) st.book.line) st.book.owner → started_of line ≡ suc (started_of d.line) → events.items ≡ d.events.items ++ event.Start n ∷ [] →
     frames.begun ≡ 0 → Alike image (made_in image (memory_in d.store)) fs (frames_in frames) → Shows image earlier d st →
-    Shows image earlier (record d { activities = activities; line = line; events = events }) (on_book (born 2) (with_frames st.book.started fs st))
+    Shows image earlier (record d { activities = activities; line = line; events = events }) (on_book (born (number_of p)) (with_frames st.book.started fs st))
 unfolding born
-shows_born image earlier d st n activities line events locks frames fs count few is moved more told none alike h =
+shows_born image earlier d st p n activities line events locks frames fs count few is moved more told none alike h =
     let k = st.book.started in
     let same : k ≡ n = h.started ∙ sym count in
-    let new : Activity = record { priority = Normal; next = Runs; condition = 0; locks = locks; frames = frames } in
-    let act : book.Activity = record { priority = 2; begun = 0; restarts = 0; next = book.Runs } in
+    let new : Activity = record { priority = p; next = Runs; condition = 0; locks = locks; frames = frames } in
+    let act : book.Activity = record { priority = number_of p; begun = 0; restarts = 0; next = book.Runs } in
     record {
       store = h.store;
-      stands = subst (λ j. Stands line (move j (book.Ready 2) st.book.line) st.book.owner) (sym same) moved;
+      stands = subst (λ j. Stands line (move j (book.Ready (number_of p)) st.book.line) st.book.owner) (sym same) moved;
       output = h.output;
       traps = h.traps;
       events = one_more image earlier d st h events (event.Start k) (told ∙ ap (λ j. d.events.items ++ event.Start j ∷ []) (sym same));
@@ -523,7 +523,7 @@ shows_born image earlier d st n activities line events locks frames fs count few
       counted = more ∙ ap suc h.counted ∙ sym (ap length is ∙ added d.activities.items new);
       activities = each_joined image (made_in image (memory_in d.store)) d.activities.items activities.items st.book.activity st.frames k new act fs h.started is (record { priority = refl; begun = sym none; next = refl; frames = alike }) h.activities;
       room = h.room;
-      waiting = waits_after image d.activities.items activities.items st.book.line (move k (book.Ready 2) st.book.line) st.frames (put nat_eq st.frames k fs) k (λ l wants at kept is'. absurd (no_wait (book.Ready 2) _ (place-moved k (book.Ready 2) st.book.line) refl l wants at)) (λ x ne. place-unmoved k x (book.Ready 2) st.book.line ne)
+      waiting = waits_after image d.activities.items activities.items st.book.line (move k (book.Ready (number_of p)) st.book.line) st.frames (put nat_eq st.frames k fs) k (λ l wants at kept is'. absurd (no_wait (book.Ready (number_of p)) _ (place-moved k (book.Ready (number_of p)) st.book.line) refl l wants at)) (λ x ne. place-unmoved k x (book.Ready (number_of p)) st.book.line ne)
           (λ x kept ne at. get_before d.activities.items new x kept (λ z. ne (z ∙ sym h.started)) (sym (ap (λ xs. slice_get xs x) is) ∙ at)) (λ x ne. put_other st.frames k fs x ne) h.waiting;
       unspent = λ x spends. each_at (λ y. (put nat_eq st.book.activity k act y).begun < st.book.budget) k
           (subst (λ (y : book.Activity). y.begun < st.book.budget) (sym (put_same st.book.activity k act)) (positive (st.book.activity 0).begun st.book.budget (h.unspent 0 spends)))

@@ -3,16 +3,15 @@ ghost use Rattle.std.specs.Prelude.{◌≡◌, ◌≤◌, ◌^◌, ℕ, [], Opti
 ghost use Rattle.std.specs.declared.alloc.Global.{Global};
 ghost use Rattle.aos_base.specs.declared.kernel.LockName.{LockName};
 ghost use Rattle.aos_base.specs.Rooted.{Made as MadeAs};
-ghost use Rattle.aos_code.specs.Machine.{Frames as FramesOf, bodies, body_frame, body_of, position, regions_of};
+ghost use Rattle.aos_code.specs.Machine.{Frames as FramesOf, bodies, body_frame, body_of, level, position, priority_of as priority_in, regions_of};
 ghost use Rattle.aos_store.specs.declared.frames.Frames.{Frames as KeptFrames};
 ghost use Rattle.aos_store.specs.Store.{frames_in, memory_in};
 ghost use Rattle.aos_cpu.specs.Turns.{where_in, Alike};
 ghost use Rattle.aos_kernel.specs.Shows.{IsPopped, IsEmptied};
 
-use aos_base::{LockName, NoMemory, Pos};
+use aos_base::{LockName, NoMemory, Pos, Priority};
 use aos_code::Image;
 use aos_cpu::{begin_body, numbered, position as position_of};
-use aos_ready::Priority;
 use aos_store::{Frames, Store};
 use aos_trap::unwind;
 use std::alloc::Global;
@@ -122,6 +121,26 @@ pub fn frames_of_object(
         begin_body(alloc, image, &mut frames, object, body)?;
     }
     Ok(frames)
+}
+
+/// The priority that a type's description names by a number; the normal one where the number is no priority's.
+fn priority_with(number: u8) -> Priority
+    ensures { result ≡ level number }
+{
+    Priority::with_number(u32::from(number)).unwrap_or(Priority::Normal)
+}
+
+/// The priority of an object's activities.
+pub fn priority_of_object(image: &Image, store: &Store, object: u32) -> Priority
+    ensures { result ≡ priority_in image.now (memory_in store.now) object }
+{
+    match store.type_of(object) {
+        None => Priority::Normal,
+        Some(of) => match numbered(&image.types, of) {
+            None => Priority::Normal,
+            Some(desc) => priority_with(desc.priority),
+        },
+    }
 }
 
 /// An activity has trapped: these locks are to be released.

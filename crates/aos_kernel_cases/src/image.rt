@@ -3,7 +3,7 @@
 use crate::assembly::code_of;
 use crate::shape::shape_of;
 use crate::stop::Stop;
-use crate::word::{index_of, kind_of, number_of};
+use crate::word::{byte_of, index_of, kind_of, number_of};
 use aos_cases::Section;
 use aos_code::{Body, Cell, Image, Kind, ModuleDesc, TypeDesc};
 use std::alloc::Global;
@@ -76,20 +76,30 @@ fn indices_of(alloc: Global, text: &str) -> Result<Vec<u32>, Stop> {
     Ok(indices)
 }
 
-// A type: the number of its body, the kinds of its cells, the type that it extends, and its methods, as in
-// `0 n r; extends 2; methods 12 13`.
+// A type: the number of its body, the kinds of its cells, the type that it extends, its methods, and the priority of its objects'
+// activities, as in `0 n r; extends 2; methods 12 13; priority 3`.
 fn type_of(alloc: Global, text: &str) -> Result<TypeDesc, Stop> {
+    let (text, priority) = text.split_once("; priority ").unwrap_or((text, "2"));
     let (text, methods) = text.split_once("; methods ").unwrap_or((text, ""));
     let (text, base) = text.split_once("; extends ").unwrap_or((text, "0"));
     let (body, kinds) = text.split_once(' ').unwrap_or((text, ""));
     let (Some(body), Some(base)) = (index_of(body), index_of(base)) else {
         return Err(Stop::Malformed("malformed: a type has no body's number"));
     };
+    let Some(priority) = byte_of(priority) else {
+        return Err(Stop::Malformed("malformed: a priority is a number below 256"));
+    };
+    let kinds = kinds_of(alloc, kinds)?;
     Ok(TypeDesc {
         base,
-        kinds: kinds_of(alloc, kinds)?,
+        cells: u32::try_from(kinds.len()).unwrap_or(0),
+        kinds,
         methods: indices_of(alloc, methods)?,
+        init: 0,
         body,
+        active: body != 0,
+        priority,
+        safe: false,
     })
 }
 

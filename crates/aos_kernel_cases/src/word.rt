@@ -49,6 +49,11 @@ pub fn index_of(word: &str) -> Option<u32> {
     u32::try_from(number_of(word)?).ok()
 }
 
+/// The number below 256 that a word writes.
+pub fn byte_of(word: &str) -> Option<u8> {
+    u8::try_from(number_of(word)?).ok()
+}
+
 /// The number of something that the next word writes.
 pub fn next_index(words: &mut SplitWhitespace) -> Option<u32> {
     index_of(words.next()?)

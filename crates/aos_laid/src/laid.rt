@@ -10,14 +10,14 @@ ghost use Rattle.aos_types.specs.Shape as shape;
 ghost use Rattle.aos_types.specs.Table.{is_procedure, row_of};
 ghost use Rattle.aos_types.specs.Contents.{contents, variable_scalars};
 ghost use Rattle.aos_code.specs.Silent.{kinds_of as kinds_handed};
-ghost use Rattle.aos_typed.specs.Methods.{body_type, initializer, is_active, method_number, own_numbers, slots};
+ghost use Rattle.aos_typed.specs.Methods.{body_type, initializer, is_active, method_number, own_numbers, own_priority, slots};
 ghost use Rattle.aos_typed.specs.Numbers.{body_number, id_of, procedure_number};
 ghost use Rattle.aos_typed.specs.Routines.{parameters_at};
 ghost use Rattle.aos_typed.specs.Source.{module_shape};
 ghost use Rattle.aos_laid.specs.Laid.{AreBlocks, AreNarrow, cell_in, variables_in, module_kinds};
 
 use crate::handed::taken_by;
-use aos_base::NoMemory;
+use aos_base::{NoMemory, Priority};
 use aos_code::Kind;
 use aos_dispatch::{Dispatch, type_in};
 use aos_layout::{BlockShape, FrameShape, block_shape, frame_shape, offset, width};
@@ -273,6 +273,13 @@ impl<'a> Laid<'a> {
         ensures { result ≡ is_active (seen_program self.now) of }
     {
         self.dispatch.is_active(of)
+    }
+
+    /// The priority of the activities that carry out the body of a type, by the type's number in the program.
+    pub fn priority(&self, of: u32) -> Priority
+        ensures { result ≡ own_priority (seen_program self.now) of }
+    {
+        self.dispatch.priority(of)
     }
 
     /// The number of the body beside a type, by the type's number in the program.

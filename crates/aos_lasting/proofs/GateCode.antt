@@ -6,7 +6,7 @@ use Rattle.std.specs.declared.alloc.Global.{Global}
 use Rattle.std.specs.declared.vec.Vec.{Vec}
 use Rattle.std.proofs.lemmas.Bool.{ltb-true}
 use denote.RawPtr.{null_ptr}
-use Rattle.aos_typed.specs.Methods.{own_numbers, slots}
+use Rattle.aos_typed.specs.Methods.{method_number, own_numbers, slots}
 use Rattle.aos_typed.specs.Numbers.{id_of}
 use Rattle.aos_typed.specs.Program.{Procedure, Body as TypedBody}
 use Rattle.aos_code.specs.declared.image.Body.{Body}
@@ -66,9 +66,14 @@ abbrev gate_desc : TypeDesc
 gate_desc =
     record {
       base = 0;
+      cells = length (made_kinds gates.types (id_of gate_type));
       kinds = vec (made_kinds gates.types (id_of gate_type)) refl;
       methods = vec (slots gates (own_numbers gates) 0) refl;
+      init = method_number gates 0 0;
       body = 2;
+      active = true;
+      priority = 2;
+      safe = false;
     }
 
 abbrev module_desc : ModuleDesc
@@ -104,9 +109,14 @@ has_code =
       shapes = refl;
       starts = refl;
       types = refl;
+      actives = refl;
+      priorities = refl;
+      safes = refl;
+      initials = refl;
       methods = refl;
       bases = refl;
       kinds = refl;
+      counts = refl;
       cells = refl;
       names = refl;
       few = λ k d lt. rw (the_only gates_module k d lt) few;

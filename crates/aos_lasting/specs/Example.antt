@@ -14,6 +14,7 @@
 --     BEGIN NEW(gate); gate.Open
 --     END Gates.
 use Rattle.std.specs.Prelude.{◌≡◌, ℕ, List, [], ◌∷◌, ◌++◌, Bool, true, false, Some, None, codes}
+use Rattle.aos_base.specs.declared.priority.Priority.TheVariants.{Normal}
 use Rattle.aos_base.specs.declared.text.Pos.{Pos}
 use Rattle.aos_base.specs.Machine.{Choice, Step, State, happens, execution}
 use Rattle.aos_base.specs.Rooted.{by_number}
@@ -86,6 +87,7 @@ beside_gate =
       home = 0;
       has_body = true;
       is_active = true;
+      priority = Normal;
       body = waits;
       methods = init_method ∷ opens_method ∷ [];
     }

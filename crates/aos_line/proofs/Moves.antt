@@ -5,6 +5,7 @@ use Rattle.std.specs.Prelude.{Bool, true, false, not, ◌==◌, if◌then◌else
 use Rattle.std.proofs.lemmas.List.{get_or-set_same, get_or-set_other, length-set, map-append, append-nil as append_nil}
 use Rattle.std.proofs.lemmas.Option.{slice_get-get_or}
 use Rattle.aos_base.specs.declared.kernel.LockName.{LockName}
+use Rattle.aos_base.specs.declared.priority.Priority.{Priority}
 use Rattle.aos_base.specs.Lock.{Waiting, without as waiting_without}
 use Rattle.aos_base.specs.Book as book
 use Rattle.aos_base.specs.Book.{Stand, is_on, is_ready, wanted, listed, waiting, place_of, leave_line}
@@ -13,7 +14,6 @@ use Rattle.aos_queue.proofs.Members.{once-push, without-none}
 use Rattle.aos_lock.specs.Heirs.{own, own_wants}
 use Rattle.aos_lock.specs.Waits.{count_of, owner_of, waiting_in, Belong as LocksBelong}
 use Rattle.aos_lock.proofs.Rows.{filter-map}
-use Rattle.aos_ready.specs.declared.ready.Priority.{Priority}
 use Rattle.aos_ready.specs.Order.{number_of as priority_number, ready_in, Belong as ReadyBelong}
 use Rattle.aos_line.specs.declared.place.Place.{Place}
 use Rattle.aos_line.specs.declared.place.Place.TheVariants.{Nowhere}

@@ -7,6 +7,7 @@ use Rattle.std.proofs.lemmas.List.{append-nil as append_nil}
 use Rattle.std.proofs.lemmas.Bool.Decides.{eqb_tells}
 use Rattle.aos_base.specs.declared.kernel.LockName.{LockName}
 use Rattle.aos_base.specs.declared.kernel.Verdict.{Verdict}
+use Rattle.aos_base.specs.declared.priority.Priority.{Priority}
 use Rattle.aos_base.specs.Lock.{is_lock, Waiting, Wants, Entry, Condition, enters, Heir, Nobody, Entrant, Waiter, Trapping, judged, heir, after_heir, without as waiting_without}
 use Rattle.aos_base.specs.Book as book
 use Rattle.aos_base.specs.Book.{Stand, put, is_on, wanted, listed, waiting, place_of, leave_line}
@@ -20,7 +21,6 @@ use Rattle.aos_lock.specs.Heirs.{own, own_wants, heir_by, by_waiter, passed_to, 
 use Rattle.aos_lock.specs.Waits.{numbers, joins, count_of, owner_of, waiting_in, Belong as LocksBelong, KeepsLocks}
 use Rattle.aos_lock.proofs.Owns.{heir-own}
 use Rattle.aos_lock.proofs.Walks.{leaves as heir_leaves}
-use Rattle.aos_ready.specs.declared.ready.Priority.{Priority}
 use Rattle.aos_ready.specs.Order.{ready_in}
 use Rattle.aos_line.specs.declared.numbers.Numbers.{Numbers}
 use Rattle.aos_line.specs.declared.place.Place.{Place}

@@ -6,6 +6,8 @@ use Rattle.std.specs.declared.alloc.Global.{Global}
 use Rattle.std.proofs.lemmas.Bool.{cases_lt}
 use Rattle.std.proofs.lemmas.List.{get_or-set_same, get_or-set_other, get_or_past, length-set, append-nil as append_nil}
 use Rattle.aos_base.specs.declared.kernel.LockName.{LockName}
+use Rattle.aos_base.specs.declared.priority.Priority.{Priority}
+use Rattle.aos_base.specs.declared.priority.Priority.TheVariants.{Low, Normal, High}
 use Rattle.aos_base.specs.Lock.{Waiting}
 use Rattle.aos_base.specs.Book as book
 use Rattle.aos_base.specs.Book.{Stand, is_on, is_ready, is_at_lock, wanted, waiting, place_of}
@@ -15,8 +17,6 @@ use Rattle.aos_queue.proofs.Members.{here, there, among, none, without-none, dif
 use Rattle.aos_lock.specs.Heirs.{own}
 use Rattle.aos_lock.specs.Waits.{numbers, count_of, waiting_in, WaitsNowhere}
 use Rattle.aos_lock.proofs.Changes.{still_belong, still_waiting}
-use Rattle.aos_ready.specs.declared.ready.Priority.{Priority}
-use Rattle.aos_ready.specs.declared.ready.Priority.TheVariants.{Low, Normal, High}
 use Rattle.aos_ready.specs.declared.ready.Ready.{Ready}
 use Rattle.aos_ready.specs.Order.{number_of as priority_number, ready_in, all_ready, Belong as ReadyBelong}
 use Rattle.aos_ready.proofs.Changes.{which}

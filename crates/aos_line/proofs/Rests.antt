@@ -4,6 +4,7 @@ use Rattle.std.specs.List.{Contains}
 use Rattle.std.specs.Prelude.{not, if◌then◌else◌, Option, Some, None, get_or, slice_get, Vec}
 use Rattle.std.specs.declared.alloc.Global.{Global}
 use Rattle.aos_base.specs.declared.kernel.LockName.{LockName}
+use Rattle.aos_base.specs.declared.priority.Priority.{Priority}
 use Rattle.aos_base.specs.Book.{Stand, waiting, place_of, leave_line}
 use Rattle.aos_queue.specs.declared.links.Links.{Links}
 use Rattle.aos_queue.specs.Lists.{room_of, mark_of, KeepsOthers, SameTable}
@@ -11,7 +12,6 @@ use Rattle.aos_queue.proofs.Members.{none}
 use Rattle.aos_lock.specs.declared.locks.Locks.{Locks}
 use Rattle.aos_lock.specs.Waits.{count_of, owner_of, waiting_in, Belong as LocksBelong, WaitsNowhere}
 use Rattle.aos_lock.proofs.Changes.{still_belong, still_waiting}
-use Rattle.aos_ready.specs.declared.ready.Priority.{Priority}
 use Rattle.aos_ready.specs.declared.ready.Ready.{Ready}
 use Rattle.aos_ready.specs.Order.{ready_in, all_ready, Belong as ReadyBelong}
 use Rattle.aos_line.specs.declared.numbers.Numbers.{Numbers}

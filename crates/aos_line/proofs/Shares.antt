@@ -1,9 +1,9 @@
 -- Queues of those who are ready, and locks, through one table.
 use Rattle.std.proofs.Common.{◌≡◌, ℕ, List, subst}
 use Rattle.std.specs.List.{Contains}
+use Rattle.aos_base.specs.declared.priority.Priority.{Priority}
 use Rattle.aos_queue.specs.declared.links.Links.{Links}
 use Rattle.aos_queue.specs.Lists.{list_in, Apart, KeepsOthers}
-use Rattle.aos_ready.specs.declared.ready.Priority.{Priority}
 use Rattle.aos_ready.specs.declared.ready.Ready.{Ready}
 use Rattle.aos_ready.specs.Order.{queue_of, ready_in, Belong}
 

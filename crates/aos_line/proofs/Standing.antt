@@ -7,11 +7,11 @@ use Rattle.std.proofs.lemmas.List.{get_or_past, get_or-set_other, length-set}
 use Rattle.std.proofs.lemmas.Option.{slice_get_cases, slice_get_within, slice_get-get_or, slice_get_past, get_or_from_slice_get}
 use Rattle.aos_base.specs.declared.kernel.LockName.{LockName}
 use Rattle.aos_base.specs.declared.kernel.Outcome.TheVariants.{Going, Ended, Dead, Spent}
+use Rattle.aos_base.specs.declared.priority.Priority.{Priority}
+use Rattle.aos_base.specs.declared.priority.Priority.TheVariants.{Low, Normal, High}
 use Rattle.aos_base.specs.Book as book
 use Rattle.aos_base.specs.Book.{Stand, first_at, or_next, is_on, is_ready, on_worker, first_ready, waiting, place_of, all_at_locks, outcome_of}
 use Rattle.aos_queue.proofs.Members.{differ}
-use Rattle.aos_ready.specs.declared.ready.Priority.{Priority}
-use Rattle.aos_ready.specs.declared.ready.Priority.TheVariants.{Low, Normal, High}
 use Rattle.aos_ready.specs.Order.{number_of as priority_number, ready_in, all_ready}
 use Rattle.aos_line.specs.declared.place.Place.{Place}
 use Rattle.aos_line.specs.declared.place.Place.TheVariants.{Nowhere, On, Ready, At}

@@ -3,6 +3,7 @@ use Rattle.std.specs.Prelude.{◌≡◌, ◌≢◌, ◌<◌, ◌≤◌, ℕ, Lis
 use Rattle.aos_base.specs.declared.kernel.Outcome.{Outcome}
 use Rattle.aos_base.specs.declared.kernel.Outcome.TheVariants.{Going, Ended, Dead, Spent}
 use Rattle.aos_base.specs.declared.kernel.LockName.{LockName}
+use Rattle.aos_base.specs.declared.priority.Priority.{Priority}
 use Rattle.aos_base.specs.Lock.{is_lock, Waiting, Wants, Entry, enters}
 use Rattle.aos_base.specs.Book as book
 use Rattle.aos_base.specs.Book.{Stand, put, is_on, is_ready, is_at_lock, waiting, place_of, leave_line, move}
@@ -13,7 +14,6 @@ use Rattle.aos_lock.specs.declared.lock.Passed.{Passed}
 use Rattle.aos_lock.specs.declared.lock.Passed.TheVariants.{Waiter, Entrant, Free}
 use Rattle.aos_lock.specs.Heirs.{own}
 use Rattle.aos_lock.specs.Waits.{count_of, owner_of, waiting_in, Belong as LocksBelong}
-use Rattle.aos_ready.specs.declared.ready.Priority.{Priority}
 use Rattle.aos_ready.specs.Order.{number_of as priority_number, ready_in, Belong as ReadyBelong}
 use Rattle.aos_line.specs.declared.place.Place.{Place}
 use Rattle.aos_line.specs.declared.place.Place.TheVariants.{Nowhere, On, Ready, At}

@@ -8,10 +8,10 @@ ghost use Rattle.aos_line.specs.Stands.{places_of, started_of, live_of, running_
 
 use crate::numbers::Numbers;
 use crate::place::Place;
-use aos_base::{NoMemory, Outcome};
+use aos_base::{NoMemory, Outcome, Priority};
 use aos_lock::Locks;
 use aos_queue::Links;
-use aos_ready::{Priority, Ready};
+use aos_ready::Ready;
 use std::alloc::Global;
 
 /// How many workers there may be.

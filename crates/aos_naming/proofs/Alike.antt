@@ -1,6 +1,7 @@
 -- The program's machine does what the one does whose frames have the numbers of their routines beside them.
 use Rattle.std.proofs.Common.{◌≡◌, ℕ, List, [], refl, ap}
 use Rattle.aos_base.specs.Machine.{Choice, State, execution, start_of}
+use Rattle.aos_base.specs.Priority.{number_of as priority_number}
 use Rattle.aos_base.specs.declared.kernel.Did.{Did}
 use Rattle.aos_concurrency.specs.Regions.{Outside}
 use Rattle.aos_concurrency.specs.Simulates.{Matches, Simulates}
@@ -41,7 +42,7 @@ module _ (p : Program) (names : HasNames p) where
         position = λ s t w f x may e h. ap (λ (y : S.Frames). let z = S.opened p y in position_in z.frames) h;
         anew = λ s t w f x may e h. tt;
         body = λ s t o f x e h. ap (λ z. S.body_of p z o) e;
-        priority = λ s t o f x e h. refl;
+        priority = λ s t o f x e h. ap (λ z. priority_number (S.priority_of p z o)) e;
       }
 
   abbrev pub AreMatched : State Store S.Frames → State Store (Traces p names) → Type 0

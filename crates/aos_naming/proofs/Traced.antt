@@ -2,6 +2,7 @@
 use Rattle.std.proofs.Common.{◌≡◌, ℕ, zero, suc, List, [], ◌∷◌, true, false, Option, Some, None, refl, sym, ◌∙◌, subst}
 use Rattle.std.specs.Prelude.{option_and_then, slice_get}
 use Rattle.aos_base.specs.Machine.{Machine, Turn}
+use Rattle.aos_base.specs.Priority.{number_of as priority_number}
 use Rattle.aos_base.specs.Rooted.{by_number}
 use Rattle.aos_base.specs.declared.kernel.Did.{Did}
 use Rattle.aos_base.specs.declared.kernel.Did.TheVariants.{Trapped, Leave, Enter, Ended, Went, Start, Await}
@@ -14,7 +15,7 @@ use Rattle.aos_typed.specs.Routines.{routine_of, has_self, routines, Routine}
 use Rattle.aos_typed.specs.Value.{Value, Object}
 use Rattle.aos_typed.specs.Store.{type_of_object, Store}
 use Rattle.aos_typed.specs.Meaning.{Question, Item, Do, Rounds, Round, Until, Region, End, Gives}
-use Rattle.aos_typed.specs.Source.{Frame, Frames, Turned, source, object_frames, past, past_all, past_by, goes_into, lock_of, next_body, opened, opened_by, body_frame, body_of, regions_of, position_in, made_body, turn, turn_at, verdict}
+use Rattle.aos_typed.specs.Source.{Frame, Frames, Turned, source, object_frames, past, past_all, past_by, goes_into, lock_of, next_body, opened, opened_by, body_frame, body_of, priority_of, regions_of, position_in, made_body, turn, turn_at, verdict}
 use Rattle.aos_sim.proofs.Regions.{Stands, source_keeps}
 use Rattle.aos_sim.proofs.Routines.{object_there, module_there}
 use Rattle.aos_handover.specs.Kinds as Kinds
@@ -75,7 +76,7 @@ module _ (p : Program) (names : HasNames p) where
         regions = λ x. regions_of x.0.frames;
         position = λ x. position_in (opened p x.0).frames;
         body = λ s o. (body_of p s o, body_numbers (body_at s o) (option_and_then (λ t. slice_get p.objects t) (body_at s o)));
-        priority = λ s o. 2;
+        priority = λ s o. priority_number (priority_of p s o);
         anew = λ x. None;
       }
 

@@ -4,13 +4,13 @@ use Rattle.std.specs.List.{Contains}
 use Rattle.std.specs.Prelude.{true, false, is_some, Option, Some, None, IfSome, IsNone, slice_get, not, cond}
 use Rattle.std.proofs.lemmas.List.Elements.{Contains-push_cases}
 use Rattle.std.proofs.lemmas.Bool.{eq-eqb}
+use Rattle.aos_base.specs.declared.priority.Priority.{Priority}
+use Rattle.aos_base.specs.declared.priority.Priority.TheVariants.{Low, Normal, High}
 use Rattle.aos_queue.specs.declared.links.Links.{Links}
 use Rattle.aos_queue.specs.declared.queue.Queue.{Queue}
 use Rattle.aos_queue.specs.Lists.{list_in, without, Belongs, Apart, KeepsOthers, IsOnce}
 use Rattle.aos_queue.proofs.Members.{here, there, among, without-none}
 use Rattle.aos_queue.proofs.Runs.{is_once}
-use Rattle.aos_ready.specs.declared.ready.Priority.{Priority}
-use Rattle.aos_ready.specs.declared.ready.Priority.TheVariants.{Low, Normal, High}
 use Rattle.aos_ready.specs.declared.ready.Ready.{Ready}
 use Rattle.aos_ready.specs.Order.{queue_of, ready_in, all_ready, highest_of, highest_in, without_first, Belong}
 

@@ -1,16 +1,12 @@
 -- Who is ready, and in which order (Muller 2002, the scheduler of the Active Object System).
 use Rattle.std.specs.Prelude.{◌≢◌, ℕ, List, [], ◌∷◌, ◌++◌, Option, Some, None}
+use Rattle.aos_base.specs.declared.priority.Priority.{Priority}
+use Rattle.aos_base.specs.declared.priority.Priority.TheVariants.{Low, Normal, High}
+pub use Rattle.aos_base.specs.Priority.{number_of}
 use Rattle.aos_queue.specs.declared.links.Links.{Links}
 use Rattle.aos_queue.specs.declared.queue.Queue.{Queue}
 use Rattle.aos_queue.specs.Lists.{list_in, without, Belongs, Apart}
-use Rattle.aos_ready.specs.declared.ready.Priority.{Priority}
-use Rattle.aos_ready.specs.declared.ready.Priority.TheVariants.{Low, Normal, High}
 use Rattle.aos_ready.specs.declared.ready.Ready.{Ready}
-
-abbrev pub number_of : Priority → ℕ
-number_of Low = 1
-number_of Normal = 2
-number_of High = 3
 
 abbrev pub queue_of : Ready → Priority → Queue
 queue_of ready Low = ready.low

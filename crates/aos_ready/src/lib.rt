@@ -3,4 +3,5 @@
 
 mod ready;
 
-pub use ready::{Priority, Ready};
+pub use aos_base::Priority;
+pub use ready::Ready;

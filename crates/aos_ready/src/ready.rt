@@ -4,17 +4,10 @@ ghost use Rattle.std.specs.Prelude.{◌≡◌, ◌≢◌, ℕ, ◌<◌, ◌++◌
 ghost use Rattle.std.specs.List.{Contains};
 ghost use Rattle.aos_queue.specs.declared.links.Links.{Links};
 ghost use Rattle.aos_queue.specs.Lists.{room_of, KeepsOthers, SameTable};
-ghost use Rattle.aos_ready.specs.Order.{number_of, ready_in, all_ready, without_first, highest_in, Belong};
+ghost use Rattle.aos_ready.specs.Order.{ready_in, all_ready, without_first, highest_in, Belong};
 
+use aos_base::Priority;
 use aos_queue::{Links, Queue};
-
-/// An activity's priority. Those of a higher one go first.
-#[derive(Clone, Copy)]
-pub enum Priority {
-    Low,
-    Normal,
-    High,
-}
 
 /// The ready activities, known by their numbers. Those of one priority go in the order in which they became ready.
 #[derive(Drop)]
@@ -22,19 +15,6 @@ pub struct Ready {
     low: Queue,
     normal: Queue,
     high: Queue,
-}
-
-impl Priority {
-    /// Its number: 1 for the lowest, 3 for the highest.
-    pub fn number(self) -> u8
-        ensures { result ≡ number_of self }
-    {
-        match self {
-            Priority::Low => 1,
-            Priority::Normal => 2,
-            Priority::High => 3,
-        }
-    }
 }
 
 impl Ready {

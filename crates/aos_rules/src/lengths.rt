@@ -186,8 +186,8 @@ fn len_answer(
     ))
 }
 
-/// The number of a dimension.
-fn number_in(class: Class) -> Option<u32>
+/// The number that a constant is, where it is an integer from 0 on of 32 bits.
+pub fn number_in(class: Class) -> Option<u32>
     ensures { result ≡ judge.number_in class }
 {
     match class {

@@ -17,7 +17,7 @@ pub use assignable::{is_assignable, typed_for};
 pub use functions::{
     Limit, Taking, function_value, limit_meant, step_in, value_of_one, value_of_two,
 };
-pub use lengths::{array_rows, is_opening, len_alone, len_in};
+pub use lengths::{array_rows, is_opening, len_alone, len_in, number_in};
 pub use relations::{related, tested};
 pub use signatures::type_signature;
 pub use texts::{has_room, is_characters, may_be_text, text_for, text_rows};

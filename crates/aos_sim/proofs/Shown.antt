@@ -9,14 +9,17 @@ use Rattle.std.proofs.lemmas.List.Elements.{All-nil}
 use Rattle.aos_types.specs.Extension.{comes_to}
 use Rattle.aos_types.proofs.Tables.{comes_on}
 use Rattle.aos_types.specs.Shape.{Nothing}
+use Rattle.aos_base.specs.declared.priority.Priority.{Priority}
+use Rattle.aos_base.specs.declared.priority.Priority.TheVariants.{Low, Normal, High}
 use Rattle.aos_base.specs.Book.{Where}
 use Rattle.aos_base.specs.Rooted.{Made, by_number}
 use Rattle.aos_base.specs.Machine.{Choice, execution}
+use Rattle.aos_base.specs.Priority.{number_of}
 use Rattle.aos_typed.specs.declared.tree.TType.{TType}
 use Rattle.aos_typed.specs.Program.{Variable, ObjectType, Module, Program}
 use Rattle.aos_typed.specs.Routines.{result_of, routine_of}
 use Rattle.aos_typed.specs.Numbers.{id_of_made, body_number}
-use Rattle.aos_typed.specs.Methods.{body_type}
+use Rattle.aos_typed.specs.Methods.{body_type, priority_by}
 use Rattle.aos_typed.specs.Typing.{Is}
 use Rattle.aos_typed.specs.Store.{Store}
 use Rattle.aos_typed.specs.Source as S
@@ -124,6 +127,28 @@ module _ (p : Program) (image : Image) (well : IsWellTyped p) (ok : IsCodeOf p i
       subst (λ b. Follows p image (k ∷ range_with_len (k + 1) (length xs)) (bodies b ++ flat_map (λ (x : ModuleDesc). bodies x.body) ds)) (sym here)
       ((m, there, module_there p k m there), below)
 
+  -- what a type's description tells, where each tells this of its own type
+  module _ {A : Type 0} (f : TypeDesc → A) (g : ℕ → A) (are : map f image.types.items ≡ map g (range_with_len 0 (length os))) (t : ℕ) where
+    told : t < length os → (d : TypeDesc) × (slice_get image.types.items t ≡ Some d) × (f d ≡ g t)
+    told l =
+        let z : t + 0 ≡ t = omega arith in
+        let r = alike_at f g image.types.items (range_with_len 0 (length os)) are t (t + 0) (range_get (length os) 0 t l) in
+        (r.0, r.1, r.2 ∙ ap g z)
+
+    described : (d : TypeDesc) → slice_get image.types.items t ≡ Some d → f d ≡ g t
+    described d e = by (cases_lt t (length os))
+      where
+        by : (t < length os) ⊎ (length os ≤ t) → f d ≡ g t
+        by (inl l) =
+            let r = told l in
+            let there = r.1 in
+            let same : r.0 ≡ d = some_same r.0 d (sym there ∙ e) in
+            ap f (sym same) ∙ r.2
+        by (inr l) =
+            let none : Some (f d) ≡ None = ap (option_map f) (sym e) ∙ sym (slice_get-map f image.types.items t) ∙ ap (λ l. slice_get l t) are
+            ∙ slice_get-map g (range_with_len 0 (length os)) t ∙ ap (option_map g) (range_past (length os) 0 t l) in
+            absurd (cc none)
+
   -- the body of an object, by its type on both sides
   module _ (made : List Made) (o t : ℕ) (self : IsSelf p (λ o. by_number o made) (Some t) o) where
     body_begins : (b : ℕ) (has : HasBody p t b) → SameFrames p image made (S.body_frame has.object.home o has.object.body.body ∷ []) (I.body_frame o (body_number p b) ∷ [])
@@ -149,25 +174,8 @@ module _ (p : Program) (image : Image) (well : IsWellTyped p) (ok : IsCodeOf p i
             }
 
     -- which one it is the type's description tells
-    told : t < length os → (d : TypeDesc) × (slice_get image.types.items t ≡ Some d) × (d.body ≡ body_in p (body_type p t))
-    told l =
-        let z : t + 0 ≡ t = omega arith in
-        let r = alike_at (λ (y : TypeDesc). y.body) (λ k. body_in p (body_type p k)) image.types.items (range_with_len 0 (length os)) ok.types t (t + 0) (range_get (length os) 0 t l) in
-        (r.0, r.1, r.2 ∙ ap (λ k. body_in p (body_type p k)) z)
-
-    described : (d : TypeDesc) → slice_get image.types.items t ≡ Some d → d.body ≡ body_in p (body_type p t)
-    described d e = by (cases_lt t (length os))
-      where
-        by : (t < length os) ⊎ (length os ≤ t) → d.body ≡ body_in p (body_type p t)
-        by (inl l) =
-            let r = told l in
-            let there = r.1 in
-            let same : r.0 ≡ d = some_same r.0 d (sym there ∙ e) in
-            ap (λ (y : TypeDesc). y.body) (sym same) ∙ r.2
-        by (inr l) =
-            let none : Some d.body ≡ None = ap (option_map (λ (y : TypeDesc). y.body)) (sym e) ∙ sym (slice_get-map (λ (y : TypeDesc). y.body) image.types.items t) ∙ ap (λ l. slice_get l t) ok.types
-            ∙ slice_get-map (λ k. body_in p (body_type p k)) (range_with_len 0 (length os)) t ∙ ap (option_map (λ k. body_in p (body_type p k))) (range_past (length os) 0 t l) in
-            absurd (cc none)
+    body_described : (d : TypeDesc) → slice_get image.types.items t ≡ Some d → d.body ≡ body_in p (body_type p t)
+    body_described d e = described (λ (y : TypeDesc). y.body) (λ k. body_in p (body_type p k)) ok.types t d e
 
     object_same : (d : Option TypeDesc) → slice_get image.types.items t ≡ d → Same p image made (S.object_frames o (option_and_then (λ b. slice_get os b) (body_type p t))) (I.object_frames o d)
     object_same d ed = by (body_type p t) refl d ed
@@ -177,13 +185,13 @@ module _ (p : Program) (image : Image) (well : IsWellTyped p) (ok : IsCodeOf p i
 
         by : (body : Option ℕ) → body_type p t ≡ body → (d : Option TypeDesc) → slice_get image.types.items t ≡ d → Same p image made (S.object_frames o (option_and_then (λ b. slice_get os b) body)) (I.object_frames o d)
         by None e None f = record { follows = tt; frames = tt; shown = tt; regions = tt }
-        by None e (Some d) f = subst (begun []) (sym (described d f ∙ ap (body_in p) e)) (record { follows = tt; frames = tt; shown = tt; regions = tt })
-        by (Some b) e None f = let r = told (typed.methods.bodies t b e).below in let there = r.1 in absurd (cc (f, there))
+        by None e (Some d) f = subst (begun []) (sym (body_described d f ∙ ap (body_in p) e)) (record { follows = tt; frames = tt; shown = tt; regions = tt })
+        by (Some b) e None f = let r = told (λ (y : TypeDesc). y.body) (λ k. body_in p (body_type p k)) ok.types t (typed.methods.bodies t b e).below in let there = r.1 in absurd (cc (f, there))
         by (Some b) e (Some d) f =
             let has = typed.methods.bodies t b e in
             let x = has.object in
             subst (λ z. Same p image made (S.object_frames o z) (I.object_frames o (Some d))) (sym has.there)
-            (subst (begun (S.body_frame x.home o x.body.body ∷ [])) (sym (described d f ∙ ap (body_in p) e))
+            (subst (begun (S.body_frame x.home o x.body.body ∷ [])) (sym (body_described d f ∙ ap (body_in p) e))
             (record { follows = tt; frames = body_begins b has; shown = body_shown p image made o (body_number p b) x.home x.body.body; regions = (body_none (S.lock_of (S.body_frame x.home o x.body.body)) x.body.body, tt) }))
 
   -- an object is one of its own type
@@ -205,6 +213,36 @@ module _ (p : Program) (image : Image) (well : IsWellTyped p) (ok : IsCodeOf p i
       let t : List Made → Option ℕ = λ l. option_map (λ (m : Made). m.type) (by_number o l) in
       subst (λ l. Same p image s.made (S.body_of p s o) (I.object_frames o (option_and_then (numbered image.types.items) (t l)))) (sym stores.made) (made_same s.made stores.few o (by_number o s.made) refl)
 
+  -- and so is the priority of its activities
+  level_same : (x : Priority) → I.level (number_of x) ≡ x
+  level_same Low = refl
+  level_same Normal = refl
+  level_same High = refl
+
+  priority_described : (t : ℕ) (d : Option TypeDesc) → slice_get image.types.items t ≡ d → priority_by p (body_type p t) ≡ I.object_priority d
+  priority_described t (Some d) e =
+      sym (ap I.level (described (λ (y : TypeDesc). y.priority) (λ k. number_of (priority_by p (body_type p k))) ok.priorities t d e) ∙ level_same (priority_by p (body_type p t)))
+  priority_described t None e = by (body_type p t) refl
+    where
+      by : (body : Option ℕ) → body_type p t ≡ body → priority_by p body ≡ Normal
+      by None f = refl
+      by (Some b) f =
+          let r = told (λ (y : TypeDesc). y.priority) (λ k. number_of (priority_by p (body_type p k))) ok.priorities t (typed.methods.bodies t b f).below in
+          let there = r.1 in absurd (cc (e, there))
+
+  made_priority : (m : Option Made) → priority_by p (option_and_then (S.made_body p) (option_map (λ (m : Made). m.type) m)) ≡ I.object_priority (option_and_then (numbered image.types.items) (option_map (λ (m : Made). m.type) m))
+  made_priority None = refl
+  made_priority (Some m) = by m.type
+    where
+      by : (n : ℕ) → priority_by p (S.made_body p n) ≡ I.object_priority (numbered image.types.items n)
+      by zero = refl
+      by (suc n) = priority_described n (slice_get image.types.items n) refl
+
+  priority_same : (s : Store) (mem : Memory) (o : ℕ) → SameStore p s mem → S.priority_of p s o ≡ I.priority_of image mem o
+  priority_same s mem o stores =
+      let t : List Made → Option ℕ = λ l. option_map (λ (m : Made). m.type) (by_number o l) in
+      made_priority (by_number o s.made) ∙ ap (λ l. I.object_priority (option_and_then (numbered image.types.items) (t l))) (sym stores.made)
+
   -- one turn of the image is one turn of the source
   pub simulates : Simulates (SameStore p) (Together p image) (Outside (S.source p)) (S.source p) (machine image)
   simulates = record {
@@ -222,7 +260,7 @@ module _ (p : Program) (image : Image) (well : IsWellTyped p) (ok : IsCodeOf p i
     position = λ s mem w fs gs may stores h. position_same p image shaped s.made (S.opened p fs).frames (I.opened gs).frames (opened_same p image run s.made fs gs h.now).frames;
     anew = λ s mem w fs gs may stores h. tt;
     body = λ s mem o fs gs stores h. record { now = object_body_same s mem o stores; behind = λ k. absurd k; awaited = tt };
-    priority = λ s mem o fs gs stores h. refl;
+    priority = λ s mem o fs gs stores h. ap number_of (priority_same s mem o stores);
   }
 
   pub first_same : Same p image [] (S.first_frames p) (I.first_frames image)

@@ -21,8 +21,8 @@ owner_in (Entrant a) = Some a
 owner_in (Waiter a) = Some a
 owner_in (Trapping a n) = Some a
 
--- From one book to the next a lock, for which these wait at its release, passes to this heir, who owns it, has left the list and is ready;
--- all others of the list stay, and so do all other locks.
+-- From one book to the next a lock, for which these wait at its release, passes to this heir, who owns it, has left the list and is ready
+-- at its own priority; all others of the list stay, and so do all other locks.
 pub record IsPassed (old new : Book) (l : LockName) (es : List Waiting) (to : Heir) : Type 0 where
   pub owner : new.owner l ≡ owner_in to
   pub list : waiting l new.line ≡ after_heir to es

@@ -1,14 +1,15 @@
 -- When an image has a program's code, and when it shows the program.
-use Rattle.std.specs.Prelude.{◌≡◌, ◌<◌, ◌^◌, ℕ, suc, pos, false, Option, Some, None, All, List, [], ◌∷◌, ◌++◌, map, length, drop}
+use Rattle.std.specs.Prelude.{◌≡◌, ◌<◌, ◌^◌, ℕ, suc, pos, Bool, false, Option, Some, None, All, List, [], ◌∷◌, ◌++◌, map, length, drop}
 use Rattle.std.specs.List.{flat_map, range_with_len}
 use Rattle.std.specs.String.{string_bytes}
 use Rattle.aos_base.specs.Machine.{Choice, execution}
 use Rattle.aos_base.specs.Observation.{observation}
+use Rattle.aos_base.specs.Priority.{number_of}
 use Rattle.aos_types.specs.declared.row.TypeRow.{TypeRow}
 use Rattle.aos_types.specs.Table.{base_of}
 use Rattle.aos_types.specs.Shape.{leaves, row, size}
 use Rattle.aos_typed.specs.Program.{Procedure, Module, Program}
-use Rattle.aos_typed.specs.Methods.{body_type, slots, own_numbers}
+use Rattle.aos_typed.specs.Methods.{body_type, initializer, is_active, method_number, priority_by, slots, own_numbers}
 use Rattle.aos_typed.specs.Numbers.{body_number, predeclared_types}
 use Rattle.aos_typed.specs.Conditions.{conditions}
 use Rattle.aos_typed.specs.Routines.{Routine, routines}
@@ -41,6 +42,16 @@ body_in p (Some b) = body_number p b
 abbrev pub body_numbers : Program → List ℕ
 body_numbers p = map (λ k. body_in p (body_type p k)) (range_with_len 0 (length p.objects))
 
+-- whether it is active
+abbrev pub active_in : Program → (body_of : Option ℕ) → Bool
+active_in p None = false
+active_in p (Some b) = is_active p b
+
+-- the number of the initializer that the objects of a type have in this slot, 0 where they have none
+abbrev pub initial_in : Program → (type : ℕ) → (slot : Option ℕ) → ℕ
+initial_in p t None = 0
+initial_in p t (Some k) = method_number p t k
+
 -- what the cells of a string constant hold: its characters, and a 0X
 abbrev pub text_cells : List ℕ → List Cell
 text_cells cs = map (λ c. Num (pos c)) cs ++ Num (pos 0) ∷ []
@@ -68,16 +79,22 @@ shape_of rows r = by r.own
     by (Some q) = known rows r.home (keeps_of r.body.statements) q
 
 -- These bodies, conditions, shapes and descriptions are the code of a program: each routine has a body and a shape, those of modules
--- first, and each condition has its code. The cells of a module have numbers of 32 bits.
+-- first, and each condition has its code. What describes a type says of its objects' activities what the body's own type does, and that
+-- none begins anew. The cells of a module have numbers of 32 bits.
 pub record IsCode (p : Program) (bs cs : List Body) (ss : List ProcShape) (ds : List ModuleDesc) (ts : List TypeDesc) : Type 0 where
   pub bodies : map (λ b. b.code.items) bs ≡ map (λ r. body_code p r.own r.body) (routines p)
   pub conditions : map (λ b. b.code.items) cs ≡ map (λ c. condition_code p c.own c.expression) (conditions p)
   pub shapes : map seen_shape ss ≡ map (shape_of p.types) (routines p)
   pub starts : map (λ d. d.body) ds ≡ numbers_from 1 p.modules
   pub types : map (λ t. t.body) ts ≡ body_numbers p
+  pub actives : map (λ t. t.active) ts ≡ map (λ k. active_in p (body_type p k)) (range_with_len 0 (length p.objects))
+  pub priorities : map (λ t. t.priority) ts ≡ map (λ k. number_of (priority_by p (body_type p k))) (range_with_len 0 (length p.objects))
+  pub safes : map (λ t. t.safe) ts ≡ map (λ t. false) ts
+  pub initials : map (λ t. t.init) ts ≡ map (λ k. initial_in p k (initializer p k)) (range_with_len 0 (length p.objects))
   pub methods : map (λ t. t.methods.items) ts ≡ map (λ k. slots p (own_numbers p) k) (range_with_len 0 (length p.objects))
   pub bases : map (λ t. t.base) ts ≡ map (λ r. base_number (base_of (Some r))) (drop predeclared_types p.types)
   pub kinds : map (λ t. t.kinds.items) ts ≡ map (λ k. made_kinds p.types (record { 0 = k })) (range_with_len predeclared_types (length p.objects))
+  pub counts : map (λ t. t.cells) ts ≡ map (λ t. length t.kinds.items) ts
   pub cells : map (λ d. d.cells.items) ds ≡ map (first_cells p.types) p.modules
   pub names : map (λ d. string_bytes d.name) ds ≡ map (λ m. m.name) p.modules
   pub few : All (λ m. size (block p.types m) < 2 ^ 32) p.modules

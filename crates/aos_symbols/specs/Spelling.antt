@@ -27,3 +27,7 @@ procedures_of_out = codes "Open" ∷ codes "Char" ∷ codes "String" ∷ codes "
 -- the modifier ACTIVE of a body
 abbrev pub is_active : List ℕ → Modifier → Bool
 is_active text m = is_word text (codes "ACTIVE") m.name
+
+-- and PRIORITY, with its value
+abbrev pub is_priority : List ℕ → Modifier → Bool
+is_priority text m = is_word text (codes "PRIORITY") m.name

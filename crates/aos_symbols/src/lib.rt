@@ -25,4 +25,4 @@ pub use env::{
 pub use home::{Home, ObjectScope};
 pub use laws::law_of_first;
 pub use scope::{Constant, Entry, Function, Meaning, Routine, Scope};
-pub use spelling::{are_same, is_active, is_procedure_of_out, is_word, word};
+pub use spelling::{are_same, is_active, is_priority, is_procedure_of_out, is_word, word};

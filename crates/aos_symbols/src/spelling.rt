@@ -59,3 +59,10 @@ pub fn is_active(text: &[u8], modifier: &Modifier) -> bool
 {
     is_word(text, "ACTIVE", modifier.name)
 }
+
+/// Whether it is PRIORITY.
+pub fn is_priority(text: &[u8], modifier: &Modifier) -> bool
+    ensures { result ≡ spelling.is_priority text.now modifier.now }
+{
+    is_word(text, "PRIORITY", modifier.name)
+}

@@ -2,6 +2,8 @@
 -- declares anew takes the place of the one that it overrides, and behind them its new ones.
 use Rattle.std.specs.Prelude.{ℕ, zero, suc, ◌+◌, ◌-◌, nat_lt, List, [], ◌∷◌, ◌++◌, length, map, sum_by, take, fold, slice_get, slice_set, Option, Some, None, option_map, if◌then◌else◌, Bool, false}
 use Rattle.std.specs.Option.{unwrap_or}
+use Rattle.aos_base.specs.declared.priority.Priority.{Priority}
+use Rattle.aos_base.specs.declared.priority.Priority.TheVariants.{Normal}
 use Rattle.aos_types.specs.Table.{row_of, base_of}
 use Rattle.aos_typed.specs.declared.tree.TType.TheVariants.{Named}
 use Rattle.aos_typed.specs.Program.{Procedure, Method, ObjectType, Program}
@@ -50,6 +52,15 @@ is_active p t = unwrap_or (option_map (λ o. o.is_active) (slice_get p.objects t
 -- the type whose body the objects of a type have, which is the nearest one that has a body
 abbrev pub body_type : Program → (type : ℕ) → Option ℕ
 body_type p t = nearest p (λ u. if has_body p u then Some u else None) t
+
+-- the priority of the activities that carry out a type's own body
+abbrev pub own_priority : Program → (type : ℕ) → Priority
+own_priority p t = unwrap_or (option_map (λ o. o.priority) (slice_get p.objects t)) Normal
+
+-- and that of those that carry out the body of a type, which is the normal one where there is none
+abbrev pub priority_by : Program → (body_of : Option ℕ) → Priority
+priority_by p None = Normal
+priority_by p (Some b) = own_priority p b
 
 -- the slot of the initializer that a type declares, and of the one that its objects have
 abbrev pub initial_slot : List Method → Option ℕ

@@ -5,6 +5,7 @@ use Rattle.aos_base.specs.declared.text.Pos.{Pos}
 use Rattle.aos_base.specs.declared.number.Relation.{Relation}
 use Rattle.aos_base.specs.declared.operator.Unary.{Unary as UnaryOperator}
 use Rattle.aos_base.specs.declared.operator.Binary.{Binary as BinaryOperator}
+use Rattle.aos_base.specs.declared.priority.Priority.{Priority}
 use Rattle.aos_types.specs.declared.row.TypeRow.{TypeRow}
 use Rattle.aos_base.specs.declared.number.Width.{Width}
 use Rattle.aos_typed.specs.declared.tree.Literal.{Literal}
@@ -164,13 +165,14 @@ pub record Method : Type 0 where
   pub procedure : Procedure
 
 -- what stands beside a type: its name, the number of its module, the body of its objects, where it has one, which an activity of the
--- object's own carries out where it is active, and its own methods. The body of a procedure type is none: it has the type's formals,
--- and stands for all procedures that have them
+-- object's own carries out where it is active, and at which priority, and its own methods. The body of a procedure type is none: it has
+-- the type's formals, and stands for all procedures that have them
 pub record ObjectType : Type 0 where
   pub name : List ℕ
   pub home : ℕ
   pub has_body : Bool
   pub is_active : Bool
+  pub priority : Priority
   pub body : Procedure
   pub methods : List Method
 

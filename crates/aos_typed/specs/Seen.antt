@@ -183,6 +183,7 @@ seen_object o =
       home = o.home;
       has_body = o.has_body;
       is_active = o.is_active;
+      priority = o.priority;
       body = seen_procedure o.body;
       methods = map seen_method o.methods.items;
     }

@@ -12,7 +12,9 @@ use Rattle.aos_base.specs.declared.kernel.LockName.TheVariants.{Module as Module
 use Rattle.aos_base.specs.declared.kernel.Verdict.{Verdict}
 use Rattle.aos_base.specs.declared.kernel.Verdict.TheVariants.{Holds, Fails, Traps as TrapsWith}
 use Rattle.aos_base.specs.declared.number.Relation.{Relation}
+use Rattle.aos_base.specs.declared.priority.Priority.{Priority}
 use Rattle.aos_base.specs.Number.{places_of, justified, holds, array_lengths}
+use Rattle.aos_base.specs.Priority.{number_of as priority_number}
 use Rattle.aos_base.specs.Text.{order}
 use Rattle.aos_base.specs.Book.{Where}
 use Rattle.aos_base.specs.Machine.{Turn, Machine, State, start_of}
@@ -33,7 +35,7 @@ use Rattle.aos_typed.specs.Handed.{Part, nested, head, handed}
 use Rattle.aos_typed.specs.Numbers.{id_of, id_of_made}
 use Rattle.aos_typed.specs.Open.{open_element}
 use Rattle.aos_typed.specs.Conditions.{Condition, conditions}
-use Rattle.aos_typed.specs.Methods.{body_type}
+use Rattle.aos_typed.specs.Methods.{body_type, priority_by}
 use Rattle.aos_typed.specs.Routines.{Routine, parameters_of, locals_of, has_self, gives, routines}
 use Rattle.aos_typed.specs.Sort.{Sort, Plain, Variable, Alias, Elements, Length, variable_shape, object_shape}
 use Rattle.aos_typed.specs.Spot.{Spot, OnHeap}
@@ -546,6 +548,10 @@ module _ (p : Program) where
   abbrev pub body_of : Store → ℕ → Frames
   body_of s o = object_frames o (option_and_then (λ t. slice_get p.objects t) (option_and_then made_body (type_of_object o s)))
 
+  -- and the activity's priority
+  abbrev pub priority_of : Store → ℕ → Priority
+  priority_of s o = priority_by p (option_and_then made_body (type_of_object o s))
+
   -- the verdict of a condition over an activity's topmost frame; it fails where there is none, and where no frame is left
   abbrev pub verdict_over : Option Condition → List Frame → Store → Verdict
   verdict_over None fs s = Fails
@@ -566,7 +572,7 @@ module _ (p : Program) where
         regions = λ fs. regions_of fs.frames;
         position = λ fs. position_in (opened fs).frames;
         body = body_of;
-        priority = λ s o. 2;
+        priority = λ s o. priority_number (priority_of s o);
         anew = λ fs. None;
       }
 

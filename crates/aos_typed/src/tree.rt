@@ -4,7 +4,7 @@ ghost use Rattle.std.specs.Prelude.{◌≤◌};
 ghost use Rattle.aos_typed.specs.declared.tree.TPlace.{size-TPlace};
 ghost use Rattle.aos_typed.specs.declared.tree.TExpr.{size-TExpr};
 
-use aos_base::{Binary, Pos, Relation, Unary, Width};
+use aos_base::{Binary, Pos, Priority, Relation, Unary, Width};
 use aos_types::Types;
 
 /// A string constant: the module in whose text it stands and its number among the strings there, each from 0, how many characters
@@ -435,6 +435,8 @@ pub struct TObject {
     pub has_body: bool,
     /// Whether each object has an activity of its own that carries out the body; else its creator does.
     pub is_active: bool,
+    /// The priority of those activities.
+    pub priority: Priority,
     pub body: TProcedure,
     pub methods: Vec<TMethod>,
 }

@@ -17,15 +17,13 @@ returns-in_ok-stats-in-Some-clause-noted c =
     let flag = c.are_exclusive-exclusive.ensures
     ∙ ap (λ w. judge.are_exclusive w c.as_slice-modifiers.result.now) c.text-text.ensures
     ∙ ap (judge.are_exclusive e.here.text) c.as_slice-modifiers.ensures in
-    let own = judge.modifier_breaches e.here.text active b.modifiers in
+    let own = judge.body_breaches e active b.modifiers in
     let inner = judge.within_body b.modifiers e in
     let ss = (parts.listed_in inner false b.body.stats).breaches in
-    let first = c.refuse_modifiers.ensures
-    ∙ ap (λ w. first_after met (judge.modifier_breaches w active c.as_slice-modifiers.result.now)) c.text-text.ensures
-    ∙ ap (λ l. first_after met (judge.modifier_breaches e.here.text active l)) c.as_slice-modifiers.ensures in
+    let first = c.in_ok-refuse_of_body-in-Some.ensures ∙ ap (λ l. first_after met (judge.body_breaches e active l)) c.as_slice-modifiers.ensures in
     let second = c.in_ok-stats-in-Some.ensures.noted
-    ∙ ap (λ x. first_after c.refuse_modifiers.new.found (parts.listed_in (judge.in_region x e) false c.as_slice.result.now).breaches) flag
-    ∙ ap (λ l. first_after c.refuse_modifiers.new.found (parts.listed_in inner false l).breaches) c.as_slice.ensures in
+    ∙ ap (λ x. first_after c.refuse_of_body.new.found (parts.listed_in (judge.in_region x e) false c.as_slice.result.now).breaches) flag
+    ∙ ap (λ l. first_after c.refuse_of_body.new.found (parts.listed_in inner false l).breaches) c.as_slice.ensures in
     second
     ∙ ap (λ m. first_after m ss) first
     ∙ sym (after_more met own ss)

@@ -1,5 +1,5 @@
 use Rattle.std.proofs.Common.{◌≡◌, ◌∙◌, sym}
-use Rattle.aos_ready.specs.declared.ready.Priority.TheVariants.{Low, Normal, High}
+use Rattle.aos_base.specs.declared.priority.Priority.TheVariants.{Low, Normal, High}
 use Rattle.aos_ready.specs.Order.{ready_in}
 use Rattle.aos_ready.proofs.Changes.{joined, other_ready, belong_after}
 use Rattle.aos_ready.proofs.ready.Ready.add.Goals as goal

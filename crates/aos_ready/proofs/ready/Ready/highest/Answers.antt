@@ -1,5 +1,5 @@
 use Rattle.std.proofs.Common.{sym, ◌∙◌}
-use Rattle.aos_ready.specs.declared.ready.Priority.TheVariants.{Low, Normal, High}
+use Rattle.aos_base.specs.declared.priority.Priority.TheVariants.{Low, Normal, High}
 use Rattle.aos_ready.proofs.Changes.{is_high, is_normal, is_low, is_none}
 use Rattle.aos_ready.proofs.ready.Ready.highest.Goals as goal
 
