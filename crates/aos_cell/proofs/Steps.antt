@@ -31,7 +31,7 @@ others_rest : (ws : List ℕ) (cs ds : List Choice) → AreOthers ws (cs ++ ds) 
 others_rest ws [] ds a = a
 others_rest ws (c ∷ cs) ds a = others_rest ws cs ds a.1
 
-others_of : (ws vs : List ℕ) (cs : List Choice) → ((w : ℕ) → 0 < times w vs → times w ws ≡ 0) → AreOf vs cs → AreOthers ws cs
+pub others_of : (ws vs : List ℕ) (cs : List Choice) → ((w : ℕ) → 0 < times w vs → times w ws ≡ 0) → AreOf vs cs → AreOthers ws cs
 others_of ws vs [] apart all = tt
 others_of ws vs (c ∷ cs) apart all = (apart (of_worker c) all.0, others_of ws vs cs apart all.1)
 

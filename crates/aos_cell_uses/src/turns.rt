@@ -1,7 +1,7 @@
 // A step of each worker, by a pass of its own.
 
 ghost use Rattle.std.specs.Prelude.{◌≡◌, ◌≤◌, IfOk, IfErr};
-ghost use Rattle.aos_cell_uses.specs.Turns.{MayStart, HasEnded, RunsOn};
+ghost use Rattle.aos_cell.specs.Passes.{MayStart, HasEnded, RunsOn};
 
 use aos_base::NoMemory;
 use aos_cell::{KPass, KernelCell};
@@ -11,7 +11,7 @@ use std::sync::Wait;
 /// A step of the one worker of a pass, which has made none since the cell was made. Where memory is refused it makes none.
 fn step<R: Wait + AllocGlobal>(rt: &R, cell: &KernelCell, pass: &mut KPass)
     requires pass { pass.old.cell ≡ cell.now }
-    requires start { MayStart 1 pass.old.view }
+    requires start { MayStart 1 1 pass.old.view }
     ensures pass { pass.new.cell ≡ pass.old.cell }
     ensures view { HasEnded pass.old.view pass.new.view }
 {
@@ -31,7 +31,7 @@ fn step_by_passes<R: Wait + AllocGlobal>(
 ) -> KPass
     requires pass { pass.cell ≡ cell.now }
     requires count { 1 ≤ count }
-    requires start { MayStart count pass.view }
+    requires start { MayStart 1 count pass.view }
     ensures pass { result.cell ≡ cell.now }
     ensures view { HasEnded pass.view result.view }
 {

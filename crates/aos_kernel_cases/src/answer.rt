@@ -1,10 +1,10 @@
 // What the commands of a case come to, beside what it wants of them.
 
 use crate::frames::locks;
-use crate::image::image_of;
 use crate::numbers::{arithmetic, has, span};
 use crate::passes::differences_of_passes;
 use crate::replays::differences_of_replay;
+use crate::runs::{differences_of_meeting, differences_of_run};
 use crate::scripts::{print, script};
 use crate::soundness::soundness;
 use crate::stop::Stop;
@@ -13,6 +13,7 @@ use aos_cases::{Section, tell};
 use aos_code::Image;
 use std::alloc::Global;
 use std::sync::Wait;
+use std::thread::Threads;
 
 // What is told of a command that runs nothing.
 fn answer(alloc: Global, image: &Image, name: &str, text: &str) -> Result<String, Stop> {
@@ -29,7 +30,7 @@ fn answer(alloc: Global, image: &Image, name: &str, text: &str) -> Result<String
 }
 
 /// What is told of a command that doesn't come to what the case wants; nothing where it does.
-pub fn differences<R: AllocGlobal + Wait>(
+pub fn differences<R: AllocGlobal + Threads + Wait + Sync>(
     rt: &R,
     image: Image,
     command: &Section,
@@ -42,6 +43,12 @@ pub fn differences<R: AllocGlobal + Wait>(
     }
     if name == "passes" {
         return differences_of_passes(rt, image, text, sections);
+    }
+    if name == "run" {
+        return differences_of_run(rt, image, text, sections);
+    }
+    if name == "meet" {
+        return differences_of_meeting(rt, image, text, sections);
     }
     let answer = answer(alloc, &image, name, text)?;
     let answer = answer.as_str().trim();

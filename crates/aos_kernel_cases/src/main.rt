@@ -1,5 +1,5 @@
 //! Cases of what a run stands on: arithmetic, scripts, soundness of code, instructions, the kernel, regions and their locks,
-//! conditions, replays, and passes. The words name files of cases.
+//! conditions, replays, passes, and runs on threads. The words name files of cases.
 //!
 //! Sections say an image, whose parts are numbered in their order:
 //!
@@ -18,6 +18,10 @@
 //!   steps and ticks that did something, and the `events`, each behind the number of its step.
 //! - `passes ROUNDS SCRIPT` replays a script, and then makes so many rounds, in each of which the kernel stands in a cell and
 //!   every worker, the first one first, makes a step by a pass of its own. Wanted are the `state` and the `log`.
+//! - `run SCRIPT` replays a script, and then runs the kernel by its workers, each in a thread of its own. Wanted are the `state`
+//!   and, where there is one worker, the `log`.
+//! - `meet SCRIPT` does so behind a gate at which workers 0 and 1 wait for each other before each of their first three rounds;
+//!   `told` is whether they met there.
 //! - `sound PROCEDURE CODE`: `told` is as what the code is sound in that procedure.
 //! - `script TEXT`: `told` is what the text says as a script, or why it is refused; `print TEXT`: what that script is printed as.
 //! - `frames FRAMES`: `told` are the locks of their open regions.
@@ -35,6 +39,7 @@ mod operators;
 mod passes;
 mod replays;
 mod run;
+mod runs;
 mod scripts;
 mod shape;
 mod soundness;
@@ -51,6 +56,7 @@ use aos_cases::{Asks, Case, Section, answer_files};
 use std::alloc::AllocError;
 use std::process::ExitCode;
 use std::sync::Wait;
+use std::thread::Threads;
 
 // Whether a case is none, but says a part of the images of those below it.
 fn is_image(case: &Case) -> bool {
@@ -84,7 +90,11 @@ fn command_at(case: &Case) -> Result<usize, Stop> {
 }
 
 // What is told of a case: nothing where its command comes to what it wants.
-fn told_of<R: AllocGlobal + Wait>(rt: &R, case: &Case, shared: &[Section]) -> Result<String, Stop> {
+fn told_of<R: AllocGlobal + Threads + Wait + Sync>(
+    rt: &R,
+    case: &Case,
+    shared: &[Section],
+) -> Result<String, Stop> {
     let at = command_at(case)?;
     let image = image_of(rt.alloc(), &case.sections, shared)?;
     match case.sections.get(at) {
@@ -93,23 +103,41 @@ fn told_of<R: AllocGlobal + Wait>(rt: &R, case: &Case, shared: &[Section]) -> Re
     }
 }
 
-// The command of a case.
-struct Command;
+// What is told of a case behind those above it.
+fn told_behind<R: AllocGlobal + Threads + Wait + Sync>(
+    rt: &R,
+    above: &[Case],
+    case: &Case,
+) -> Result<String, AllocError> {
+    match told_of(rt, case, shared_of(above)) {
+        Ok(told) => Ok(told),
+        Err(Stop::Malformed(why)) => String::from_str(rt.alloc(), why),
+        Err(Stop::NoMemory) => Err(AllocError),
+    }
+}
 
-impl<R: AllocGlobal + Wait> Asks<R> for Command {
+// The commands of cases, by a closure of `main`: some start threads, which no method of a trait does for whatever handle it
+// is given.
+#[derive(Drop)]
+struct Commands {
+    told: Box<dyn Fn(&[Case], &Case) -> Result<String, AllocError>>,
+    ghost callable: { IsAlwaysCallable told },
+}
+
+impl<R> Asks<R> for Commands {
     fn counts(&self, case: &Case) -> bool {
         !is_image(case)
     }
 
-    fn told(&self, rt: &R, above: &[Case], case: &Case) -> Result<String, AllocError> {
-        match told_of(rt, case, shared_of(above)) {
-            Ok(told) => Ok(told),
-            Err(Stop::Malformed(why)) => String::from_str(rt.alloc(), why),
-            Err(Stop::NoMemory) => Err(AllocError),
-        }
+    fn told(&self, _rt: &R, above: &[Case], case: &Case) -> Result<String, AllocError> {
+        (self.told)(above, case)
     }
 }
 
 fn main(rt: HostRuntime) -> ExitCode {
-    answer_files(&rt, &Command)
+    let told = move |above: &[Case], case: &Case| told_behind(&rt, above, case);
+    match Box::new(rt.alloc(), told) {
+        Ok(told) => answer_files(&rt, &Commands { told }),
+        Err(_) => ExitCode::from(2),
+    }
 }

@@ -28,6 +28,8 @@ pub fn role_of(name: &str) -> Role {
         "method" => Role::Part,
         "replay" => Role::Command,
         "passes" => Role::Command,
+        "run" => Role::Command,
+        "meet" => Role::Command,
         "sound" => Role::Command,
         "frames" => Role::Command,
         "script" => Role::Command,

@@ -1,12 +1,13 @@
 use Rattle.std.proofs.Common.{subst, sym, ◌<◌}
-use Rattle.aos_cell_uses.proofs.Passing.{Adds, adds, starts_one, in_range, may_give, step_ends}
+use Rattle.aos_cell.proofs.Passes.{starts_one, in_range}
+use Rattle.aos_cell_uses.proofs.Passing.{Adds, adds, may_give, step_ends}
 use Rattle.aos_cell_uses.proofs.turns.step.Goals as goal
 
 pub worker-w-requires : goal.worker-w-requires
-worker-w-requires g c = (starts_one _ c.requires.start).0
+worker-w-requires g c = (starts_one 1 _ c.requires.start).0
 
 pub take-kernel-requires-clause-own : goal.take-kernel-requires-clause-own
-take-kernel-requires-clause-own g c = (starts_one _ c.requires.start).1
+take-kernel-requires-clause-own g c = (starts_one 1 _ c.requires.start).1
 
 pub step-stepped-requires : goal.step-stepped-requires
 step-stepped-requires g c = subst (λ r. c.worker-w.result < r.workers) (sym c.deref_mut.ensures.value) (in_range _ _ _ _ c.worker-w.ensures c.take-kernel.ensures.kernel)

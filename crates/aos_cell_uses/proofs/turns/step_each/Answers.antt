@@ -1,12 +1,13 @@
-use Rattle.std.proofs.Common.{rules, sym, subst, ap, ◌∙◌}
+use Rattle.std.proofs.Common.{rules, arith, sym, subst, ap, ◌∙◌}
 use Rattle.aos_kernel.specs.Run.{Run}
-use Rattle.aos_cell_uses.specs.Turns.{MayStart}
-use Rattle.aos_cell_uses.proofs.Passing.{first_starts, has_all, runs_on}
+use Rattle.aos_cell.specs.Passes.{MayStart}
+use Rattle.aos_cell.proofs.Passes.{first_starts, has_all, runs_on}
 use Rattle.aos_cell_uses.proofs.turns.step_each.Goals as goal
 
 pub step_by_passes-pass-requires-clause-start : goal.step_by_passes-pass-requires-clause-start
 step_by_passes-pass-requires-clause-start g c =
-    subst (λ n. MayStart n c.in-Ok.pass.view) (sym (c.workers-count.ensures.workers ∙ ap (λ (r : Run). r.workers) c.deref.ensures)) (first_starts c.args.kernel.value _ (search rules) c.in-Ok.ensures.view)
+    subst (λ n. MayStart 1 n c.in-Ok.pass.view) (sym (c.workers-count.ensures.workers ∙ ap (λ (r : Run). r.workers) c.deref.ensures))
+    (first_starts 1 c.args.kernel.value _ (omega arith) (search rules) c.in-Ok.ensures.view)
 
 pub close-requires-clause-all : goal.close-requires-clause-all
 close-requires-clause-all g c = has_all c.args.kernel.value _ _ c.in-Ok.ensures.view c.step_by_passes-pass.ensures.view

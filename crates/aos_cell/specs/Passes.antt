@@ -1,5 +1,5 @@
--- A step of each worker, by a pass of its own.
-use Rattle.std.specs.Prelude.{◌≡◌, ◌≤◌, ◌^◌, ℕ, false, [], length}
+-- How passes begin by which each worker of a kernel has one of its own, and what is left at the end.
+use Rattle.std.specs.Prelude.{◌≡◌, ◌≤◌, ◌*◌, ℕ, zero, suc, false, [], length}
 use Rattle.aos_kernel.specs.Run.{Run}
 use Rattle.aos_cell.specs.declared.rule.Part.{Part}
 use Rattle.aos_cell.specs.declared.rule.View.{View}
@@ -7,16 +7,22 @@ use Rattle.aos_cell.specs.Total.{times}
 use Rattle.aos_cell.specs.Bound.{KeepsBound}
 use Rattle.aos_cell.specs.Rule.{SameProgram, AddsOthers, HasPart}
 
--- a pass with n workers, none of which has made an entry since the cell was made; each split halves the gives
-pub record Starts (n : ℕ) (p : Part) : Type 0 where
+-- the gives of a pass with n workers of which is split off one after another: each is to have so many, and a split halves them
+abbrev pub gives_for : ℕ → ℕ → ℕ
+gives_for each zero = 0
+gives_for each (suc zero) = each
+gives_for each (suc (suc n)) = 2 * gives_for each (suc n)
+
+-- a pass with n workers, none of which has made an entry since the cell was made
+pub record Starts (each n : ℕ) (p : Part) : Type 0 where
   pub count : length p.workers ≡ n
   pub idle : p.has ≡ false
   pub none_lent : p.lent ≡ []
-  pub gives : 2 ^ n ≤ p.gives
+  pub gives : gives_for each n ≤ p.gives
   pub untouched : AddsOthers p.workers p.first p.last
 
-abbrev pub MayStart : ℕ → View → Type 0
-MayStart n v = HasPart (Starts n) v
+abbrev pub MayStart : ℕ → ℕ → View → Type 0
+MayStart each n v = HasPart (Starts each n) v
 
 -- the pass afterwards has the same workers, and neither the kernel nor a loan
 pub record Ended (p q : Part) : Type 0 where

@@ -1,0 +1,4 @@
+pub mod Turns
+pub mod Rounds
+pub mod Held
+pub mod Runs
