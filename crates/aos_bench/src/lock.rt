@@ -25,7 +25,7 @@ impl Test for Never {
 
     ghost Held = { Unit {0} };
 
-    ghost held = { λ _. tt };
+    ghost held = { λ _ _. Unit {0} };
 
     fn verdict(&mut self, _waiter: u32) -> Verdict {
         Verdict::Fails

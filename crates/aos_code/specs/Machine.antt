@@ -1,5 +1,5 @@
 -- An image as a machine: its memory, its frames, and the turns of an activity.
-use Rattle.std.specs.Prelude.{ℕ, zero, suc, ℤ, pos, negsuc, ◌+◌, List, [], ◌∷◌, ◌++◌, length, take, drop, Bool, true, false, Option, Some, None, map, sum_by, nat_lt, nat_eq, if◌then◌else◌, is_some, option_and_then, option_map, slice_get}
+use Rattle.std.specs.Prelude.{ℕ, zero, suc, ℤ, pos, negsuc, ◌+◌, List, [], ◌∷◌, ◌++◌, length, take, drop, Bool, true, false, not, ◌&&◌, Option, Some, None, map, sum_by, nat_lt, nat_eq, if◌then◌else◌, is_some, option_and_then, option_map, slice_get}
 use Rattle.std.specs.List.{flat_map, list_all}
 use Rattle.std.specs.Option.{unwrap_or}
 use Rattle.aos_base.specs.declared.text.Pos.{Pos}
@@ -114,6 +114,26 @@ abbrev pub arguments_of : (method : Bool) → List Cell → List Cell
 arguments_of true vs = drop 1 vs
 arguments_of false vs = vs
 
+-- What work needs to find: the end of a region, and AWAIT, an open region of the frame, and the end of the frame none; the start of an
+-- activity an object whose type has an active body.
+
+abbrev pub has_active_body : Option TypeDesc → Bool
+has_active_body None = false
+has_active_body (Some t) = t.active && nat_lt 0 t.body
+
+abbrev pub is_startable : List TypeDesc → Cell → Memory → Bool
+is_startable types (Num z) mem = false
+is_startable types (Ref o) mem = has_active_body (option_and_then (numbered types) (type_of_object o mem))
+is_startable types (CallCell p o) mem = false
+is_startable types (Place root cell type) mem = false
+
+abbrev pub finds : List TypeDesc → Question → Frame → Memory → Bool
+finds types (Ends result) f mem = not f.is_open
+finds types (Starts v) f mem = is_startable types v mem
+finds types Leaves f mem = f.is_open
+finds types (Awaits c) f mem = f.is_open
+finds types q f mem = true
+
 -- an activity's frames, of which the topmost runs
 module _ (following : List ℕ) where
   abbrev pub all_frames : List Frame → Frames
@@ -210,11 +230,6 @@ module _ (following : List ℕ) where
   abbrev pub starts : Cell → ℕ → Keeps → Stack → Frame → List Frame → Memory → Turned
   starts (Ref (suc o)) at k s f fs mem = leaves (Start (suc o)) (before at k (Ref (suc o) ∷ s) f ∷ fs) mem
   starts v at k s f fs mem = leaves (Trapped 16 0) (f ∷ fs) mem
-
-  -- a frame whose region is open leaves it to the kernel whether it goes on
-  abbrev pub awaits : (is_open : Bool) → LockName → (condition : ℕ) → ℕ → Keeps → Stack → Frame → List Frame → Memory → Turned
-  awaits true l c at k s f fs mem = leaves (Await l c) (before at k s f ∷ fs) mem
-  awaits false l c at k s f fs mem = goes_on (behind at k s f ∷ fs) mem
 
   -- Texts: the characters before the first 0X, or all where there is none.
 
@@ -362,7 +377,7 @@ module _ (following : List ℕ) where
     answer (Starts v) at k s f fs mem = starts v at k s f fs mem
     answer Enters at k s f fs mem = leaves (Enter (lock_in (numbered shapes f.procedure) f)) (before at k s f ∷ fs) mem
     answer Leaves at k s f fs mem = leaves (Leave (lock_in (numbered shapes f.procedure) f)) (before at k s f ∷ fs) mem
-    answer (Awaits c) at k s f fs mem = awaits f.is_open (lock_in (numbered shapes f.procedure) f) c at k s f fs mem
+    answer (Awaits c) at k s f fs mem = leaves (Await (lock_in (numbered shapes f.procedure) f) c) (before at k s f ∷ fs) mem
     answer (PutsInt v n) at k s f fs mem = prints (written v n) at k s f fs mem
     answer (PutsChar v) at k s f fs mem = writes_out (option_map (λ c. c ∷ []) (code_in v)) at k s f fs mem
     answer (PutsString a n) at k s f fs mem = writes_out (text_at a n (rooted (f ∷ fs) mem)) at k s f fs mem
@@ -375,8 +390,13 @@ module _ (following : List ℕ) where
     answer (Sizes v d) at k s f fs mem = leaves (Trapped 16 0) (f ∷ fs) mem
     answer (Tests v t) at k s f fs mem = leaves (Trapped 16 0) (f ∷ fs) mem
 
+    -- the question is answered where the work finds what it needs
+    abbrev pub works : (found : Bool) → Question → ℕ → Keeps → Stack → Frame → List Frame → Memory → Turned
+    works true q at k s f fs mem = answer q at k s f fs mem
+    works false q at k s f fs mem = leaves (Trapped 16 0) (f ∷ fs) mem
+
     abbrev pub goes : Stop → Frame → List Frame → Memory → Turned
-    goes (Work q at k s) f fs mem = answer q at k s f fs mem
+    goes (Work q at k s) f fs mem = works (finds types q f mem) q at k s f fs mem
     goes (Ended (Begins at p s) k) f fs mem =
         record {
           store = mem;
@@ -490,10 +510,12 @@ abbrev pub condition_in : Option Body → List Instr
 condition_in None = []
 condition_in (Some b) = if list_all may_evaluate b.code.items then b.code.items else []
 
+-- it ends with 0 or 1
 abbrev pub decided : ℤ → Verdict
 decided (pos zero) = HoldsNot
-decided (pos (suc n)) = Holds
-decided (negsuc n) = Holds
+decided (pos (suc zero)) = Holds
+decided (pos (suc (suc n))) = Traps 16
+decided (negsuc n) = Traps 16
 
 -- it goes on with what a cell holds, or traps
 abbrev pub goes_on_with : Kind → Option Cell → (Cell → Verdict) → Verdict

@@ -1,5 +1,5 @@
 -- What each instruction does, and the silent work up to the next visible instruction.
-use Rattle.std.specs.Prelude.{ℕ, zero, suc, ℤ, pos, negsuc, ◌+◌, ◌-◌, ◌*◌, ◌^◌, List, [], ◌∷◌, ◌++◌, length, map, reverse, Bool, true, false, ◌&&◌, Option, Some, None, option_and_then, nat_eq, nat_le, nat_lt, if◌then◌else◌, slice_get, take, drop, replicate}
+use Rattle.std.specs.Prelude.{ℕ, zero, suc, ℤ, pos, negsuc, ◌+◌, ◌-◌, ◌*◌, ◌^◌, List, [], ◌∷◌, ◌++◌, length, map, reverse, Bool, true, false, ◌&&◌, Option, Some, None, option_and_then, nat_eq, nat_lt, if◌then◌else◌, slice_get, drop, replicate}
 use Rattle.aos_base.specs.declared.text.Pos.{Pos}
 use Rattle.aos_base.specs.declared.place.Root.{Root}
 use Rattle.aos_base.specs.declared.place.Root.TheVariants.{Frame as FrameRoot, Module as ModuleRoot, Object as ObjectRoot}
@@ -45,7 +45,7 @@ pub data Stop : Type 0 where
   Work : Question → (at : ℕ) → Keeps → (stack : Stack) → Stop
   Ended : End → Keeps → Stop
 
--- What an instruction asks an object for: the place of a cell; the place of its elements and so many lengths; whether its type
+-- What an instruction asks an object for: the place of a cell; the place of its elements and its lengths, so many; whether its type
 -- extends this one; itself, where that is so; its method in a slot, as a value with it; or that method, for which this procedure
 -- stands, which it then calls with these arguments.
 pub data Look : Type 0 where
@@ -451,7 +451,7 @@ on_noted (Answered v) q next at k s = next 0 (at + 1) k (v ∷ s)
 on_noted Unknown q next at k s = Ended lost k
 
 -- What an object tells is answered at once, by what it was made as: these operands, a trap, a call, or nothing, where there is no such
--- object, it has fewer lengths, or its type has another method in the slot than it should.
+-- object, it has another number of lengths, or its type has another method in the slot than it should.
 pub data Told : Type 0 where
   Tells : List Cell → Told
   Refuses : (number : ℕ) → Told
@@ -479,7 +479,7 @@ abbrev pub told_by : List ProcShape → List TypeDesc → Look → (object : ℕ
 told_by shapes types l o None = Unheard
 told_by shapes types (AtCell c) o (Some m) = Tells (Place (ObjectRoot o) c m.type ∷ [])
 told_by shapes types (AtElements j) o (Some m) =
-    if nat_le j (length m.lengths) then Tells (length_cells (take j m.lengths) ++ Place (ObjectRoot o) 0 0 ∷ []) else Unheard
+    if nat_eq j (length m.lengths) then Tells (length_cells m.lengths ++ Place (ObjectRoot o) 0 0 ∷ []) else Unheard
 told_by shapes types (IsType t) o (Some m) = Tells (Num (flag (extends types m.type t)) ∷ [])
 told_by shapes types (AsType t) o (Some m) = if extends types m.type t then Tells (Ref o ∷ []) else Refuses 3
 told_by shapes types (AsMethod k) o (Some m) = bound (method_at types m.type k) o

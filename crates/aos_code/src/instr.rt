@@ -56,7 +56,7 @@ pub enum Instr {
     Length(u32),
     /// Takes an object and gives the place of its cell of this number, with the object's type; trap 1 at NIL.
     Deref(u32),
-    /// Takes an open array that is an object, and gives its place and so many lengths; trap 1 at NIL.
+    /// Takes an open array that is an object, and gives its place and its lengths; trap 1 at NIL, trap 16 where it has not so many.
     OpenRef(u32),
     /// Takes a place and gives the one so many cells on, with this dynamic type of a record there, 0 for none.
     Offset(u32, u32),
@@ -128,19 +128,19 @@ pub enum Instr {
     /// Takes so many lengths, and makes an open array of them of the type of the first number, from 1, and gives it; trap 15 where
     /// a length is below 1, trap 12 where the heap is full.
     NewArray(u32, u32),
-    /// Takes an object and starts its activity; trap 13 where there is no room for one.
+    /// Takes an object and starts its activity; trap 13 where there is no room for one, trap 16 where its type has no active body.
     Start,
     /// Asks for the frame's lock, that of the object on which its procedure is called, or else of its module, and opens its region;
     /// trap 9 where the activity owns it.
     Enter,
-    /// Closes the frame's region, and releases its lock.
+    /// Closes the frame's region, and releases its lock; trap 16 where the region isn't open.
     Leave,
-    /// Waits in the frame's region for the condition of this number, from 0, while its lock is free for others; goes on where the region
+    /// Waits in the frame's region for the condition of this number, from 0, while its lock is free for others; trap 16 where the region
     /// isn't open.
     Await(u32),
-    /// Takes a number and ends a condition, which holds unless that is 0; trap 16 in a body that is no condition.
+    /// Takes 0 or 1 and ends a condition, which holds where that is 1; trap 16 in a body that is no condition.
     Verdict,
-    /// Ends the frame, with the result on the stack where there is one.
+    /// Ends the frame, with the result on the stack where there is one; trap 16 where its region is open.
     Return,
     /// Takes the code of a character and writes it.
     OutChar,

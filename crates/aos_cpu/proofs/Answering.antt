@@ -1,22 +1,20 @@
 -- What is answered for any image is answered for this one.
-use Rattle.std.proofs.Common.{◌≡◌, ℕ, List, [], ◌∷◌, drop, reverse, refl, sym, ap, ◌∙◌, subst}
+use Rattle.std.proofs.Common.{◌≡◌, ℕ, List, ◌∷◌, drop, reverse, refl, sym, ap, ◌∙◌, subst}
 use Rattle.std.proofs.lemmas.List.{append-nil}
-use Rattle.std.specs.Prelude.{Result, IfOk, Bool, true, false}
+use Rattle.std.specs.Prelude.{Result, IfOk, false}
 use Rattle.aos_base.specs.declared.text.NoMemory.{NoMemory}
 use Rattle.aos_base.specs.declared.kernel.Did.{Did}
-use Rattle.aos_base.specs.declared.kernel.Did.TheVariants.{Await, Went}
 use Rattle.aos_base.specs.declared.kernel.LockName.{LockName}
 use Rattle.aos_code.specs.declared.image.Image.{Image}
 use Rattle.aos_code.specs.Memory.{Memory}
 use Rattle.aos_code.specs.Silent.{Stack, Question}
 use Rattle.aos_code.specs.Numbered.{numbered}
-use Rattle.aos_code.specs.Machine.{Frame, Frames, Turned, answer, awaits, before as before_it, leaves, lock_in}
+use Rattle.aos_code.specs.Machine.{Frame, Frames, Turned, answer, before as before_it, leaves, lock_in}
 use Rattle.aos_store.specs.declared.frames.Frames.{Frames as KeptFrames}
 use Rattle.aos_store.specs.Store.{list_in, frames_in}
 use Rattle.aos_silent.specs.declared.act.Question.{Question as KeptQuestion}
-use Rattle.aos_silent.specs.declared.act.Question.TheVariants.{Awaits as AsksAwait}
 use Rattle.aos_silent.specs.Acts.{question_in, operands_of}
-use Rattle.aos_cpu.specs.Answers.{Made, IsAnswered, IsBehind}
+use Rattle.aos_cpu.specs.Answers.{Made, IsAnswered}
 use Rattle.aos_cpu.specs.Turns.{HasAnswered, Stands}
 use Rattle.aos_silent.proofs.Oks.{ok_more}
 
@@ -53,26 +51,3 @@ pub left_in : (image : Image) (q kept : KeptQuestion) (work : LockName → Did) 
 left_in image q kept work l at old mem out is stands asks is_lock =
     subst (λ (x : KeptQuestion). HasAnswered image x at old old mem mem (work l) out out) (sym is)
     (left_answered image kept work l at old mem out (subst (λ (x : KeptQuestion). Stands x at old) is stands) asks is_lock)
-
--- A condition is awaited: in an open region that is left to the kernel, and else the frame goes on.
-module _ (image : Image) (c at : ℕ) (old : KeptFrames) (mem : Memory) (out : List ℕ) where
-  abbrev Answered : Bool → LockName → Frame → List Frame → Did → KeptFrames → Type 0
-  Answered is_open l f fs did new = Made (awaits (reverse old.following.items) is_open l c at f.keeps f.stack f fs mem) false did (frames_in new) mem out out
-
-  pub awaits_left : (l : LockName) → Stands (AsksAwait c) at old → ((f : Frame) (fs : List Frame) → list_in old.list.items ≡ f ∷ fs → true ≡ f.is_open) →
-      ((f : Frame) (fs : List Frame) → list_in old.list.items ≡ f ∷ fs → l ≡ lock_in (numbered image.shapes.items f.procedure) f) → HasAnswered image (AsksAwait c) at old old mem mem (Await l c) out out
-  awaits_left l stands is_open is_lock f fs is =
-      let following = reverse old.following.items in
-      let there : at ≡ f.next = (stands f fs is).0 in
-      let now : (let x : Frames = record { following = following; frames = before_it following at f.keeps f.stack f ∷ fs } in x) ≡ frames_in old =
-      (λ i. (let x : Frames = record { following = following; frames = record f { next = there i } ∷ fs } in x))
-      ∙ ap (λ xs. (let x : Frames = record { following = following; frames = xs } in x)) (sym is) in
-      let made : Answered true (lock_in (numbered image.shapes.items f.procedure) f) f fs (Await l c) old =
-      record { store = refl; frames = now; output = sym (append-nil out); begun = refl; left = ap (λ m. Await m c) (sym (is_lock f fs is)) } in
-      subst (λ b. Answered b (lock_in (numbered image.shapes.items f.procedure) f) f fs (Await l c) old) (is_open f fs is) made
-
-  pub awaits_gone : (new : KeptFrames) → ((f : Frame) (fs : List Frame) → list_in old.list.items ≡ f ∷ fs → false ≡ f.is_open) → IsBehind at 0 [] old new → HasAnswered image (AsksAwait c) at old new mem mem Went out out
-  awaits_gone new is_open behind f fs is =
-      let made : Answered false (lock_in (numbered image.shapes.items f.procedure) f) f fs Went new =
-      record { store = refl; frames = sym (behind f fs is); output = sym (append-nil out); begun = refl; left = refl } in
-      subst (λ b. Answered b (lock_in (numbered image.shapes.items f.procedure) f) f fs Went new) (is_open f fs is) made

@@ -5,7 +5,6 @@ use Rattle.aos_base.specs.declared.place.Root.{Root}
 use Rattle.aos_base.specs.declared.place.Root.TheVariants.{Frame as FrameRoot, Module as ModuleRoot, Object as ObjectRoot}
 use Rattle.aos_base.specs.declared.number.Relation.{Relation}
 use Rattle.aos_base.specs.declared.kernel.Did.TheVariants.{Trapped}
-use Rattle.aos_base.specs.declared.kernel.LockName.{LockName}
 use Rattle.aos_base.specs.Number.{array_lengths}
 use Rattle.aos_base.specs.Question.{Reads, Stores, Copies, PutsText, ComparesTexts, Calls, Ends, Makes, Starts, Enters, Leaves, Awaits, PutsInt, PutsChar, PutsString, PutsNothing, PutsLn, Places, Lengths, Opens, Sizes, Tests}
 use Rattle.aos_base.specs.Rooted.{Made, Rooted, by_number, load}
@@ -18,7 +17,7 @@ use Rattle.aos_code.specs.declared.image.Image.{Image}
 use Rattle.aos_code.specs.Numbered.{numbered}
 use Rattle.aos_code.specs.Memory.{Addr, Memory, has_room}
 use Rattle.aos_code.specs.Silent.{Stack, Keeps, Question, Begins, Fails, Decides, Stop, Work, Ended, is_of}
-use Rattle.aos_code.specs.Machine.{object_of, arguments_of, Frame, Frames, Turned, Handed, first_cell, rooted, cells_at, memory_with, made_in, leaves, goes_on, behind, written, writes, reads, copies, prints, writes_out, makes, makes_with, makes_of, numbers_in, in_rows, starts, awaits, lock_in, stores_text, fitted, puts_text, compares, called_frame, is_deep, enters, calls_with, calls, handed, text_at, length_in, code_in, character_cells, answer, goes, opened, stop_of, turn_at, turn}
+use Rattle.aos_code.specs.Machine.{object_of, arguments_of, Frame, Frames, Turned, Handed, first_cell, rooted, cells_at, memory_with, made_in, leaves, goes_on, behind, written, writes, reads, copies, prints, writes_out, makes, makes_with, makes_of, numbers_in, in_rows, starts, works, finds, stores_text, fitted, puts_text, compares, called_frame, is_deep, enters, calls_with, calls, handed, text_at, length_in, code_in, character_cells, answer, goes, opened, stop_of, turn_at, turn}
 use Rattle.aos_silent.specs.Known.{Knows}
 
 read_still : {A : Type 0} (xs ys : List A) (k : ℕ) (x : A) → slice_get xs k ≡ Some x → slice_get (xs ++ ys) k ≡ Some x
@@ -116,10 +115,6 @@ module _ (image : Image) (following : List ℕ) (f : Frame) (fs : List Frame) (m
     call_grows None p vs = stays
     call_grows (Some shape) p vs = call_with_grows p (object_of shape.method vs) shape (handed following (suc (length fs)) (rooted (f ∷ fs) mem) shape.params.items (arguments_of shape.method vs) (length shape.kinds.items))
 
-    await_grows : (is_open : Bool) (l : LockName) (c : ℕ) → Grows (awaits following is_open l c at k s f fs mem)
-    await_grows true l c = stays
-    await_grows false l c = stays
-
     answer_grows : (q : Question) → Grows (answer following image.shapes.items image.types.items q at k s f fs mem)
     answer_grows (Reads kind a) = read_grows kind (load a.root a.cell (rooted (f ∷ fs) mem))
     answer_grows (Stores a v) = write_grows (is_some (load a.root a.cell (rooted (f ∷ fs) mem))) a (v ∷ [])
@@ -132,7 +127,7 @@ module _ (image : Image) (following : List ℕ) (f : Frame) (fs : List Frame) (m
     answer_grows (Starts v) = start_grows v
     answer_grows Enters = stays
     answer_grows Leaves = stays
-    answer_grows (Awaits c) = await_grows f.is_open (lock_in (numbered image.shapes.items f.procedure) f) c
+    answer_grows (Awaits c) = stays
     answer_grows (PutsInt v n) = print_grows (written v n)
     answer_grows (PutsChar v) = out_grows (option_map (λ c. c ∷ []) (code_in following v))
     answer_grows (PutsString a n) = out_grows (text_at following a n (rooted (f ∷ fs) mem))
@@ -144,8 +139,12 @@ module _ (image : Image) (following : List ℕ) (f : Frame) (fs : List Frame) (m
     answer_grows (Sizes v d) = stays
     answer_grows (Tests v t) = stays
 
+    works_grow : (found : Bool) (q : Question) → Grows (works following image.shapes.items image.types.items found q at k s f fs mem)
+    works_grow true q = answer_grows q
+    works_grow false q = stays
+
   goes_grows : (stop : Stop) → Grows (goes following image.shapes.items image.types.items stop f fs mem)
-  goes_grows (Work q at k s) = answer_grows at k s q
+  goes_grows (Work q at k s) = works_grow at k s (finds image.types.items q f mem) q
   goes_grows (Ended (Begins at p s) k) = stays
   goes_grows (Ended (Fails n c) k) = stays
   goes_grows (Ended (Decides a) k) = stays

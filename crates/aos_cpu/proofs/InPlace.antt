@@ -21,11 +21,18 @@ use Rattle.aos_code.specs.declared.image.Image.{Image}
 use Rattle.aos_code.specs.Memory.{Memory}
 use Rattle.aos_code.specs.Silent.{Stack, Stop, Work, Ended, Begins, Sees, Stops, lost, is_of, on_place, on_numbers, Goes, on_act, stores, act, walk, silent}
 use Rattle.aos_code.specs.Machine.{Frame, Frames, Turned, rooted, frames_with, memory_with, turn, code_of, made_in, stop_of, goes, reads, writes, goes_on, leaves, behind, opened}
+use Rattle.aos_code.specs.Numbered.{numbered}
+use Rattle.aos_sound.specs.Fits.{KeepsToPaths, StandsOn, StandsStopped, result_of}
+use Rattle.aos_sound.specs.FitFrames.{IsSoundImage, HasBody, FitFor, FramesFit, depth_of}
+use Rattle.aos_sound.proofs.FitsWalks.{keeps_to_paths}
+use Rattle.aos_sound.proofs.FitsFrames.{paths_of, stop_stands, goes_fits}
 use Rattle.aos_store.specs.declared.frames.Frame.{Frame as KeptFrame}
 use Rattle.aos_store.specs.declared.frames.Frames.{Frames as KeptFrames}
 use Rattle.aos_store.specs.declared.cells.Change.TheVariants.{Sets}
 use Rattle.aos_store.specs.Store.{frame_in, list_in, frames_in, fits, fits_in, changed, with_cells}
+use Rattle.aos_store.specs.Room.{HasMoreRoom, AreRoomyFor}
 use Rattle.aos_store.proofs.Lists.{there_is}
+use Rattle.aos_store.proofs.Rooms.{roomy_set}
 use Rattle.aos_silent.specs.declared.act.Act.{Act as KeptAct}
 use Rattle.aos_silent.specs.declared.act.Act.TheVariants.{Goes as GoesOn, Sees as Asks, Begins as BeginsAt, Fails as FailsWith, Decides as DecidesWith}
 use Rattle.aos_silent.specs.declared.act.Spot.{Spot}
@@ -33,10 +40,11 @@ use Rattle.aos_silent.specs.Acts.{spot_in, kind_in, addr_in, WhereStays}
 use Rattle.aos_silent.specs.Known.{Knows}
 use Rattle.aos_silent.specs.Steps.{IsStepOf, after}
 use Rattle.aos_silent.specs.Silent.{Seen, here_at, silent_at, seen_at, seen_with}
+use Rattle.aos_silent.specs.Room.{keeps_for, FitInRoom}
 use Rattle.aos_silent.proofs.Walks.{acts, seen_on}
 use Rattle.aos_cpu.specs.Turns.{SeenFrames, Alike, seen_frames, counted, Shown, IsTurned, Rests, WhereLeft}
 use Rattle.aos_cpu.specs.Private.{no_memory, made_by, is_of_frame, is_own_stop, alone, IsPrivate, after_turns, begun_after, IsMadePrivately, turns_since}
-use Rattle.aos_cpu.specs.InPlace.{on_top, IsSet, HasSet, TurnsTo, HasTurnedTop, HasWorked, HasRunTop, HasTriedTop, HasTriedInPlace}
+use Rattle.aos_cpu.specs.InPlace.{on_top, FitsSo, IsSet, HasSet, TurnsTo, HasTurnedTop, HasWorked, HasRunTop, HasTriedTop, HasTriedInPlace}
 use Rattle.aos_cpu.proofs.Turns.{itself, after_turn, alike_both, some_same, list_top, list_set, all_but_top, rest_length, turn_alike}
 use Rattle.aos_cpu.proofs.Own.{none_here, no_number, nothing_made, own_turned, own_store, at_or_below, told, AllTold}
 
@@ -164,17 +172,31 @@ turned_top image here mem now f g begins stop same is own comes =
             begun = similar.begun ∙ ap (λ (t : Turned). t.begun) turned;
             left = similar.left ∙ ap (λ (t : Turned). t.left) turned;
           };
+      fits = λ whole following rest len fit.
+          subst (FramesFit image) (ap (λ (t : Turned). t.frames) (comes following rest len))
+          (goes_fits image whole following fit.1 f rest fit.0 mem stop
+          (subst (StandsStopped image f.procedure (code_of image f.procedure)) (at_stop rest len) (stop_stands image whole (made_in image mem) f rest fit.0))).0;
     }
 
 -- silent work after silent work
 pub worked_none : (image : Image) (here : ℕ) (mem : Memory) (f : Frame) → HasWorked image here mem mem f f
-worked_none image here mem f = record { seen = λ all knows. refl; memory = refl }
+worked_none image here mem f = record { seen = λ all knows. refl; memory = refl; fits = λ whole following rest len fit. fit }
+
+-- none that is seen
+pub worked_same : (image : Image) (here : ℕ) (mem now : Memory) (f g : Frame) → g ≡ f → now ≡ mem → HasWorked image here mem now f g
+worked_same image here mem now f g e memory =
+    record {
+      seen = λ all knows. ap (seen_at image all here) e;
+      memory = memory;
+      fits = λ whole following rest len fit. subst (λ (x : Frame). FramesFit image (on_top following x rest)) (sym e) fit;
+    }
 
 pub worked_both : (image : Image) (here : ℕ) (mem was now : Memory) (f mid g : Frame) → HasWorked image here mem was f mid → HasWorked image here was now mid g → HasWorked image here mem now f g
 worked_both image here mem was now f mid g first second =
     record {
       seen = λ all knows. second.seen all (subst (λ (m : Memory). Knows all (made_in image m)) (sym first.memory) knows) ∙ first.seen all knows;
       memory = second.memory ∙ first.memory;
+      fits = λ whole following rest len fit. second.fits whole following rest len (first.fits whole following rest len fit);
     }
 
 -- also from a frame that is seen the same
@@ -191,6 +213,7 @@ turned_after image here begins mem was now f mid g e turned =
       turns = λ following rest fs len h.
           subst (λ m. TurnsTo image begins m now fs (on_top following g rest)) e.memory
           (turned.turns following rest fs len (subst (λ (m : Memory). Alike image (made_in image m) fs (on_top following mid rest)) (sym e.memory) (alike_top image made here f mid following rest fs len (λ all knows. sym (e.seen all knows)) h)));
+      fits = λ whole following rest len fit. turned.fits whole following rest len (e.fits whole following rest len fit);
     }
 
 module _ (image : Image) (made : ℕ → Option MadeAs) (here : ℕ) (f : Frame) where
@@ -231,6 +254,31 @@ module _ (image : Image) (here : ℕ) (f : Frame) where
       ap (λ b. writes following b (addr_in p) (v ∷ []) f.next f.keeps (drop 2 f.stack) f rest mem) (set.there rest len)
       ∙ (λ i. goes_on following (set.frames rest len (f.next + 1) (drop 2 f.stack) i) (sym set.memory i)))
 
+-- silent work that goes on stays on a path
+went_fits : (image : Image) (made : ℕ → Option MadeAs) (here : ℕ) (f g : Frame) (code : List Instr) (did : KeptAct) (over m : ℕ) → code ≡ code_of image f.procedure → f.next < length code →
+    IsStepOf image.shapes.items image.types.items made (act image.shapes.items image.types.items f.procedure (here_at here f) (get_or code f.next (Num (pos 0))) code f.next f.stack) did f g → did ≡ GoesOn over →
+    m ≡ min (f.next + 1 + over) (2 ^ 64 - 1) → length code < 2 ^ 64 → FitsSo image here f (record g { next = m })
+went_fits image made here f g code did over m code_is within step e is small whole following rest len fit =
+    let p = f.procedure in
+    let own : g.procedure ≡ p = ap (λ (x : Frame). x.procedure) step.same in
+    let paths : KeepsToPaths image p code (depth_of image p) =
+    subst (λ c. KeepsToPaths image p c (depth_of image p)) (sym code_is) (keeps_to_paths image p (code_of image p) (depth_of image p) (paths_of image whole p fit.0.0)) in
+    let stands : StandsOn image p code f.next f.stack = subst (λ c. StandsOn image p c f.next f.stack) (sym code_is) fit.0.1 in
+    let i = get_or code f.next (Num (pos 0)) in
+    let on : StandsOn image p code (f.next + 1 + over) g.stack =
+    paths.goes (here_at here f) made f.cells f.next i f.keeps f.stack (slice_get-get_or code f.next (Num (pos 0)) within) stands over g.keeps g.stack
+    (λ next. step.goes next f.next ∙ ap (λ x. after x next f.next g.keeps g.stack) e) in
+    let lt = paths.within (f.next + 1 + over) g.stack on in
+    let there : m ≡ f.next + 1 + over = omega (arith, is, lt, small) in
+    let now : StandsOn image p (code_of image p) m g.stack = subst (λ (x : ℕ × List Instr). StandsOn image p x.1 x.0 g.stack) (λ j. (sym there j, code_is j)) on in (
+      (
+        subst (HasBody image) (sym own) fit.0.0,
+        subst (λ q. StandsOn image q (code_of image q) m g.stack) (sym own) now,
+        subst (λ q. FitFor image (result_of (numbered image.shapes.items q)) rest) (sym own) fit.0.2,
+      ),
+      fit.1,
+    )
+
 -- An act that has been done.
 module _ (image : Image) (here : ℕ) (mem : Memory) (f g : Frame) (code : List Instr) (at : ℕ) (did : KeptAct) (code_is : code ≡ code_of image f.procedure) (at_is : at ≡ f.next) (within : at < length code)
     (step : IsStepOf image.shapes.items image.types.items (made_in image mem) (act image.shapes.items image.types.items f.procedure (here_at here f) (get_or code at (Num (pos 0))) code at f.stack) did f g) where
@@ -245,6 +293,8 @@ module _ (image : Image) (here : ℕ) (mem : Memory) (f g : Frame) (code : List 
             (subst (λ n. m ≡ min (n + 1 + over) (2 ^ 64 - 1)) at_is is) small
             ∙ ap (λ (l : List Instr). seen_with image l all here f) code_is;
         memory = refl;
+        fits = went_fits image (made_in image mem) here f g code did over m code_is (subst (λ n. n < length code) at_is within) there e
+            (subst (λ n. m ≡ min (n + 1 + over) (2 ^ 64 - 1)) at_is is) small;
       }
 
   pub begun_top : (to : ℕ) (p : Pos) → did ≡ BeginsAt to p → HasTurnedTop image here true mem mem f (record g { next = to + 1; at = Some p })
@@ -274,12 +324,13 @@ pub run_none : (image : Image) (here budget begun : ℕ) (f : Frame) → HasRunT
 run_none image here budget begun f = (
   refl,
   λ following rest made fs len h. record { private = λ i lt. absurd (omega arith); below = λ i lt. absurd (omega arith); alike = h; statements = refl },
+  λ whole following rest len fit. fit,
 )
 
 -- silent work of a frame where there is no memory
 pub run_still : (image : Image) (here budget many begun now : ℕ) (f mid g : Frame) → HasRunTop image here budget many begun now f mid → ((all : ℕ → Option MadeAs) → seen_at image all here g ≡ seen_at image all here mid) →
-    HasRunTop image here budget many begun now f g
-run_still image here budget many begun now f mid g before e = (
+    FitsSo image here mid g → HasRunTop image here budget many begun now f g
+run_still image here budget many begun now f mid g before e fits = (
   ap (λ (x : Seen). x.procedure) (e (made_by [])) ∙ before.0,
   λ following rest made fs len h.
       let r = before.1 following rest made fs len h in
@@ -289,6 +340,7 @@ run_still image here budget many begun now f mid g before e = (
         alike = alike_top image (made_by made) here mid g following rest (after_turns image made many fs) len (λ all knows. sym (e all)) r.alike;
         statements = r.statements;
       },
+  λ whole following rest len fit. fits whole following rest len (before.2 whole following rest len fit),
 )
 
 pub run_more : (image : Image) (here budget many begun now now' : ℕ) (begins : Bool) (mem was : Memory) (f mid g : Frame) → mem ≡ no_memory → HasRunTop image here budget many begun now f mid → now < budget →
@@ -310,7 +362,12 @@ run_more image here budget many begun now now' begins mem was f mid g none befor
             alike = λ all knows. o.1 all knows ∙ t.alike all (subst (λ (x : Memory). Knows all (made_in image x)) (sym still) (nothing_made all));
             statements = counts ∙ (λ i. counted (sym (o.2 ∙ t.begun) i) (r.statements i));
           },
+      λ whole following rest len fit. turned.fits whole following rest len (before.2 whole following rest len fit),
     )
+
+pub tried_fits : (image : Image) (here : ℕ) (r : Option Bool) (mem now : Memory) (f g : Frame) → HasTriedTop image here r mem now f g → FitsSo image here f g
+tried_fits image here None mem now f g tried = tried.fits
+tried_fits image here (Some begins) mem now f g tried = tried.fits
 
 -- The frames that are kept.
 
@@ -350,6 +407,14 @@ module _ (old : KeptFrames) (n here : ℕ) (f g : KeptFrame) (len : n ≡ length
     subst (Alike image (made_in image mem) (frames_in old)) (sym new_top)
         (alike_top image (made_in image mem) here (frame_in f) (frame_in g) following rest (frames_in old) so_many (λ all knows. sym (worked.seen all knows)) (subst (Alike image (made_in image mem) (frames_in old)) old_top (λ all knows. refl))),
     worked.memory,
+  )
+
+  -- they fit and have room as before
+  pub kept_fit : (image : Image) → FitsSo image here (frame_in f) (frame_in g) → HasMoreRoom f g → IsSoundImage image → FitInRoom image old →
+      FramesFit image now_frames × AreRoomyFor (depth_of image) (keeps_for image) (slice_set old.list.items (n - 1) g)
+  kept_fit image fits more whole fit = (
+    subst (FramesFit image) (sym new_top) (fits whole following rest so_many (subst (FramesFit image) old_top fit.0)),
+    roomy_set (depth_of image) (keeps_for image) old.list.items (n - 1) f g e more fit.1,
   )
 
   pub kept_tried : (image : Image) (r : Option Bool) (mem now : Memory) → HasTriedTop image here r mem now (frame_in f) (frame_in g) → HasTriedInPlace image r mem now (frames_in old) now_frames

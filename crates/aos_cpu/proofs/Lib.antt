@@ -13,3 +13,5 @@ pub mod Calling
 pub mod Growing
 pub mod Making
 pub mod Passing
+pub mod InRoom
+pub mod Fitting

@@ -21,7 +21,7 @@ use Rattle.aos_code.specs.declared.image.ParamKind.TheVariants as param
 use Rattle.aos_code.specs.Memory.{Memory}
 use Rattle.aos_code.specs.Numbered.{numbered}
 use Rattle.aos_code.specs.Silent.{Stack, Keeps, Question, Begins, Fails, Decides, Stop, Work, Ended, is_of, cells_of}
-use Rattle.aos_code.specs.Machine.{here_of, object_of, arguments_of, Frame, Frames, Turned, Handed, hand, rooted, if_all, cells_at, leaves, goes_on, behind, reads, writes, copies, stores_text, fitted, puts_text, compares, is_deep, enters, calls_with, calls, lengths_in, whole_at, copied_open, handed, called_frame, text_in, text_at, length_in, character_cells, answer, goes, opened, code_of, made_in, stop_of, turn, turn_at}
+use Rattle.aos_code.specs.Machine.{here_of, object_of, arguments_of, Frame, Frames, Turned, Handed, hand, rooted, if_all, cells_at, leaves, goes_on, behind, reads, writes, copies, stores_text, fitted, puts_text, compares, is_deep, enters, calls_with, calls, lengths_in, whole_at, copied_open, handed, called_frame, text_in, text_at, length_in, character_cells, answer, works, finds, goes, opened, code_of, made_in, stop_of, turn, turn_at}
 use Rattle.aos_store.specs.declared.frames.Frames.{Frames as KeptFrames}
 use Rattle.aos_store.specs.declared.memory.Store.{Store}
 use Rattle.aos_store.specs.Store.{frames_in, memory_in, SameCounts}
@@ -207,7 +207,7 @@ module _ (following : List ℕ) (f : Frame) (fs : List Frame) (mem : Memory) whe
   answer_own shapes types (PutsInt v n) at k s e = absurd (cc e)
   answer_own shapes types (PutsChar v) at k s e = absurd (cc e)
   answer_own shapes types (PutsString a n) at k s e = absurd (cc e)
-  answer_own shapes types PutsNothing at k s e = refl
+  answer_own shapes types PutsNothing at k s e = absurd (cc e)
   answer_own shapes types PutsLn at k s e = absurd (cc e)
   answer_own shapes types (Places a) at k s e = absurd (cc e)
   answer_own shapes types (Lengths a) at k s e = absurd (cc e)
@@ -215,8 +215,19 @@ module _ (following : List ℕ) (f : Frame) (fs : List Frame) (mem : Memory) whe
   answer_own shapes types (Sizes v d) at k s e = absurd (cc e)
   answer_own shapes types (Tests v t) at k s e = absurd (cc e)
 
+  -- and finds what it needs wherever it does so
+  finds_own : (shapes : List ProcShape) (types : List TypeDesc) (q : Question) → is_own shapes q ≡ true → finds types q f mem ≡ finds types q f no_memory
+  finds_own shapes types (Ends result) e = refl
+  finds_own shapes types (Starts v) e = absurd (cc e)
+  finds_own shapes types q e = refl
+
+  works_own : (shapes : List ProcShape) (types : List TypeDesc) (found : Bool) (q : Question) (at : ℕ) (k : Keeps) (s : Stack) → is_own shapes q ≡ true → works following shapes types found q at k s f fs mem ≡ over mem (works following shapes types found q at k s f fs no_memory)
+  works_own shapes types true q at k s e = answer_own shapes types q at k s e
+  works_own shapes types false q at k s e = refl
+
   goes_own : (shapes : List ProcShape) (types : List TypeDesc) (stop : Stop) → is_own_stop shapes stop ≡ true → goes following shapes types stop f fs mem ≡ over mem (goes following shapes types stop f fs no_memory)
-  goes_own shapes types (Work q at k s) e = answer_own shapes types q at k s e
+  goes_own shapes types (Work q at k s) e =
+      ap (λ b. works following shapes types b q at k s f fs mem) (finds_own shapes types q e) ∙ works_own shapes types (finds types q f no_memory) q at k s e
   goes_own shapes types (Ended (Begins at p s) k) e = refl
   goes_own shapes types (Ended (Fails n c) k) e = absurd (cc e)
   goes_own shapes types (Ended (Decides a) k) e = absurd (cc e)

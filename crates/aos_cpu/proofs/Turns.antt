@@ -20,12 +20,12 @@ use Rattle.aos_code.specs.declared.image.TypeDesc.{TypeDesc}
 use Rattle.aos_code.specs.Memory.{Memory, Addr, has_room}
 use Rattle.aos_code.specs.Numbered.{numbered}
 use Rattle.aos_code.specs.Silent.{Stack, Keeps, Question, Begins, Fails, Decides, Stop, Work, Ended, is_of}
-use Rattle.aos_code.specs.Machine.{here_of, object_of, arguments_of, Frame, Frames, Turned, Handed, rooted, cells_at, written, leaves, goes_on, reads, writes, copies, ends, prints, writes_out, makes, makes_with, makes_of, numbers_in, in_rows, first_cell, made_in, starts, stores_text, fitted, puts_text, compares, is_deep, enters, calls_with, calls, handed, called_frame, answer, goes, text_at, length_in, code_in, before as before_it, own_lock, lock_in, awaits, opens, regions_of, opened, opened_by, past, past_all, past_stop, is_passed, code_of, stop_of, turn, turn_at, behind, home_of, position, position_in, position_or, lowest_home, or_below}
+use Rattle.aos_code.specs.Machine.{here_of, object_of, arguments_of, Frame, Frames, Turned, Handed, rooted, cells_at, written, leaves, goes_on, reads, writes, copies, ends, prints, writes_out, makes, makes_with, makes_of, numbers_in, in_rows, first_cell, made_in, starts, stores_text, fitted, puts_text, compares, is_deep, enters, calls_with, calls, handed, called_frame, answer, goes, text_at, length_in, code_in, before as before_it, own_lock, lock_in, works, finds, opens, regions_of, opened, opened_by, past, past_all, past_stop, is_passed, code_of, stop_of, turn, turn_at, behind, home_of, position, position_in, position_or, lowest_home, or_below}
 use Rattle.aos_store.specs.declared.frames.Frame.{Frame as KeptFrame}
 use Rattle.aos_store.specs.declared.frames.Frames.{Frames as KeptFrames}
 use Rattle.aos_store.specs.Store.{frame_in, list_in, frames_in}
 use Rattle.aos_silent.specs.declared.act.Question.{Question as KeptQuestion}
-use Rattle.aos_silent.specs.declared.act.Question.TheVariants.{Starts as AsksStart, Enters as AsksEnter, Leaves as AsksLeave, Awaits as AsksAwait}
+use Rattle.aos_silent.specs.declared.act.Question.TheVariants.{Ends as AsksEnd, Starts as AsksStart, Enters as AsksEnter, Leaves as AsksLeave, Awaits as AsksAwait}
 use Rattle.aos_silent.specs.declared.silent.Stop.{Stop as KeptStop}
 use Rattle.aos_silent.specs.declared.silent.Stop.TheVariants.{Work as AtWork, Begins as AtBegin}
 use Rattle.aos_silent.specs.Acts.{question_in, operands_of}
@@ -223,11 +223,6 @@ module _ (image : Image) (following : List ℕ) (g : Frame) (n : ℕ) (k' : Keep
   lock_both q work shape at k s asks =
       record { similar = similar_is image _ _ (ap (λ l. leaves following (work l) (before_it following at k s g ∷ fs) mem) (lock_same shape)); asks = asks }
 
-  await_both : (is_open : Bool) (c : ℕ) (shape : Option ProcShape) (at : ℕ) (k : Keeps) (s : Stack) →
-      Both image (Awaits c) (awaits following is_open (lock_in shape f') c at k s f' fs mem) (awaits following is_open (lock_in shape g) c at k s g fs mem)
-  await_both true c shape at k s = lock_both (Awaits c) (λ l. Await l c) shape at k s refl
-  await_both false c shape at k s = same (Awaits c) _ refl
-
   store_text_both : (q : Question) (t : Option (List ℕ)) (to : Addr) (x : Rooted (List Cell)) (at : ℕ) (k : Keeps) (s : Stack) → Both image q (stores_text following t to x at k s f' fs mem) (stores_text following t to x at k s g fs mem)
   store_text_both q None to x at k s = lost q 15 0
   store_text_both q (Some cs) to x at k s = write_both q _ to _ at k s
@@ -270,7 +265,7 @@ module _ (image : Image) (following : List ℕ) (g : Frame) (n : ℕ) (k' : Keep
   answer_both (Starts v) at k s = start_both v at k s
   answer_both Enters at k s = lock_both Enters Enter (numbered image.shapes.items g.procedure) at k s refl
   answer_both Leaves at k s = lock_both Leaves Leave (numbered image.shapes.items g.procedure) at k s refl
-  answer_both (Awaits c) at k s = await_both g.is_open c (numbered image.shapes.items g.procedure) at k s
+  answer_both (Awaits c) at k s = lock_both (Awaits c) (λ l. Await l c) (numbered image.shapes.items g.procedure) at k s refl
   answer_both (PutsInt v m) at k s = print_both (PutsInt v m) (written v m) at k s
   answer_both (PutsChar v) at k s = out_both (PutsChar v) (option_map (λ c. c ∷ []) (code_in following v)) at k s
   answer_both (PutsString a m) at k s = out_both (PutsString a m) (text_at following a m (rooted (g ∷ fs) mem)) at k s
@@ -282,8 +277,20 @@ module _ (image : Image) (following : List ℕ) (g : Frame) (n : ℕ) (k' : Keep
   answer_both (Sizes v d) at k s = lost (Sizes v d) 16 0
   answer_both (Tests v t) at k s = lost (Tests v t) 16 0
 
+  -- what work needs is found of both or of none
+  found_same : (q : Question) → finds image.types.items q f' mem ≡ finds image.types.items q g mem
+  found_same (Ends result) = refl
+  found_same q = refl
+
+  works_alike : (found : Bool) (q : Question) (at : ℕ) (k : Keeps) (s : Stack) →
+      Similar image (works following image.shapes.items image.types.items found q at k s f' fs mem) (works following image.shapes.items image.types.items found q at k s g fs mem)
+  works_alike true q at k s = (answer_both q at k s).similar
+  works_alike false q at k s = lost_alike 16 0
+
   pub goes_alike : (stop : Stop) → Similar image (goes following image.shapes.items image.types.items stop f' fs mem) (goes following image.shapes.items image.types.items stop g fs mem)
-  goes_alike (Work q at k s) = (answer_both q at k s).similar
+  goes_alike (Work q at k s) =
+      subst (λ b. Similar image (works following image.shapes.items image.types.items b q at k s f' fs mem) (works following image.shapes.items image.types.items (finds image.types.items q g mem) q at k s g fs mem))
+      (sym (found_same q)) (works_alike (finds image.types.items q g mem) q at k s)
   goes_alike (Ended (Begins at p s) k) = similar_is image _ _ refl
   goes_alike (Ended (Fails c d) k) = lost_alike c d
   goes_alike (Ended (Decides a) k) = lost_alike 16 0
@@ -371,9 +378,10 @@ stands_at image made q at old x f fs is = ((at_stop image made q at (list_in old
 
 -- a question has been answered
 pub worked : (image : Image) (q : KeptQuestion) (at : ℕ) (old new : KeptFrames) (mem mem' : Memory) (did : Did) (before after : List ℕ) →
-    StandsAtStop image (made_in image mem) (AtWork q at) (list_in old.list.items) → HasAnswered image q at old new mem mem' did before after → new.begun ≡ old.begun →
+    StandsAtStop image (made_in image mem) (AtWork q at) (list_in old.list.items) →
+    ((f : Frame) (fs : List Frame) → list_in old.list.items ≡ f ∷ fs → finds image.types.items (question_in q f.stack) f mem ≡ true) → HasAnswered image q at old new mem mem' did before after → new.begun ≡ old.begun →
     Shown image (turn image mem (frames_in old)) did old new mem' before after
-worked image q at old new mem mem' did before after stands answered e = by_list (list_in old.list.items) refl stands
+worked image q at old new mem mem' did before after stands found answered e = by_list (list_in old.list.items) refl stands
   where
     by_list : (l : List Frame) → list_in old.list.items ≡ l → StandsAtStop image (made_in image mem) (AtWork q at) l →
         Shown image (turn image mem (frames_in old)) did old new mem' before after
@@ -382,7 +390,17 @@ worked image q at old new mem mem' did before after stands answered e = by_list 
         let following = reverse old.following.items in
         subst (λ (l : List Frame). Shown image (turn image mem (record { following = following; frames = l })) did old new mem' before after) (sym is)
         (subst (λ (y : Stop). Shown image (goes following image.shapes.items image.types.items y f fs mem) did old new mem' before after) (sym x.0)
-        (shown_made image _ false did old new mem' before after (answered f fs is) e))
+        (subst (λ b. Shown image (works following image.shapes.items image.types.items b (question_in q f.stack) at f.keeps (drop (operands_of q) f.stack) f fs mem) did old new mem' before after) (sym (found f fs is))
+        (shown_made image _ false did old new mem' before after (answered f fs is) e)))
+
+-- any other question's work needs nothing
+pub others_find : (types : List TypeDesc) (q : KeptQuestion) (f : Frame) (mem : Memory) → ((v : Option Cell) → q ≡ AsksEnd v → ⊥) → ((o : ℕ) → q ≡ AsksStart o → ⊥) → (q ≡ AsksLeave → ⊥) → ((c : ℕ) → q ≡ AsksAwait c → ⊥) →
+    finds types (question_in q f.stack) f mem ≡ true
+others_find types (AsksEnd v) f mem not_end not_start not_leave not_await = absurd (not_end v refl)
+others_find types (AsksStart o) f mem not_end not_start not_leave not_await = absurd (not_start o refl)
+others_find types AsksLeave f mem not_end not_start not_leave not_await = absurd (not_leave refl)
+others_find types (AsksAwait c) f mem not_end not_start not_leave not_await = absurd (not_await c refl)
+others_find types q f mem not_end not_start not_leave not_await = refl
 
 -- what the code keeps of a question has as many operands
 taken_start : (q : KeptQuestion) (s : Stack) (o : ℕ) → question_in q s ≡ Starts (Ref o) → operands_of q ≡ 1
@@ -450,7 +468,7 @@ standing image mem f fs at k s q m stops =
 work_left : (image : Image) (following : List ℕ) (f : Frame) (fs : List Frame) (mem : Memory) (stop : Stop) (did : Did) → stop_of image (made_in image mem) f fs ≡ stop →
     (goes following image.shapes.items image.types.items stop f fs mem).left ≡ did → StandsAtWork image did (goes following image.shapes.items image.types.items stop f fs mem).frames.frames
 work_left image following f fs mem (Work q at k s) did is e =
-    by did e (subst (AsksFor q) e (answer_both image following f f.next f.keeps f.stack fs mem (λ all knows. refl) q at k s).asks)
+    found (finds image.types.items q f mem) e
   where
     -- the same of the question that is asked
     stands_for : (w : Did) (asked : Question) → q ≡ asked → ((answer following image.shapes.items image.types.items asked at k s f fs mem).left ≡ w → stop_of image (made_in image mem) f fs ≡ Work asked at k s →
@@ -465,20 +483,18 @@ work_left image following f fs mem (Work q at k s) did is e =
     start_at zero e stops = absurd (cc e)
     start_at (suc o) e stops = standing image mem f fs at k s (Starts (Ref (suc o))) refl stops
 
-    -- with no open region it goes on
-    await_at : (l : LockName) (c : ℕ) (is_open : Bool) → (awaits following is_open (lock_in (numbered image.shapes.items f.procedure) f) c at k s f fs mem).left ≡ Await l c → stop_of image (made_in image mem) f fs ≡ Work (Awaits c) at k s →
-        StandsAtWork image (Await l c) (awaits following is_open (lock_in (numbered image.shapes.items f.procedure) f) c at k s f fs mem).frames.frames
-    await_at l c true e stops = standing image mem f fs at k s (Awaits c) refl stops
-    await_at l c false e stops = absurd (cc e)
-
     by : (w : Did) → (answer following image.shapes.items image.types.items q at k s f fs mem).left ≡ w → AsksFor q w → StandsAtWork image w (answer following image.shapes.items image.types.items q at k s f fs mem).frames.frames
     by (Start o) left asks = stands_for (Start o) (Starts (Ref o)) asks (start_at o) left
     by (Enter l) left asks = stands_for (Enter l) Enters asks (λ x stops. standing image mem f fs at k s Enters refl stops) left
     by (Leave l) left asks = stands_for (Leave l) Leaves asks (λ x stops. standing image mem f fs at k s Leaves refl stops) left
     by Went left asks = tt
     by NoFrame left asks = tt
-    by (Await l c) left asks = stands_for (Await l c) (Awaits c) asks (await_at l c f.is_open) left
+    by (Await l c) left asks = stands_for (Await l c) (Awaits c) asks (λ x stops. standing image mem f fs at k s (Awaits c) refl stops) left
     by (Trapped n c) left asks = tt
+
+    found : (b : Bool) → (works following image.shapes.items image.types.items b q at k s f fs mem).left ≡ did → StandsAtWork image did (works following image.shapes.items image.types.items b q at k s f fs mem).frames.frames
+    found true e = by did e (subst (AsksFor q) e (answer_both image following f f.next f.keeps f.stack fs mem (λ all knows. refl) q at k s).asks)
+    found false e = subst (λ (w : Did). StandsAtWork image w (f ∷ fs)) e tt
 work_left image following f fs mem (Ended (Begins at p s) k) did is e = subst (λ (w : Did). StandsAtWork image w (begun_at at p (record f { stack = s; keeps = k }) ∷ fs)) e tt
 work_left image following f fs mem (Ended (Fails n c) k) did is e = subst (λ (w : Did). StandsAtWork image w (f ∷ fs)) e tt
 work_left image following f fs mem (Ended (Decides a) k) did is e = subst (λ (w : Did). StandsAtWork image w (f ∷ fs)) e tt
@@ -629,7 +645,7 @@ begun_shown image at pos old new mem out stands moved following counts = by_list
 
 -- a trap comes, or a condition ends in a body that is none
 pub failed_shown : (image : Image) (stop : KeptStop) (number code : ℕ) (old : KeptFrames) (mem : Memory) (out : List ℕ) →
-    ((following : List ℕ) (f : Frame) (fs : List Frame) → goes following image.shapes.items image.types.items (stop_in stop f) f fs mem ≡ leaves following (Trapped number code) (f ∷ fs) mem) →
+    ((following : List ℕ) (f : Frame) (fs : List Frame) → list_in old.list.items ≡ f ∷ fs → goes following image.shapes.items image.types.items (stop_in stop f) f fs mem ≡ leaves following (Trapped number code) (f ∷ fs) mem) →
     StandsAtStop image (made_in image mem) stop (list_in old.list.items) → Shown image (turn image mem (frames_in old)) (Trapped number code) old old mem out out
 failed_shown image stop number code old mem out traps stands = by_list (list_in old.list.items) refl stands
   where
@@ -639,7 +655,7 @@ failed_shown image stop number code old mem out traps stands = by_list (list_in 
         let fol = reverse old.following.items in
         subst (λ (l : List Frame). Shown image (turn image mem (record { following = fol; frames = l })) (Trapped number code) old old mem out out) (sym is)
         (subst (λ (y : Stop). Shown image (goes fol image.shapes.items image.types.items y f fs mem) (Trapped number code) old old mem out out) (sym x.0)
-        (subst (λ (t : Turned). Shown image t (Trapped number code) old old mem out out) (sym (traps fol f fs))
+        (subst (λ (t : Turned). Shown image t (Trapped number code) old old mem out out) (sym (traps fol f fs is))
         (record { store = refl; alike = λ all knows. ap (λ (l : List Frame). seen_frames image all (opened (record { following = fol; frames = l }))) (sym is); output = sym (append-nil out); begun = refl; left = refl })))
 
 -- no frame is left, nor a body that is to follow

@@ -18,6 +18,8 @@ use Rattle.aos_code.specs.Silent.{Keeps, Stack, Stop, Work, Ended, silent}
 use Rattle.aos_code.specs.Machine.{Frame, Frames, here_of, rooted, judged, made_in, code_of, stop_of, opened_by, condition_of, verdict, verdict_from, verdict_over}
 use Rattle.aos_store.specs.declared.frames.Frame.{Frame as KeptFrame}
 use Rattle.aos_store.specs.Store.{frame_in, list_in}
+use Rattle.aos_store.specs.Room.{HasMoreRoom, AreRoomyFor}
+use Rattle.aos_store.proofs.Rooms.{more_room, roomy_set}
 use Rattle.aos_silent.specs.declared.act.Question.{Question as KeptQuestion}
 use Rattle.aos_silent.specs.declared.silent.Stop.{Stop as KeptStop}
 use Rattle.aos_silent.specs.declared.silent.Stop.TheVariants.{Work as AtWork}
@@ -89,18 +91,18 @@ swapped_as fs n g f at operands len here top =
     }
 
 pub gone_on_as : (fs : List KeptFrame) (n : ℕ) (g f h : KeptFrame) (at taken : ℕ) (v : Cell) → n ≡ length fs → slice_get fs (n - 1) ≡ Some g → IsTop fs f →
-    frame_in h ≡ record (frame_in g) { next = at + 1; stack = v ∷ drop taken (frame_in g).stack } → vec_capacity g.operands ≤ vec_capacity h.operands → HasGoneOn f at taken v fs (slice_set fs (n - 1) h)
+    frame_in h ≡ record (frame_in g) { next = at + 1; stack = v ∷ drop taken (frame_in g).stack } → HasMoreRoom g h → HasGoneOn f at taken v fs (slice_set fs (n - 1) h)
 gone_on_as fs n g f h at taken v len here top frame more =
     let same : g ≡ f = top_only fs g f (top_at fs n g len here) top in
     record {
       top = h;
       put = (λ i. slice_set fs (len i - 1) h);
       frame = frame ∙ ap (λ (x : KeptFrame). let y : Frame = record (frame_in x) { next = at + 1; stack = v ∷ drop taken (frame_in x).stack } in y) same;
-      more = subst (λ (x : KeptFrame). vec_capacity x.operands ≤ vec_capacity h.operands) same more;
+      more = subst (λ (x : KeptFrame). HasMoreRoom x h) same more;
     }
 
 pub stopped_as : (image : Image) (made : ℕ → Option Made) (code : List Instr) (fs : List KeptFrame) (n below : ℕ) (g f h : KeptFrame) (stop : KeptStop) → n ≡ length fs → below ≡ n - 1 → slice_get fs (n - 1) ≡ Some g → IsTop fs f →
-    stop_in stop (frame_in h) ≡ silent_with image code made below (frame_in g) → IsStopOf stop (frame_in h) → HasMoved (frame_in g) (frame_in h) → AsksInRoom stop code h → vec_capacity g.operands ≤ vec_capacity h.operands →
+    stop_in stop (frame_in h) ≡ silent_with image code made below (frame_in g) → IsStopOf stop (frame_in h) → HasMoved (frame_in g) (frame_in h) → AsksInRoom stop code h → HasMoreRoom g h →
     HasStopped image made code f stop fs (slice_set fs (n - 1) h)
 stopped_as image made code fs n below g f h stop len under here top stops place moves asks more =
     let same : g ≡ f = top_only fs g f (top_at fs n g len here) top in
@@ -111,7 +113,7 @@ stopped_as image made code fs n below g f h stop len under here top stops place 
       place = place;
       moves = subst (λ (x : KeptFrame). HasMoved (frame_in x) (frame_in h)) same moves;
       asks = asks;
-      more = subst (λ (x : KeptFrame). vec_capacity x.operands ≤ vec_capacity h.operands) same more;
+      more = subst (λ (x : KeptFrame). HasMoreRoom x h) same more;
     }
 
 -- Where the topmost frame has only moved, the same verdict is to come.
@@ -221,7 +223,7 @@ module _ (image : Image) (mem : Memory) (code : List Instr) (f : KeptFrame) (sto
           top = g;
           put = gone.put ∙ ap (λ l. with_top l g) come.put ∙ put_again old f come.top g top;
           moves = moved_further (frame_in f) (frame_in come.top) (frame_in g) come.moves moved;
-          more = omega (arith, come.more, gone.more);
+          more = more_room f come.top g come.more gone.more;
         }
 
     -- there is room for the rest still
@@ -240,7 +242,7 @@ module _ (image : Image) (mem : Memory) (code : List Instr) (f : KeptFrame) (sto
         let one = grows_some (get_or code at (instr.Num (pos 0))) in
         let here : need (drop come.top.next code) ≡ need (drop at code) = ap (λ m. need (drop m code)) (sym is_at) in
         let there : need (drop g.next code) ≡ need (drop (at + 1) code) = ap (λ (y : Frame). need (drop y.next code)) gone.frame in
-        subst (HasRoomFor code) same (omega (arith, a, b, c, d, z, one, here, there, room, gone.more))
+        subst (HasRoomFor code) same (omega (arith, a, b, c, d, z, one, here, there, room, gone.more.operands))
 
 pub with_same_length : (old new : List KeptFrame) (g : KeptFrame) → new ≡ with_top old g → HasTop old → HasTop new
 with_same_length old new g put top =
@@ -320,7 +322,7 @@ moved_twice old mid new f top a more =
       top = b.top;
       put = b.put ∙ ap (λ l. with_top l b.top) a.put ∙ put_again old f g b.top top;
       moves = moved_further (frame_in f) (frame_in g) (frame_in b.top) a.moves b.moves;
-      more = omega (arith, a.more, b.more);
+      more = more_room f g b.top a.more b.more;
     }
 
 -- one that has not been moved
@@ -332,8 +334,8 @@ set_same (x ∷ fs) (suc n) f at = ap (λ l. x ∷ l) (set_same fs n f at)
 
 pub has_moved_none : (fs : List KeptFrame) (f : KeptFrame) → IsTop fs f → TopHasMoved fs fs f
 has_moved_none fs f top =
-    let le : vec_capacity f.operands ≤ vec_capacity f.operands = omega arith in
-    record { top = f; put = set_same fs (length fs - 1) f top; moves = refl; more = le }
+    let as_much : HasMoreRoom f f = record { procedure = refl; operands = omega arith; kept = omega arith } in
+    record { top = f; put = set_same fs (length fs - 1) f top; moves = refl; more = as_much }
 
 -- The whole condition.
 
@@ -409,4 +411,12 @@ module _ (f : KeptFrame) (stack given back : Vec Cell Global) (place again : ℕ
   pub room_back : vec_capacity stack ≤ vec_capacity back
   room_back =
       let e : vec_capacity back ≡ vec_capacity run.top.operands = ap (λ (v : Vec Cell Global). vec_capacity v) left.operands in
-      omega (arith, e, run.more)
+      omega (arith, e, run.more.operands)
+
+  -- and the frame has its own again
+  pub room_kept : (depths keeps : ℕ → ℕ) → AreRoomyFor depths keeps old → AreRoomyFor depths keeps last
+  room_kept depths keeps roomy =
+      let e : vec_capacity given ≡ vec_capacity f.operands = ap (λ (v : Vec Cell Global). vec_capacity v) enters.operands in
+      let more : HasMoreRoom f again_so = record { procedure = run.more.procedure; operands = omega (arith, e); kept = run.more.kept } in
+      subst (AreRoomyFor depths keeps) (sym (left.put ∙ ap (λ l. with_top l again_so) new_is ∙ put_again old f run.top again_so top))
+      (roomy_set depths keeps old (length old - 1) f again_so top more roomy)

@@ -8,6 +8,7 @@ use Rattle.aos_code.specs.declared.image.Image.{Image}
 use Rattle.aos_code.specs.Memory.{Memory}
 use Rattle.aos_code.specs.Silent.{Stack}
 use Rattle.aos_code.specs.Machine.{Frame, Frames, rooted, frames_with, memory_with, made_in, turn}
+use Rattle.aos_sound.specs.FitFrames.{IsSoundImage, FramesFit}
 use Rattle.aos_silent.specs.Known.{Knows}
 use Rattle.aos_silent.specs.Silent.{seen_at}
 use Rattle.aos_cpu.specs.declared.in_place.Done.{Done}
@@ -56,23 +57,31 @@ module _ (image : Image) where
     pub statements : now ≡ begun_after image made many fs begun
 
   module _ (here : ℕ) where
+    -- where the image is sound, frames that fit it with the first one on top of so many others do so with the second one
+    abbrev pub FitsSo : (f g : Frame) → Type 0
+    FitsSo f g =
+        IsSoundImage image → (following : List ℕ) (rest : List Frame) → length rest ≡ here → FramesFit image (on_top following f rest) → FramesFit image (on_top following g rest)
+
     -- One such turn has been made of frames whose topmost one, above so many others, was this, and is that now. Where there is no memory
     -- it needs nothing but the frames.
     pub record HasTurnedTop (begins : Bool) (mem now : Memory) (f g : Frame) : Type 0 where
       pub same : g.procedure ≡ f.procedure
       pub own : mem ≡ no_memory → (following : List ℕ) (rest : List Frame) → length rest ≡ here → is_own_turn image (on_top following f rest) ≡ true
       pub turns : (following : List ℕ) (rest : List Frame) (fs : Frames) → length rest ≡ here → Alike image (made_in image mem) fs (on_top following f rest) → TurnsTo begins mem now fs (on_top following g rest)
+      pub fits : FitsSo f g
 
     -- silent work alone has been done
     pub record HasWorked (mem now : Memory) (f g : Frame) : Type 0 where
       pub seen : (all : ℕ → Option Made) → Knows all (made_in image mem) → seen_at image all here g ≡ seen_at image all here f
       pub memory : now ≡ mem
+      pub fits : FitsSo f g
 
     -- so many have been made
     abbrev pub HasRunTop : (budget many begun now : ℕ) → (f g : Frame) → Type 0
     HasRunTop budget many begun now f g =
         (g.procedure ≡ f.procedure)
         × ((following : List ℕ) (rest : List Frame) (made : List Made) (fs : Frames) → length rest ≡ here → Alike image (made_by made) fs (on_top following f rest) → Runs made budget many begun now fs (on_top following g rest))
+        × FitsSo f g
 
     -- what an instruction has done
     abbrev pub IsDone : Done → (mem now : Memory) → (f g : Frame) → Type 0

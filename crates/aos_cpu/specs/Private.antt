@@ -61,7 +61,7 @@ abbrev pub calls_own : Option ProcShape → List Cell → Bool
 calls_own None vs = true
 calls_own (Some f) vs = copies_own f.params.items (arguments_of f.method vs)
 
--- the answer reads and changes no memory, and writes nothing
+-- the answer reads and changes no memory, and is no call of Out
 abbrev pub is_own : List ProcShape → Question → Bool
 is_own shapes (Reads kind a) = is_of_frame a.root
 is_own shapes (Stores a v) = is_of_frame a.root
@@ -78,7 +78,7 @@ is_own shapes (Awaits c) = false
 is_own shapes (PutsInt v n) = false
 is_own shapes (PutsChar v) = false
 is_own shapes (PutsString a n) = false
-is_own shapes PutsNothing = true
+is_own shapes PutsNothing = false
 is_own shapes PutsLn = false
 is_own shapes (Places a) = false
 is_own shapes (Lengths a) = false

@@ -12,6 +12,7 @@ use Rattle.aos_code.specs.Silent.{Keeps, Stack, Work}
 use Rattle.aos_code.specs.Machine.{Frame, condition_of, judged, verdict_from}
 use Rattle.aos_store.specs.declared.frames.Frame.{Frame as KeptFrame}
 use Rattle.aos_store.specs.Store.{frame_in}
+use Rattle.aos_store.specs.Room.{HasMoreRoom}
 use Rattle.aos_silent.specs.declared.act.Question.{Question as KeptQuestion}
 use Rattle.aos_silent.specs.declared.silent.Stop.{Stop as KeptStop}
 use Rattle.aos_silent.specs.Acts.{question_in, operands_of}
@@ -30,7 +31,7 @@ pub record TopHasMoved (old new : List KeptFrame) (f : KeptFrame) : Type 0 where
   pub top : KeptFrame
   pub put : new ≡ with_top old top
   pub moves : HasMoved (frame_in f) (frame_in top)
-  pub more : vec_capacity f.operands ≤ vec_capacity top.operands
+  pub more : HasMoreRoom f top
 
 -- there is room for all operands that the rest of the code may give it
 abbrev pub TopHasRoom : List Instr → List KeptFrame → Type 0
@@ -52,7 +53,7 @@ pub record HasGoneOn (f : KeptFrame) (at taken : ℕ) (v : Cell) (old new : List
   pub top : KeptFrame
   pub put : new ≡ with_top old top
   pub frame : frame_in top ≡ record (frame_in f) { next = at + 1; stack = v ∷ drop taken (frame_in f).stack }
-  pub more : vec_capacity f.operands ≤ vec_capacity top.operands
+  pub more : HasMoreRoom f top
 
 -- silent work in the condition has come to a stop
 pub record HasStopped (image : Image) (made : ℕ → Option Made) (code : List Instr) (f : KeptFrame) (stop : KeptStop) (old new : List KeptFrame) : Type 0 where
@@ -62,7 +63,7 @@ pub record HasStopped (image : Image) (made : ℕ → Option Made) (code : List 
   pub place : IsStopOf stop (frame_in top)
   pub moves : HasMoved (frame_in f) (frame_in top)
   pub asks : AsksInRoom stop code top
-  pub more : vec_capacity f.operands ≤ vec_capacity top.operands
+  pub more : HasMoreRoom f top
 
 -- where it has come to this question over these cells, a verdict follows, or the answer with which it has gone on
 abbrev pub IsJudged : Rooted (List Cell) → KeptQuestion → (at : ℕ) → KeptFrame → (old new : List KeptFrame) → Option Verdict → Type 0

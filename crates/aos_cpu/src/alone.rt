@@ -2,6 +2,7 @@
 ghost use Rattle.std.specs.Prelude.{◌≡◌, ◌≤◌, ◌∷◌, ◌&&◌, List, [], true, false, drop, reverse, if◌then◌else◌, IfOk, OnErr};
 ghost use Rattle.aos_store.specs.Store.{list_in, frames_in, memory_in, SameCounts};
 ghost use Rattle.aos_silent.specs.Acts.{question_in};
+ghost use Rattle.aos_silent.specs.Room.{StayFit};
 ghost use Rattle.aos_cpu.specs.Turns.{Alike, StandsAtStop};
 ghost use Rattle.aos_cpu.specs.Private.{no_memory, made_by, is_of_frame as is_of_frame_root, is_own_value as is_own_cell, copies_own as copies_own_for, is_own as is_own_question, is_own_turn, is_private, HasTried, IsMadePrivately, turns_since, stop_after, WhereShared};
 
@@ -105,7 +106,6 @@ fn is_own(image: &Image, question: Question, operands: &[Cell]) -> bool
             }
         },
         Question::Ends(_) => true,
-        Question::PutsNothing => true,
         _ => false,
     }
 }
@@ -142,6 +142,7 @@ fn make_own(
     ensures err { OnErr result (Alike image.now (made_by []) (frames_in frames.old) (frames_in frames.new)) }
     ensures counts { OnErr result (SameCounts frames.old frames.new) }
     ensures none { memory_in store.new ≡ no_memory }
+    ensures fit { StayFit image.now frames.old frames.new }
 {
     match finish(alloc, image, stop, frames, store, output)? {
         Did::Went => {
@@ -165,6 +166,7 @@ fn make_private(
     ensures err { OnErr result (Alike image.now (made_by []) (frames_in frames.old) (frames_in frames.new)) }
     ensures counts { OnErr result (SameCounts frames.old frames.new) }
     ensures none { memory_in store.new ≡ no_memory }
+    ensures fit { StayFit image.now frames.old frames.new }
 {
     match come_to_stop(alloc, image, &store.objects, frames)? {
         None => Ok(false),
@@ -192,6 +194,7 @@ pub fn private(
     ensures most { turns_since frames.old frames.new ≤ most }
     ensures stop { IfOk result (λ r. r.1 ≡ stop_after budget most r.0 frames.new.begun) }
     ensures shared { IfOk result (λ r. WhereShared r.1 (is_private image.now (frames_in frames.new) ≡ false)) }
+    ensures fit { StayFit image.now frames.old frames.new }
 {
     // once it is read, its range is known
     let _told = frames.turns;

@@ -8,7 +8,8 @@ ghost use Rattle.aos_code.specs.Memory.{Memory};
 ghost use Rattle.aos_code.specs.Numbered.{numbered};
 ghost use Rattle.aos_code.specs.Machine.{Frame as FrameOf, behind, lock_in, with_result};
 ghost use Rattle.aos_store.specs.Store.{frame_in, list_in, frames_in, memory_in, SameCounts};
-ghost use Rattle.aos_silent.specs.declared.act.Question.TheVariants.{Awaits as AsksAwait};
+ghost use Rattle.aos_store.specs.Room.{HasMoreRoom, KeepsRoom};
+ghost use Rattle.aos_silent.specs.Room.{AreRoomy};
 ghost use Rattle.aos_silent.specs.Acts.{addr_in};
 ghost use Rattle.aos_store.specs.declared.frames.Frames.{Frames as FramesKept};
 ghost use Rattle.aos_cpu.specs.Turns.{HasAnswered, Stands, Same, WhereLeft};
@@ -27,7 +28,8 @@ use std::alloc::Global;
 /// A frame goes on behind the instruction at this place, with so many operands fewer.
 fn go_on(frame: &mut Frame, at: usize, taken: usize)
     requires { at + 1 < 2 ^ 64 }
-    ensures { frame_in frame.new ≡ behind [] at (frame_in frame.old).keeps (drop taken (frame_in frame.old).stack) (frame_in frame.old) }
+    ensures behind { frame_in frame.new ≡ behind [] at (frame_in frame.old).keeps (drop taken (frame_in frame.old).stack) (frame_in frame.old) }
+    ensures room { HasMoreRoom frame.old frame.new }
 {
     take(&mut frame.operands, taken);
     frame.next = at + 1;
@@ -38,6 +40,7 @@ pub fn go_behind(frames: &mut Frames, at: usize, taken: usize)
     requires { at + 1 < 2 ^ 64 }
     ensures behind { IsBehind at taken [] frames.old frames.new }
     ensures counts { SameCounts frames.old frames.new }
+    ensures room { KeepsRoom frames.old frames.new }
     ensures len { vec_len frames.new.list ≡ vec_len frames.old.list }
     ensures capacity { vec_capacity frames.new.list ≡ vec_capacity frames.old.list }
 {
@@ -52,6 +55,7 @@ pub fn put_behind(frames: &mut Frames, at: usize, taken: usize, cell: Cell) -> R
     ensures ok { IfOk result (λ _. IsBehind at taken (cell ∷ []) frames.old frames.new) }
     ensures err { OnErr result (frames_in frames.new ≡ frames_in frames.old) }
     ensures counts { SameCounts frames.old frames.new }
+    ensures room { KeepsRoom frames.old frames.new }
 {
     match frames.list.last_mut() {
         None => Ok(()),
@@ -64,6 +68,7 @@ fn put_on(frame: &mut Frame, at: usize, taken: usize, cell: Cell) -> Result<(), 
     requires { at + 1 < 2 ^ 64 }
     ensures ok { IfOk result (λ _. frame_in frame.new ≡ behind [] at (frame_in frame.old).keeps (cell ∷ drop taken (frame_in frame.old).stack) (frame_in frame.old)) }
     ensures err { OnErr result (frame_in frame.new ≡ frame_in frame.old) }
+    ensures room { HasMoreRoom frame.old frame.new }
 {
     frame.operands.reserve(1)?;
     replace(&mut frame.operands, taken, cell);
@@ -79,6 +84,7 @@ fn give_top(frames: &mut Frames, cell: Cell) -> Result<(), NoMemory>
     ensures len { vec_len frames.new.list ≡ vec_len frames.old.list }
     ensures capacity { vec_capacity frames.new.list ≡ vec_capacity frames.old.list }
     ensures counts { SameCounts frames.old frames.new }
+    ensures room { KeepsRoom frames.old frames.new }
 {
     let Some(mut frame) = frames.list.pop() else {
         return Ok(());
@@ -101,6 +107,7 @@ pub fn end_frame(frames: &mut Frames, value: Option<Cell>) -> Result<Did, NoMemo
     ensures left { (mem : Memory) (out : List ℕ) → IfOk result (λ did. WhereLeft did (Same frames.old frames.new mem mem out out)) }
     ensures err { (mem : Memory) (out : List ℕ) → OnErr result (Same frames.old frames.new mem mem out out) }
     ensures counts { SameCounts frames.old frames.new }
+    ensures room { KeepsRoom frames.old frames.new }
 {
     let Some(frame) = frames.list.pop() else {
         return Ok(Did::Went);
@@ -130,6 +137,7 @@ pub fn read(
     ensures left { (out : List ℕ) → IfOk result (λ did. WhereLeft did (Same frames.old frames.new (memory_in store.now) (memory_in store.now) out out)) }
     ensures err { (out : List ℕ) → OnErr result (Same frames.old frames.new (memory_in store.now) (memory_in store.now) out out) }
     ensures counts { SameCounts frames.old frames.new }
+    ensures room { KeepsRoom frames.old frames.new }
 {
     match load_at(frames, store, spot.root, spot.cell as usize) {
         None => Ok(Did::Trapped(16, 0)),
@@ -149,6 +157,7 @@ pub fn put_nothing(frames: &mut Frames, at: usize) -> Did
     ensures answered { (mem : Memory) (out : List ℕ) → IsAnswered PutsNothing at 0 frames.old frames.new mem mem result out out }
     ensures left { (mem : Memory) (out : List ℕ) → WhereLeft result (Same frames.old frames.new mem mem out out) }
     ensures counts { SameCounts frames.old frames.new }
+    ensures room { KeepsRoom frames.old frames.new }
 {
     go_behind(frames, at, 0);
     Did::Went
@@ -161,6 +170,7 @@ pub fn put_ln(frames: &mut Frames, output: &mut Vec<u8>, at: usize) -> Result<Di
     ensures left { (mem : Memory) → IfOk result (λ did. WhereLeft did (Same frames.old frames.new mem mem output.old.items output.new.items)) }
     ensures err { (mem : Memory) → OnErr result (Same frames.old frames.new mem mem output.old.items output.new.items) }
     ensures counts { SameCounts frames.old frames.new }
+    ensures room { KeepsRoom frames.old frames.new }
 {
     output.reserve(1)?;
     output.push_reserved(b'\n');
@@ -174,6 +184,7 @@ pub fn write(frames: &mut Frames, store: &mut Store, spot: Spot, value: Cell, at
     ensures answered { (out : List ℕ) → IsAnswered (Stores (addr_in spot) value) at 2 frames.old frames.new (memory_in store.old) (memory_in store.new) result out out }
     ensures left { (out : List ℕ) → WhereLeft result (Same frames.old frames.new (memory_in store.old) (memory_in store.new) out out) }
     ensures counts { SameCounts frames.old frames.new }
+    ensures room { KeepsRoom frames.old frames.new }
 {
     if !store_at(frames, store, spot.root, spot.cell as usize, value) {
         return Did::Trapped(16, 0);
@@ -195,6 +206,7 @@ pub fn copy(
     ensures answered { (out : List ℕ) → IsAnswered (Copies count (addr_in from) (addr_in to)) at 2 frames.old frames.new (memory_in store.old) (memory_in store.new) result out out }
     ensures left { (out : List ℕ) → WhereLeft result (Same frames.old frames.new (memory_in store.old) (memory_in store.new) out out) }
     ensures counts { SameCounts frames.old frames.new }
+    ensures room { KeepsRoom frames.old frames.new }
 {
     if !copy_at(frames, store, from.root, from.cell, to.root, to.cell, count) {
         return Did::Trapped(16, 0);
@@ -222,6 +234,7 @@ pub fn put_char(
     ensures left { (mem : Memory) → IfOk result (λ did. WhereLeft did (Same frames.old frames.new mem mem output.old.items output.new.items)) }
     ensures err { (mem : Memory) → OnErr result (Same frames.old frames.new mem mem output.old.items output.new.items) }
     ensures counts { SameCounts frames.old frames.new }
+    ensures room { KeepsRoom frames.old frames.new }
 {
     match character(code) {
         None => Ok(Did::Trapped(16, 0)),
@@ -266,6 +279,7 @@ pub fn put_int(
     ensures left { (mem : Memory) → IfOk result (λ did. WhereLeft did (Same frames.old frames.new mem mem output.old.items output.new.items)) }
     ensures err { (mem : Memory) → OnErr result (Same frames.old frames.new mem mem output.old.items output.new.items) }
     ensures counts { SameCounts frames.old frames.new }
+    ensures room { KeepsRoom frames.old frames.new }
 {
     if places < 0 || places > 255 {
         return Ok(Did::Trapped(14, 0));
@@ -297,31 +311,6 @@ fn top_lock(image: &Image, frames: &Frames) -> LockName
     }
 }
 
-/// Whether the topmost frame's region is open.
-fn is_top_open(frames: &Frames) -> bool
-    ensures { (f : FrameOf) (fs : List FrameOf) → list_in frames.now.list.items ≡ f ∷ fs → result ≡ f.is_open }
-{
-    match frames.list.last() {
-        None => false,
-        Some(frame) => frame.is_open,
-    }
-}
-
-/// A condition is awaited: where the topmost frame's region is open that is left to the kernel, and else the frame goes on.
-fn wait(image: &Image, condition: u32, at: usize, frames: &mut Frames) -> Did
-    requires place { at + 1 < 2 ^ 64 }
-    requires stands { Stands (AsksAwait condition) at frames.old }
-    ensures answered { (mem : Memory) (out : List ℕ) → HasAnswered image.now (AsksAwait condition) at frames.old frames.new mem mem result out out }
-    ensures left { (mem : Memory) (out : List ℕ) → WhereLeft result (Same frames.old frames.new mem mem out out) }
-    ensures counts { SameCounts frames.old frames.new }
-{
-    if is_top_open(frames) {
-        return Did::Await(top_lock(image, frames), condition);
-    }
-    go_behind(frames, at, 0);
-    Did::Went
-}
-
 /// The question at which the topmost frame stands is answered. What it takes is taken first: where memory runs out, and where work is
 /// left to the kernel, nothing has changed.
 pub fn answer(
@@ -339,6 +328,7 @@ pub fn answer(
     ensures left { IfOk result (λ did. WhereLeft did (Same frames.old frames.new (memory_in store.old) (memory_in store.new) output.old.items output.new.items)) }
     ensures err { OnErr result (Same frames.old frames.new (memory_in store.old) (memory_in store.new) output.old.items output.new.items) }
     ensures counts { SameCounts frames.old frames.new }
+    ensures room { AreRoomy image.now frames.old → AreRoomy image.now frames.new }
 {
     match question {
         Question::Reads(kind, spot) => read(frames, store, kind, spot, at),
@@ -360,7 +350,7 @@ pub fn answer(
         Question::Starts(object) => Ok(start(object)),
         Question::Enters => Ok(Did::Enter(top_lock(image, frames))),
         Question::Leaves => Ok(Did::Leave(top_lock(image, frames))),
-        Question::Awaits(condition) => Ok(wait(image, condition, at, frames)),
+        Question::Awaits(condition) => Ok(Did::Await(top_lock(image, frames), condition)),
         Question::PutsInt(value, places) => put_int(frames, output, value, places, at),
         Question::PutsChar(code) => put_char(frames, output, code, at),
         Question::PutsString(spot, len) => put_string(frames, store, output, spot, len, at),

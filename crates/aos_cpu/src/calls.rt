@@ -4,7 +4,10 @@ ghost use Rattle.std.specs.Option.{option_copied, option_map, option_and_then};
 ghost use Rattle.aos_code.specs.declared.instr.Cell.{Cell as CellOf};
 ghost use Rattle.aos_code.specs.declared.instr.Cell.TheVariants.{Num};
 ghost use Rattle.aos_code.specs.Machine.{Frame as FrameOf, if_all, whole_at, lengths_in, length_in, object_of as object_of_call, arguments_of as arguments_of_call, first_cell as first_cell_of};
+ghost use Rattle.aos_sound.specs.FitFrames.{depth_of as depth_of_body};
 ghost use Rattle.aos_store.specs.Store.{frame_in, list_in, frames_in, memory_in, rooted_in, SameCounts};
+ghost use Rattle.aos_store.specs.Room.{IsRoomyFor, AreRoomyFor, HasRoom, MakesRoom};
+ghost use Rattle.aos_silent.specs.Room.{AreRoomy};
 ghost use Rattle.aos_silent.specs.declared.act.Question.TheVariants.{Calls};
 ghost use Rattle.aos_silent.specs.Acts.{behind_value as behind_value_of, first_as_object, with_object};
 ghost use Rattle.aos_cpu.specs.Turns.{HasAnswered, Same, WhereLeft};
@@ -395,8 +398,10 @@ fn called_frame_cells(
     args: &[Cell],
     copied: usize,
 ) -> Result<Vec<Cell>, NoMemory>
-    ensures { (gs : List GiftOf) → gifts (rooted_in frames.now store.now) shape.now.params.items args.now ≡ Option.Some gs →
+    ensures cells { (gs : List GiftOf) → gifts (rooted_in frames.now store.now) shape.now.params.items args.now ≡ Option.Some gs →
         IfOk result (λ cells. cells.items ≡ called_cells (length (list_in frames.now.list.items)) shape.now.kinds.items gs ++ replicate shape.now.keeps (Num (pos 0))) }
+    ensures kept { IfOk result (λ cells.
+        (front : List CellOf) × (cells.items ≡ front ++ replicate shape.now.keeps (Num (pos 0)))) }
 {
     let size = shape
         .kinds
@@ -464,8 +469,9 @@ fn make_frame(
     copied: usize,
     counted: u32,
 ) -> Result<Frame, NoMemory>
-    ensures { (gs : List GiftOf) → gifts (rooted_in frames.now store.now) shape.now.params.items args.now ≡ Option.Some gs →
+    ensures frame { (gs : List GiftOf) → gifts (rooted_in frames.now store.now) shape.now.params.items args.now ≡ Option.Some gs →
         IfOk result (λ frame. frame_in frame ≡ called procedure object counted (called_cells (length (list_in frames.now.list.items)) shape.now.kinds.items gs)) }
+    ensures room { IfOk result (λ frame. HasRoom procedure depth shape.now.keeps frame) }
 {
     let cells = called_frame_cells(alloc, frames, store, shape, args, copied)?;
     let operands = Vec::with_capacity(alloc, depth as usize)?;
@@ -488,6 +494,8 @@ fn enter(frames: &mut Frames, frame: Frame, at: usize, taken: usize) -> Result<(
     ensures ok { OnOk result (IsEntered at taken (frame_in frame) frames.old frames.new) }
     ensures err { OnErr result (frames_in frames.new ≡ frames_in frames.old) }
     ensures counts { SameCounts frames.old frames.new }
+    ensures room { (depths keeps : ℕ → ℕ) → IsRoomyFor depths keeps frame → length frames.old.list.items < 512 →
+        AreRoomyFor depths keeps frames.old.list.items → AreRoomyFor depths keeps frames.new.list.items }
 {
     frames.list.reserve(1)?;
     go_behind(frames, at, taken);
@@ -512,6 +520,7 @@ fn call_shape(
     ensures left { (out : List ℕ) → IfOk result (λ did. WhereLeft did (Same frames.old frames.new (memory_in store.now) (memory_in store.now) out out)) }
     ensures err { (out : List ℕ) → OnErr result (Same frames.old frames.new (memory_in store.now) (memory_in store.now) out out) }
     ensures counts { SameCounts frames.old frames.new }
+    ensures room { MakesRoom procedure depth shape.now.keeps frames.old frames.new }
 {
     // a value of what is no method has no object
     if !may_pass(way, shape.method) {
@@ -536,6 +545,16 @@ fn call_shape(
     }
 }
 
+/// How many operands the body of a procedure has at most; none where there is no body.
+pub fn depth_of(image: &Image, procedure: u32) -> u32
+    ensures { result ≡ depth_of_body image.now procedure }
+{
+    match numbered(&image.bodies, procedure) {
+        None => 0,
+        Some(body) => body.depth,
+    }
+}
+
 /// A procedure is called with so many operands, which are handed over in this way.
 pub fn call(
     alloc: Global,
@@ -552,11 +571,9 @@ pub fn call(
     ensures left { (out : List ℕ) → IfOk result (λ did. WhereLeft did (Same frames.old frames.new (memory_in store.now) (memory_in store.now) out out)) }
     ensures err { (out : List ℕ) → OnErr result (Same frames.old frames.new (memory_in store.now) (memory_in store.now) out out) }
     ensures counts { SameCounts frames.old frames.new }
+    ensures room { AreRoomy image.now frames.old → AreRoomy image.now frames.new }
 {
-    let depth = match numbered(&image.bodies, procedure) {
-        None => 0,
-        Some(body) => body.depth,
-    };
+    let depth = depth_of(image, procedure);
     match numbered(&image.shapes, procedure) {
         None => Ok(Did::Trapped(16, 0)),
         Some(shape) => call_shape(

@@ -4,6 +4,7 @@ ghost use Rattle.std.specs.List.{list_all};
 ghost use Rattle.aos_code.specs.Machine.{verdict as verdict_of, decided as decided_of, may_evaluate};
 ghost use Rattle.aos_store.specs.declared.frames.Frame.{Frame as KeptFrame};
 ghost use Rattle.aos_store.specs.Store.{list_in, frames_in, memory_in, rooted_in, SameCounts};
+ghost use Rattle.aos_store.specs.Room.{KeepsRoom};
 ghost use Rattle.aos_silent.specs.Known.{known};
 ghost use Rattle.aos_cpu.specs.Verdicts.{IsTop, TopHasMoved, TopHasRoom, HasTop, HasRoomIn, HasStopped, HasSwapped, HasGoneOn, IsJudged, verdict_here, or_later};
 
@@ -14,14 +15,14 @@ use aos_silent::{Question, Stop, condition_of, is_of, replace, silent_condition}
 use aos_store::{Frames, Heap, Store, load_at};
 use std::mem;
 
-/// What a condition's number says.
+/// What a condition's number says; trap 16 where it is neither 0 nor 1.
 fn decided(value: i64) -> Verdict
     ensures { result ≡ decided_of value }
 {
-    if value == 0 {
-        Verdict::Fails
-    } else {
-        Verdict::Holds
+    match value {
+        0 => Verdict::Fails,
+        1 => Verdict::Holds,
+        _ => Verdict::Traps(16),
     }
 }
 
@@ -169,6 +170,7 @@ pub fn verdict(
     ensures counts { SameCounts frames.old frames.new }
     ensures empty { stack.new.items ≡ [] }
     ensures room { vec_capacity stack.old ≤ vec_capacity stack.new }
+    ensures keeps { KeepsRoom frames.old frames.new }
 {
     if frames.count() == 0 {
         return Verdict::Fails;

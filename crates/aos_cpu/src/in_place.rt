@@ -7,9 +7,11 @@ ghost use Rattle.aos_code.specs.Memory.{Memory};
 ghost use Rattle.aos_code.specs.Silent.{act, gives, keeps_in};
 ghost use Rattle.aos_code.specs.Machine.{Frame as FrameOf, rooted, made_in, code_of as code_at};
 ghost use Rattle.aos_store.specs.Store.{frame_in, frames_in, memory_in, SameCounts};
+ghost use Rattle.aos_store.specs.Room.{HasMoreRoom};
 ghost use Rattle.aos_silent.specs.Acts.{IsBeginOf, WhereStays};
 ghost use Rattle.aos_silent.specs.Silent.{here_at};
 ghost use Rattle.aos_silent.specs.Steps.{IsStepOf};
+ghost use Rattle.aos_silent.specs.Room.{StayFit};
 ghost use Rattle.aos_cpu.specs.Turns.{counted};
 ghost use Rattle.aos_cpu.specs.Private.{no_memory, IsMadePrivately};
 ghost use Rattle.aos_cpu.specs.InPlace.{IsAhead, HasSet, IsDone, HasRunTop, HasTriedTop, HasTriedInPlace};
@@ -42,6 +44,7 @@ fn go_after(code: &[Instr], at: usize, frame: &mut Frame, did: Act) -> Done
         IsStepOf image.shapes.items image.types.items (made_in image mem) (act image.shapes.items image.types.items f.procedure (here_at here f) (get_or code.now at (Num (pos 0))) code.now at f.stack) did f (frame_in frame.old) →
         WhereStays did (frame_in frame.old ≡ f) → IsDone image here result mem mem f (frame_in frame.new) }
     ensures ahead { IsAhead result at frame.new.next }
+    ensures room { HasMoreRoom frame.old frame.new }
 {
     match did {
         Act::Goes(over) => {
@@ -66,6 +69,7 @@ fn give_top(code: &[Instr], at: usize, frame: &mut Frame, value: Cell) -> Done
         act image.shapes.items image.types.items frame.old.procedure (here_at here (frame_in frame.old)) (get_or code.now at (Num (pos 0))) code.now at (frame_in frame.old).stack ≡ gives value (frame_in frame.old).stack →
         IsDone image here result mem mem (frame_in frame.old) (frame_in frame.new) }
     ensures ahead { IsAhead result at frame.new.next }
+    ensures room { HasMoreRoom frame.old frame.new }
 {
     match give_value(frame, value) {
         Ok(did) => go_after(code, at, frame, did),
@@ -92,7 +96,8 @@ fn load_near(frame: &Frame, store: &Store, here: u32, at: Spot) -> Option<Cell>
 
 /// Sets the cell at a place that isn't in a frame below, where there is such a cell, and says whether there is.
 fn store_near(frame: &mut Frame, store: &mut Store, here: u32, at: Spot, value: Cell) -> bool
-    ensures { HasSet here result at.root at.cell value (memory_in store.old) (memory_in store.new) (frame_in frame.old) (frame_in frame.new) }
+    ensures set { HasSet here result at.root at.cell value (memory_in store.old) (memory_in store.new) (frame_in frame.old) (frame_in frame.new) }
+    ensures room { HasMoreRoom frame.old frame.new }
 {
     match at.root {
         Root::Frame(above) => {
@@ -113,6 +118,7 @@ fn load_top(at: usize, kind: Kind, here: u32, frame: &mut Frame, store: &Store) 
     ensures done { (image : Image) → at ≡ frame.old.next → slice_get (code_at image frame.old.procedure) at ≡ Some (Load kind) →
         IsDone image here result (memory_in store.now) (memory_in store.now) (frame_in frame.old) (frame_in frame.new) }
     ensures ahead { IsAhead result at frame.new.next }
+    ensures room { HasMoreRoom frame.old frame.new }
 {
     let Some(place) = spot(&frame.operands, 0) else {
         return Done::Nothing;
@@ -134,6 +140,7 @@ fn store_top(at: usize, kind: Kind, here: u32, frame: &mut Frame, store: &mut St
     ensures done { (image : Image) → at ≡ frame.old.next → slice_get (code_at image frame.old.procedure) at ≡ Some (StoreInstr kind) →
         IsDone image here result (memory_in store.old) (memory_in store.new) (frame_in frame.old) (frame_in frame.new) }
     ensures ahead { IsAhead result at frame.new.next }
+    ensures room { HasMoreRoom frame.old frame.new }
 {
     let Some(value) = of_kind(&frame.operands, 0, kind) else {
         return Done::Nothing;
@@ -155,6 +162,7 @@ fn operate_top(code: &[Instr], at: usize, operator: Binary, frame: &mut Frame) -
     ensures done { (image : Image) (here : ℕ) (mem : Memory) → code.now ≡ code_at image frame.old.procedure → at ≡ frame.old.next → get_or code.now at (Num (pos 0)) ≡ BinaryInstr operator →
         IsDone image here result mem mem (frame_in frame.old) (frame_in frame.new) }
     ensures ahead { IsAhead result at frame.new.next }
+    ensures room { HasMoreRoom frame.old frame.new }
 {
     let Some((a, b)) = numbers(&frame.operands) else {
         return Done::Nothing;
@@ -183,6 +191,7 @@ fn rest_top(
     requires keeps { keeps ≡ keeps_in (numbered_of image.now.shapes.items frame.old.procedure) }
     ensures done { code.now ≡ code_at image.now frame.old.procedure → at ≡ frame.old.next → IsDone image.now here result (memory_in store.now) (memory_in store.now) (frame_in frame.old) (frame_in frame.new) }
     ensures ahead { IsAhead result at frame.new.next }
+    ensures room { HasMoreRoom frame.old frame.new }
 {
     match do_one(instr, image, &store.objects, keeps, here, code, at, frame) {
         Ok(did) => go_after(code, at, frame, did),
@@ -205,6 +214,7 @@ fn do_top(
     requires within { frame.old.next < length code.now }
     ensures done { IsDone image.now here result (memory_in store.old) (memory_in store.new) (frame_in frame.old) (frame_in frame.new) }
     ensures ahead { IsAhead result frame.old.next frame.new.next }
+    ensures room { HasMoreRoom frame.old frame.new }
 {
     let at = frame.next;
     match code[at] {
@@ -237,7 +247,8 @@ fn turn_top(
 ) -> Option<bool>
     requires code { code.now ≡ code_at image.now frame.old.procedure }
     requires keeps { keeps ≡ keeps_in (numbered_of image.now.shapes.items frame.old.procedure) }
-    ensures { HasTriedTop image.now here result (memory_in store.old) (memory_in store.new) (frame_in frame.old) (frame_in frame.new) }
+    ensures tried { HasTriedTop image.now here result (memory_in store.old) (memory_in store.new) (frame_in frame.old) (frame_in frame.new) }
+    ensures room { HasMoreRoom frame.old frame.new }
 {
     while frame.next < code.len() {
         match do_top(image, code, keeps, here, frame, store) {
@@ -276,6 +287,7 @@ fn run_top(
     ensures made { HasRunTop image.now here budget result.0 begun result.1 (frame_in frame.old) (frame_in frame.new) }
     ensures most { result.0 ≤ most }
     ensures none { memory_in store.new ≡ no_memory }
+    ensures room { HasMoreRoom frame.old frame.new }
 {
     let mut now = begun;
     for made in 0..most {
@@ -303,6 +315,7 @@ pub(crate) fn make_in_place(
     ensures made { IsMadePrivately image.now budget result frames.old frames.new }
     ensures most { result ≤ most }
     ensures none { memory_in store.new ≡ no_memory }
+    ensures fit { StayFit image.now frames.old frames.new }
 {
     let turns = frames.turns;
     let begun = frames.begun;
@@ -325,6 +338,7 @@ pub(crate) fn make_in_place(
 pub(crate) fn turn_in_place(image: &Image, frames: &mut Frames, store: &mut Store) -> Option<bool>
     ensures tried { HasTriedInPlace image.now result (memory_in store.old) (memory_in store.new) (frames_in frames.old) (frames_in frames.new) }
     ensures counts { SameCounts frames.old frames.new }
+    ensures fit { StayFit image.now frames.old frames.new }
 {
     let Ok(here) = u32::try_from(frames.count().saturating_sub(1)) else {
         return None;

@@ -5,6 +5,7 @@ ghost use Rattle.aos_code.specs.declared.instr.Cell.TheVariants.{Num};
 ghost use Rattle.aos_code.specs.Silent.{cells_of};
 ghost use Rattle.aos_code.specs.Machine.{first_cell as first_cell_of, number_in, times};
 ghost use Rattle.aos_store.specs.Store.{memory_in, SameCounts};
+ghost use Rattle.aos_store.specs.Room.{KeepsRoom};
 ghost use Rattle.aos_silent.specs.declared.act.Question.TheVariants.{Makes};
 ghost use Rattle.aos_cpu.specs.Turns.{HasAnswered, Same, WhereLeft};
 ghost use Rattle.aos_cpu.specs.Makes.{IsMadeWith, AreLengths, HasLengths};
@@ -123,6 +124,7 @@ fn make_with(
     ensures left { (out : List ℕ) → IfOk result (λ did. WhereLeft did (Same frames.old frames.new (memory_in store.old) (memory_in store.new) out out)) }
     ensures err { (out : List ℕ) → OnErr result (Same frames.old frames.new (memory_in store.old) (memory_in store.new) out out) }
     ensures counts { SameCounts frames.old frames.new }
+    ensures room { KeepsRoom frames.old frames.new }
 {
     let elements = elements_of(&lengths);
     if !store.has_room(elements.saturating_mul(desc.kinds.len() as u64)) {
@@ -155,6 +157,7 @@ pub fn make(
     ensures left { (out : List ℕ) → IfOk result (λ did. WhereLeft did (Same frames.old frames.new (memory_in store.old) (memory_in store.new) out out)) }
     ensures err { (out : List ℕ) → OnErr result (Same frames.old frames.new (memory_in store.old) (memory_in store.new) out out) }
     ensures counts { SameCounts frames.old frames.new }
+    ensures room { KeepsRoom frames.old frames.new }
 {
     let Some(desc) = numbered(&image.types, of_type) else {
         return Ok(Did::Trapped(16, 0));

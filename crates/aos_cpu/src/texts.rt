@@ -6,6 +6,7 @@ ghost use Rattle.aos_base.specs.Rooted.{at_root, by_number, from_last, spliced};
 ghost use Rattle.aos_code.specs.declared.instr.Cell.TheVariants.{Num};
 ghost use Rattle.aos_code.specs.Machine.{cells_at as cells_of_place, if_all, code_in, text_in, text_at, length_in, character_cells, fitted, memory_with};
 ghost use Rattle.aos_store.specs.Store.{list_in, frames_in, memory_in, rooted_in, has_all, with_frames, SameCounts};
+ghost use Rattle.aos_store.specs.Room.{KeepsRoom};
 ghost use Rattle.aos_silent.specs.Acts.{addr_in};
 ghost use Rattle.aos_cpu.specs.Answers.{IsAnswered, IsFitted, code_from, same_character, order_of, ordered};
 ghost use Rattle.aos_cpu.specs.Turns.{Same, WhereLeft};
@@ -182,6 +183,7 @@ pub fn put_string(
     ensures left { IfOk result (λ did. WhereLeft did (Same frames.old frames.new (memory_in store.now) (memory_in store.now) output.old.items output.new.items)) }
     ensures err { OnErr result (Same frames.old frames.new (memory_in store.now) (memory_in store.now) output.old.items output.new.items) }
     ensures counts { SameCounts frames.old frames.new }
+    ensures room { KeepsRoom frames.old frames.new }
 {
     if !add_text_at(frames, store, spot, number, output)? {
         return Ok(Did::Trapped(16, 0));
@@ -293,6 +295,7 @@ pub fn compare_texts(
     ensures left { (out : List ℕ) → IfOk result (λ did. WhereLeft did (Same frames.old frames.new (memory_in store.now) (memory_in store.now) out out)) }
     ensures err { (out : List ℕ) → OnErr result (Same frames.old frames.new (memory_in store.now) (memory_in store.now) out out) }
     ensures counts { SameCounts frames.old frames.new }
+    ensures room { KeepsRoom frames.old frames.new }
 {
     match compare_at(frames, store, a, n, b, m) {
         None => Ok(Did::Trapped(16, 0)),
@@ -322,6 +325,7 @@ fn store_characters(frames: &mut Frames, store: &mut Store, root: Root, cell: u3
     requires target { has_all (length bytes.now) cell (at_root root (rooted_in frames.old store.old)) ≡ true }
     ensures frames { frames_in frames.new ≡ with_frames root (spliced cell (character_cells [] bytes.now)) frames.old }
     ensures counts { SameCounts frames.old frames.new }
+    ensures room { KeepsRoom frames.old frames.new }
     ensures memory { memory_in store.new ≡ memory_with root (spliced cell (character_cells [] bytes.now)) (memory_in store.old) }
 {
     for i in 0..bytes.len() {
@@ -340,6 +344,7 @@ fn store_text(frames: &mut Frames, store: &mut Store, spot: Spot, bytes: &[u8]) 
     ensures there { result ≡ has_all (length bytes.now) spot.cell (at_root spot.root (rooted_in frames.old store.old)) }
     ensures frames { frames_in frames.new ≡ (if result then with_frames spot.root (spliced spot.cell (character_cells [] bytes.now)) frames.old else frames_in frames.old) }
     ensures counts { SameCounts frames.old frames.new }
+    ensures room { KeepsRoom frames.old frames.new }
     ensures memory { memory_in store.new ≡ (if result then memory_with spot.root (spliced spot.cell (character_cells [] bytes.now)) (memory_in store.old) else memory_in store.old) }
 {
     match len_at(frames, store, spot.root) {
@@ -399,6 +404,7 @@ pub fn put_text(
     ensures left { (out : List ℕ) → IfOk result (λ did. WhereLeft did (Same frames.old frames.new (memory_in store.old) (memory_in store.new) out out)) }
     ensures err { (out : List ℕ) → OnErr result (Same frames.old frames.new (memory_in store.old) (memory_in store.new) out out) }
     ensures counts { SameCounts frames.old frames.new }
+    ensures room { KeepsRoom frames.old frames.new }
 {
     let mut bytes = Vec::new(alloc);
     let trap = read_fitted(frames, store, &mut bytes, strict, from, number, room)?;

@@ -3,15 +3,20 @@ ghost use Rattle.std.specs.Prelude.{◌≡◌, ◌<◌, ◌+◌, ◌^◌, ℕ, L
 ghost use Rattle.aos_base.specs.Rooted.{Made};
 ghost use Rattle.aos_code.specs.Machine.{Frame as FrameOf, Frames as FramesOf, opened, past, is_passed, position as position_at, body_frame};
 ghost use Rattle.aos_store.specs.Store.{frame_in, list_in, frames_in, memory_in, SameCounts};
+ghost use Rattle.aos_store.specs.Room.{HasMoreRoom, KeepsRoom};
+ghost use Rattle.aos_silent.specs.Room.{AreRoomy, StayFit};
 ghost use Rattle.aos_silent.specs.Known.{known};
+ghost use Rattle.aos_silent.specs.declared.silent.Stop.TheVariants.{Work as AtWork};
 ghost use Rattle.aos_cpu.specs.Answers.{begun_at};
 ghost use Rattle.aos_cpu.specs.Turns.{where_in, counted, beginning as beginning_of, Alike, HasCome, StandsAtStop, StandsAtWork, operands_left, open_behind, IsTurned, IsBefore, Rests, WhereLeft};
 
 use crate::answers::answer;
+use crate::calls::depth_of;
+use crate::found::finds;
 use crate::in_place::{count, turn_in_place};
 use aos_base::{Did, NoMemory, Pos};
 use aos_code::Image;
-use aos_silent::{Stop, home_of, numbered, silent_from, take};
+use aos_silent::{Question, Stop, home_of, keeps_of, silent_from, take};
 use aos_store::{Frame, Frames, Heap, Store};
 use std::alloc::Global;
 
@@ -28,15 +33,10 @@ pub fn begin_body(
     ensures err { OnErr result (frames_in frames.new ≡ frames_in frames.old) }
     ensures following { frames.new.following ≡ frames.old.following }
     ensures counts { SameCounts frames.old frames.new }
+    ensures room { AreRoomy image.now frames.old → AreRoomy image.now frames.new }
 {
-    let keeps = match numbered(&image.shapes, procedure) {
-        None => 0,
-        Some(shape) => shape.keeps,
-    };
-    let depth = match numbered(&image.bodies, procedure) {
-        None => 0,
-        Some(body) => body.depth,
-    };
+    let keeps = keeps_of(&image.shapes, procedure);
+    let depth = depth_of(image, procedure);
     match frames.grow(alloc, procedure, object, &[], 0, keeps, depth, 0) {
         Ok(()) => Ok(()),
         Err(_) => Err(NoMemory),
@@ -48,6 +48,7 @@ pub fn open(alloc: Global, image: &Image, frames: &mut Frames) -> Result<(), NoM
     ensures ok { OnOk result (frames_in frames.new ≡ opened (frames_in frames.old)) }
     ensures err { OnErr result (frames_in frames.new ≡ frames_in frames.old) }
     ensures counts { SameCounts frames.old frames.new }
+    ensures room { AreRoomy image.now frames.old → AreRoomy image.now frames.new }
 {
     if frames.count() > 0 {
         return Ok(());
@@ -71,6 +72,7 @@ pub(crate) fn come_to_stop(
     ensures stop { IfOk result (λ stop. HasCome image.now (known heap.now) stop (frames_in frames.new)) }
     ensures alike { Alike image.now (known heap.now) (frames_in frames.old) (frames_in frames.new) }
     ensures counts { SameCounts frames.old frames.new }
+    ensures fit { StayFit image.now frames.old frames.new }
 {
     open(alloc, image, frames)?;
     let here = frames.count().saturating_sub(1);
@@ -89,12 +91,38 @@ fn begin_statement(frames: &mut Frames, at: usize, pos: Pos)
     ensures following { frames.new.following ≡ frames.old.following }
     ensures begun { frames.new.begun ≡ counted true frames.old.begun }
     ensures turns { frames.new.turns ≡ frames.old.turns }
+    ensures room { KeepsRoom frames.old frames.new }
 {
     frames.begun = frames.begun.wrapping_add(1);
     if let Some(frame) = frames.list.last_mut() {
         frame.next = at + 1;
         frame.at = Some(pos);
     }
+}
+
+/// The question to which silent work comes is answered, where that finds what it needs; trap 16 where it doesn't.
+fn work(
+    alloc: Global,
+    image: &Image,
+    question: Question,
+    at: usize,
+    frames: &mut Frames,
+    store: &mut Store,
+    output: &mut Vec<u8>,
+) -> Result<Did, NoMemory>
+    requires place { at + 1 < 2 ^ 64 }
+    requires stands { StandsAtStop image.now (known store.old.objects) (AtWork question at) (list_in frames.old.list.items) }
+    ensures ok { IfOk result (λ did. IsTurned image.now did frames.old frames.new (memory_in store.old) (memory_in store.new) output.old.items output.new.items) }
+    ensures before { IfOk result (λ did. IsBefore image.now did (frames_in frames.new)) }
+    ensures left { IfOk result (λ did. WhereLeft did (Rests image.now frames.old frames.new (memory_in store.old) (memory_in store.new) output.old.items output.new.items)) }
+    ensures err { OnErr result (Rests image.now frames.old frames.new (memory_in store.old) (memory_in store.new) output.old.items output.new.items) }
+    ensures turns { frames.new.turns ≡ frames.old.turns }
+    ensures fit { StayFit image.now frames.old frames.new }
+{
+    if finds(image, question, frames, store) {
+        return answer(alloc, image, question, at, frames, store, output);
+    }
+    Ok(Did::Trapped(16, 0))
 }
 
 /// The visible work at which silent work ends, up to the kernel's part, which is told. What it takes is taken first: where memory runs
@@ -113,9 +141,10 @@ pub(crate) fn finish(
     ensures left { IfOk result (λ did. WhereLeft did (Rests image.now frames.old frames.new (memory_in store.old) (memory_in store.new) output.old.items output.new.items)) }
     ensures err { OnErr result (Rests image.now frames.old frames.new (memory_in store.old) (memory_in store.new) output.old.items output.new.items) }
     ensures turns { frames.new.turns ≡ frames.old.turns }
+    ensures fit { StayFit image.now frames.old frames.new }
 {
     match stop {
-        Stop::Work(question, at) => answer(alloc, image, question, at, frames, store, output),
+        Stop::Work(question, at) => work(alloc, image, question, at, frames, store, output),
         Stop::Begins(at, pos) => {
             begin_statement(frames, at, pos);
             Ok(Did::Went)
@@ -138,6 +167,7 @@ fn by_stop(
     ensures left { IfOk result (λ did. WhereLeft did (Rests image.now frames.old frames.new (memory_in store.old) (memory_in store.new) output.old.items output.new.items)) }
     ensures err { OnErr result (Rests image.now frames.old frames.new (memory_in store.old) (memory_in store.new) output.old.items output.new.items) }
     ensures turns { frames.new.turns ≡ frames.old.turns }
+    ensures fit { StayFit image.now frames.old frames.new }
 {
     match come_to_stop(alloc, image, &store.objects, frames)? {
         None => Ok(Did::Ended),
@@ -159,6 +189,7 @@ pub fn shared(
     ensures left { IfOk result (λ did. WhereLeft did (Rests image.now frames.old frames.new (memory_in store.old) (memory_in store.new) output.old.items output.new.items)) }
     ensures err { OnErr result (Rests image.now frames.old frames.new (memory_in store.old) (memory_in store.new) output.old.items output.new.items) }
     ensures turns { frames.new.turns ≡ frames.old.turns }
+    ensures fit { StayFit image.now frames.old frames.new }
 {
     match turn_in_place(image, frames, store) {
         None => by_stop(alloc, image, frames, store, output),
@@ -171,10 +202,11 @@ pub fn shared(
 
 /// The operands of the kernel's work go, and the frame's region is open behind Enter, and closed behind Leave.
 fn close_work(frame: &mut Frame, left: Did)
-    ensures { frame_in frame.new ≡ record (frame_in frame.old) {
+    ensures work { frame_in frame.new ≡ record (frame_in frame.old) {
       is_open = open_behind left (frame_in frame.old).is_open;
       stack = drop (operands_left left) (frame_in frame.old).stack;
     } }
+    ensures room { HasMoreRoom frame.old frame.new }
 {
     match left {
         Did::Start(_) => take(&mut frame.operands, 1),
@@ -190,6 +222,8 @@ pub fn pass(frames: &mut Frames, left: Did)
         IsBefore image left (frames_in frames.old) → StandsAtWork image left fs.frames → Alike image made fs (frames_in frames.old) →
         Alike image made (past image fs) (frames_in frames.new) }
     ensures counts { SameCounts frames.old frames.new }
+    ensures fit { (image : Image) → is_passed left ≡ true → IsBefore image left (frames_in frames.old) →
+        StayFit image frames.old frames.new }
 {
     if let Some(frame) = frames.list.last_mut() {
         close_work(frame, left);

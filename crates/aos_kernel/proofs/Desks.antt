@@ -24,11 +24,13 @@ use Rattle.aos_code.specs.Machine.{Frames, machine, made_in, past, position, reg
 use Rattle.aos_store.specs.declared.frames.Frames.{Frames as Kept}
 use Rattle.aos_store.specs.declared.memory.Store.{Store}
 use Rattle.aos_store.specs.Store.{list_in, frames_in, memory_in}
+use Rattle.aos_sound.specs.FitFrames.{IsSoundImage, depth_of}
 use Rattle.aos_silent.specs.Known.{Knows}
+use Rattle.aos_silent.specs.Room.{keeps_for, FitInRoom, StayFit}
 use Rattle.aos_cpu.proofs.Turns.{alike_both, none_other, some_same}
+use Rattle.aos_cpu.proofs.Fitting.{same_stay}
 use Rattle.aos_cpu.proofs.Growing.{turn_grows}
 use Rattle.aos_cpu.specs.Turns.{where_in, Alike, Shown, Rests, IsBefore, WhereLeft}
-use Rattle.std.specs.Option.{option_map}
 use Rattle.aos_ready.specs.Order.{number_of}
 use Rattle.aos_line.specs.declared.line.Line.{Line}
 use Rattle.aos_line.specs.Stands.{Stands, IsOn, started_of}
@@ -39,8 +41,10 @@ use Rattle.aos_kernel.specs.declared.activity.Next.TheVariants.{Runs, WillTrap, 
 use Rattle.aos_kernel.specs.declared.activity.Activity.{Activity}
 use Rattle.aos_kernel.specs.declared.desk.Desk.{Desk}
 use Rattle.aos_kernel.specs.Run.{rec_of}
-use Rattle.aos_kernel.specs.Conditions.{Known, known, all_known, SameKnown, HasRooms, IsAwaiting, IsAwaitingSo}
+use Rattle.aos_kernel.specs.Conditions.{Known, known, SameKnown, HasRooms, IsAwaiting, IsAwaitingSo}
 use Rattle.aos_kernel.specs.Shows.{next_in, work_at, ShowsFrames, ShowsActivity, IsWaiting, Shows, ShowsSame, HasTurn, IsLive, StandsAtNoLock, StandsBefore, HasSame}
+use Rattle.aos_kernel.proofs.Judging.{known_at}
+use Rattle.aos_kernel.proofs.Fits.{none_fit}
 use Rattle.aos_kernel.proofs.Rows.{put_same, put_other, set_here, get_below, frames_alike, each_grown, each_after, get_before, each_joined, EachShows, not_spent, begun_after, EachWaits, waits_after, no_wait, kept_others}
 use Rattle.aos_line.proofs.Members.{each_at}
 
@@ -113,13 +117,13 @@ module _ (image : Image) (earlier : List Event) (d : Desk) (st : State Memory Fr
 
   -- the next turn has changed, with the locks and the frames
   next_after : (activities : Vec Activity Global) (old : Activity) (n : Next) (locks : Vec LockName Global) (frames : Kept) → slice_get d.activities.items a ≡ Some old → activities.items ≡ slice_set d.activities.items a (record old { next = n; locks = locks; frames = frames }) →
-      frames.begun ≡ old.frames.begun → ShowsFrames image made n (st.frames a) frames → EachShows image made activities.items (put nat_eq st.book.activity a (record (st.book.activity a) { next = next_in n locks.items })) st.frames
-  next_after activities old n locks frames was is count shown =
+      frames.begun ≡ old.frames.begun → ShowsFrames image made n (st.frames a) frames → (IsSoundImage image → FitInRoom image frames) → EachShows image made activities.items (put nat_eq st.book.activity a (record (st.book.activity a) { next = next_in n locks.items })) st.frames
+  next_after activities old n locks frames was is count shown fits =
       let s = h.activities a old was in
       let new : Activity = record old { next = n; locks = locks; frames = frames } in
       let v : book.Activity = record (st.book.activity a) { next = next_in n locks.items } in
       each_after image made d.activities.items activities.items st.book.activity (put nat_eq st.book.activity a v) st.frames st.frames a old new was is
-      (subst (λ x. ShowsActivity image made new x (st.frames a)) (sym (put_same st.book.activity a v)) (record { priority = s.priority; begun = s.begun ∙ sym count; next = refl; frames = shown }))
+      (subst (λ x. ShowsActivity image made new x (st.frames a)) (sym (put_same st.book.activity a v)) (record { priority = s.priority; begun = s.begun ∙ sym count; next = refl; frames = shown; fits = fits }))
       (λ x ne. put_other st.book.activity a v x ne) (λ x ne. refl) h.activities
 
   -- there are as many activities
@@ -151,7 +155,7 @@ module _ (image : Image) (earlier : List Event) (d : Desk) (st : State Memory Fr
     started = started_after activities (record old { next = Gone; frames = frames }) set;
     few = h.few;
     counted = counted_after line activities (record old { next = Gone; frames = frames }) count set;
-    activities = next_after activities old Gone old.locks frames was set begun none;
+    activities = next_after activities old Gone old.locks frames was set begun none (λ whole. none_fit image frames none);
     room = h.room;
     waiting = waits_set activities.items (record old { next = Gone; frames = frames }) (leave_line a st.book.line) st.frames set (λ l wants at. (let z : None ≡ Some (book.At l wants) = sym (place-gone a st.book.line) ∙ at in absurd (cc z))) (λ x ne. place-other a x st.book.line ne) (λ x ne. refl);
     unspent = unspent_after book.Gone;
@@ -182,7 +186,7 @@ module _ (image : Image) (earlier : List Event) (d : Desk) (st : State Memory Fr
         started = started_after activities new (set r.0 r.1);
         few = h.few;
         counted = counted_after d.line activities new refl (set r.0 r.1);
-        activities = subst (λ (ls : List LockName). EachShows image made activities.items (put nat_eq st.book.activity a (record (st.book.activity a) { next = book.Unwinds ls })) st.frames) regions (next_after activities r.0 Unwinds locks r.0.frames r.1 (set r.0 r.1) refl alike);
+        activities = subst (λ (ls : List LockName). EachShows image made activities.items (put nat_eq st.book.activity a (record (st.book.activity a) { next = book.Unwinds ls })) st.frames) regions (next_after activities r.0 Unwinds locks r.0.frames r.1 (set r.0 r.1) refl alike (h.activities a r.0 r.1).fits);
         room = h.room;
         waiting = waits_set activities.items new st.book.line st.frames (set r.0 r.1) turns_no_wait (λ x ne. refl) (λ x ne. refl);
         unspent = unspent_after (book.Unwinds (regions_of image (st.frames a).frames));
@@ -206,7 +210,7 @@ module _ (image : Image) (earlier : List Event) (d : Desk) (st : State Memory Fr
         started = started_after activities new set;
         few = h.few;
         counted = counted_after d.line activities new refl set;
-        activities = next_after activities old Unwinds locks old.frames was set' refl (subst (λ m. ShowsFrames image made m (st.frames a) old.frames) (sym unwinds) (h.activities a old was).frames);
+        activities = next_after activities old Unwinds locks old.frames was set' refl (subst (λ m. ShowsFrames image made m (st.frames a) old.frames) (sym unwinds) (h.activities a old was).frames) (h.activities a old was).fits;
         room = h.room;
         waiting = waits_set activities.items new st.book.line st.frames set turns_no_wait (λ x ne. refl) (λ x ne. refl);
         unspent = unspent_after (book.Unwinds (reverse locks.items));
@@ -229,7 +233,7 @@ module _ (image : Image) (earlier : List Event) (d : Desk) (st : State Memory Fr
         started = started_after activities new set;
         few = h.few;
         counted = counted_after d.line activities new refl set;
-        activities = each_after image made d.activities.items activities.items st.book.activity st.book.activity st.frames st.frames a old new was set (record { priority = s.priority; begun = s.begun; next = s.next ∙ ap (next_in old.next) (sym same); frames = s.frames }) (λ x ne. refl) (λ x ne. refl) h.activities;
+        activities = each_after image made d.activities.items activities.items st.book.activity st.book.activity st.frames st.frames a old new was set (record { priority = s.priority; begun = s.begun; next = s.next ∙ ap (next_in old.next) (sym same); frames = s.frames; fits = s.fits }) (λ x ne. refl) (λ x ne. refl) h.activities;
         room = h.room;
         waiting = waits_set activities.items new st.book.line st.frames set turns_no_wait (λ x ne. refl) (λ x ne. refl);
         unspent = h.unspent;
@@ -237,11 +241,11 @@ module _ (image : Image) (earlier : List Event) (d : Desk) (st : State Memory Fr
 
   pub shows_turned : (store : Store) (activities : Vec Activity Global) (output : Vec ℕ Global) (spent : Option ℕ) (frames : Kept) (old : Activity) (left : Did) →
       slice_get d.activities.items a ≡ Some old → Runs ≡ old.next → activities.items ≡ slice_set d.activities.items a (record old { frames = frames }) →
-      Shown image (turn image st.store (st.frames a)) left old.frames frames (memory_in store) d.output.items output.items →
+      Shown image (turn image st.store (st.frames a)) left old.frames frames (memory_in store) d.output.items output.items → StayFit image old.frames frames →
       spent ≡ spent_by (nat_lt old.frames.begun frames.begun) d.budget frames.begun a d.spent → st.book.spent ≡ None → d.budget < 2 ^ 64 →
       Shows image earlier (record d { store = store; activities = activities; output = output; spent = spent }) (turned (machine image) a (turn image st.store (st.frames a)) st)
   unfolding turned counted
-  shows_turned store activities output spent frames old left was runs is shown when none small =
+  shows_turned store activities output spent frames old left was runs is shown stay when none small =
       let t = turn image st.store (st.frames a) in
       let s = h.activities a old was in
       let all = made_in image (memory_in store) in
@@ -268,7 +272,7 @@ module _ (image : Image) (earlier : List Event) (d : Desk) (st : State Memory Fr
         activities = each_after image all d.activities.items activities.items st.book.activity (put nat_eq st.book.activity a v) st.frames (put nat_eq st.frames a t.frames) a old new was is
             (subst (λ x. ShowsActivity image all new x (put nat_eq st.frames a t.frames a)) (sym (put_same st.book.activity a v))
             (subst (λ x. ShowsActivity image all new v x) (sym (put_same st.frames a t.frames))
-            (record { priority = s.priority; begun = count; next = s.next; frames = subst (λ m. ShowsFrames image all m t.frames frames) runs shown.alike })))
+            (record { priority = s.priority; begun = count; next = s.next; frames = subst (λ m. ShowsFrames image all m t.frames frames) runs shown.alike; fits = λ whole. stay whole (s.fits whole) })))
             (λ x ne. put_other st.book.activity a v x ne) (λ x ne. put_other st.frames a t.frames x ne) (each_grown image made all d.activities.items st.book.activity st.frames knows h.activities);
         room = h.room;
         waiting = waits_set activities.items new st.book.line (put nat_eq st.frames a t.frames) is turns_no_wait (λ x ne. refl) (λ x ne. put_other st.frames a t.frames x ne);
@@ -288,9 +292,9 @@ module _ (image : Image) (earlier : List Event) (d : Desk) (st : State Memory Fr
 
 -- the activity goes on behind the work that was left to the kernel
 pub shows_past : (image : Image) (earlier : List Event) (d : Desk) (st : State Memory Frames) (a : ℕ) (activities : Vec Activity Global) (old : Activity) (frames : Kept) → Shows image earlier d st → StandsAtNoLock a st → slice_get d.activities.items a ≡ Some old → Runs ≡ old.next →
-    activities.items ≡ slice_set d.activities.items a (record old { frames = frames }) → frames.begun ≡ old.frames.begun → Alike image (made_in image (memory_in d.store)) (past image (st.frames a)) (frames_in frames) → Shows image earlier (record d { activities = activities }) (go_past (machine image) a st)
+    activities.items ≡ slice_set d.activities.items a (record old { frames = frames }) → frames.begun ≡ old.frames.begun → Alike image (made_in image (memory_in d.store)) (past image (st.frames a)) (frames_in frames) → StayFit image old.frames frames → Shows image earlier (record d { activities = activities }) (go_past (machine image) a st)
 unfolding go_past
-shows_past image earlier d st a activities old frames h out was runs is count alike =
+shows_past image earlier d st a activities old frames h out was runs is count alike stay =
     let made = made_in image (memory_in d.store) in
     let s = h.activities a old was in
     let new : Activity = record old { frames = frames } in
@@ -308,7 +312,7 @@ shows_past image earlier d st a activities old frames h out was runs is count al
       counted = h.counted ∙ sym (ap length is ∙ length-set d.activities.items a new);
       activities = each_after image made d.activities.items activities.items st.book.activity st.book.activity st.frames (put nat_eq st.frames a fs) a old new was is
           (subst (λ x. ShowsActivity image made new (st.book.activity a) x) (sym (put_same st.frames a fs))
-          (record { priority = s.priority; begun = s.begun ∙ sym count; next = s.next; frames = subst (λ m. ShowsFrames image made m fs frames) runs alike }))
+          (record { priority = s.priority; begun = s.begun ∙ sym count; next = s.next; frames = subst (λ m. ShowsFrames image made m fs frames) runs alike; fits = λ whole. stay whole (s.fits whole) }))
           (λ x ne. refl) (λ x ne. put_other st.frames a fs x ne) h.activities;
       room = h.room;
       waiting = waits_after image d.activities.items activities.items st.book.line st.book.line st.frames (put nat_eq st.frames a fs) a (λ l wants at kept is'. absurd (out l wants at)) (λ x ne. refl) (kept_others d.activities.items activities.items a new is) (λ x ne. put_other st.frames a fs x ne) h.waiting;
@@ -372,7 +376,7 @@ shows_will_trap image earlier d st a n activities old h out was runs is =
     let made = made_in image (memory_in d.store) in
     let s = h.activities a old was in
     one_changed image earlier d st a activities old (record old { next = WillTrap n }) (record (st.book.activity a) { next = book.WillTrap n }) h out was is
-    (record { priority = s.priority; begun = s.begun; next = refl; frames = subst (λ m. ShowsFrames image made m (st.frames a) old.frames) (sym runs) s.frames }) refl
+    (record { priority = s.priority; begun = s.begun; next = refl; frames = subst (λ m. ShowsFrames image made m (st.frames a) old.frames) (sym runs) s.frames; fits = s.fits }) refl
 
 -- the condition that one awaits is known
 pub shows_awaiting : (image : Image) (earlier : List Event) (d : Desk) (st : State Memory Frames) (a c : ℕ) (activities : Vec Activity Global) (old : Activity) → Shows image earlier d st → StandsAtNoLock a st → slice_get d.activities.items a ≡ Some old →
@@ -393,7 +397,7 @@ shows_awaiting image earlier d st a c activities old h out was is =
       few = h.few;
       counted = h.counted ∙ sym (ap length is ∙ length-set d.activities.items a new);
       activities = each_after image made d.activities.items activities.items st.book.activity st.book.activity st.frames st.frames a old new was is
-          (record { priority = s.priority; begun = s.begun; next = s.next; frames = s.frames }) (λ x ne. refl) (λ x ne. refl) h.activities;
+          (record { priority = s.priority; begun = s.begun; next = s.next; frames = s.frames; fits = s.fits }) (λ x ne. refl) (λ x ne. refl) h.activities;
       room = h.room;
       waiting = waits_after image d.activities.items activities.items st.book.line st.book.line st.frames st.frames a (λ l wants at kept is'. absurd (out l wants at)) (λ x ne. refl) (kept_others d.activities.items activities.items a new is) (λ x ne. refl) h.waiting;
       unspent = h.unspent;
@@ -433,29 +437,16 @@ frames_known image made (WillTrap n) fs k g e h = subst (λ x. Alike image made 
 frames_known image made Unwinds fs k g e h = subst (λ x. Alike image made fs x) e h
 frames_known image made Gone fs k g e h = sym e ∙ h
 
--- who was kept, by who is
-pub kept_before : (old new : List Activity) (n : ℕ) (kept : Activity) → SameKnown old new → slice_get new n ≡ Some kept → (was : Activity) × (slice_get old n ≡ Some was) × (known was ≡ known kept)
-kept_before old new n kept same at =
-    let e : all_known old n ≡ Some (known kept) = sym (same.known n) ∙ ap (option_map known) at in
-    by (slice_get old n) refl e
-  where
-    by : (o : Option Activity) → slice_get old n ≡ o → option_map known o ≡ Some (known kept) → (was : Activity) × (slice_get old n ≡ Some was) × (known was ≡ known kept)
-    by None is f = absurd (cc f)
-    by (Some was) is f = (was, is, some_same (known was) (known kept) f)
-
 pub before_known : (image : Image) (old new : List Activity) (a : ℕ) (left : Did) → SameKnown old new → ((kept : Activity) → slice_get old a ≡ Some kept → (Runs ≡ kept.next) × IsBefore image left (frames_in kept.frames)) →
     (kept : Activity) → slice_get new a ≡ Some kept → (Runs ≡ kept.next) × IsBefore image left (frames_in kept.frames)
 before_known image old new a left same before kept at =
-    let w = kept_before old new a kept same at in
+    let w = known_at old new a kept (same.known a) at in
     let b = before w.0 w.1 in
     (b.0 ∙ ap (λ (k : Known). k.next) w.2, subst (IsBefore image left) (ap (λ (k : Known). k.frames) w.2) b.1)
 
-same_back : (old new : List Activity) → SameKnown old new → SameKnown new old
-same_back old new same = record { count = sym same.count; known = λ n. sym (same.known n) }
-
 pub awaits_known : (old new : List Activity) (a c : ℕ) → SameKnown old new → (kept : Activity) × (slice_get old a ≡ Some kept) × IsAwaiting c kept → (kept : Activity) × (slice_get new a ≡ Some kept) × IsAwaiting c kept
 awaits_known old new a c same awaits =
-    let w = kept_before new old a awaits.0 (same_back old new same) awaits.1 in
+    let w = known_at new old a awaits.0 (sym (same.known a)) awaits.1 in
     (w.0, w.1, (awaits.2.0 ∙ sym (ap (λ (k : Known). k.condition) w.2), subst (λ n. n ≤ 2 ^ 32) (sym (ap (λ (k : Known). k.many) w.2)) awaits.2.1))
 
 awaiting_known : (wants : Wants) (k g : Activity) → known k ≡ known g → IsAwaitingSo wants k → IsAwaitingSo wants g
@@ -478,17 +469,18 @@ shows_known image earlier d st activities stack same room h =
       few = h.few;
       counted = h.counted ∙ sym same.count;
       activities = λ x kept at.
-          let w = kept_before d.activities.items activities.items x kept same at in
+          let w = known_at d.activities.items activities.items x kept (same.known x) at in
           let s = h.activities x w.0 w.1 in
           record {
             priority = s.priority ∙ ap (λ (k : Known). number_of k.priority) w.2;
             begun = s.begun ∙ ap (λ (k : Known). k.begun) w.2;
             next = s.next ∙ ap (λ (k : Known). next_in k.next k.locks) w.2;
             frames = subst (λ m. ShowsFrames image made m (st.frames x) kept.frames) (ap (λ (k : Known). k.next) w.2) (frames_known image made w.0.next (st.frames x) w.0.frames kept.frames (ap (λ (k : Known). k.frames) w.2) s.frames);
+            fits = λ whole. same_stay image w.0.frames kept.frames (sym (ap (λ (k : Known). k.frames) w.2)) (same.room x w.0 kept w.1 at (depth_of image) (keeps_for image)) whole (s.fits whole);
           };
       room = room;
       waiting = λ x l wants at kept is.
-          let w = kept_before d.activities.items activities.items x kept same is in
+          let w = known_at d.activities.items activities.items x kept (same.known x) is in
           let v = h.waiting x l wants at w.0 w.1 in
           record {
             runs = v.runs ∙ ap (λ (k : Known). k.next) w.2;
@@ -502,10 +494,10 @@ shows_known image earlier d st activities stack same room h =
 -- a new activity is ready at this priority
 pub shows_born : (image : Image) (earlier : List Event) (d : Desk) (st : State Memory Frames) (p : Priority) (n : ℕ) (activities : Vec Activity Global) (line : Line) (events : Vec Event Global) (locks : Vec LockName Global) (frames : Kept) (fs : Frames) →
     n ≡ length d.activities.items → n < 65536 → activities.items ≡ d.activities.items ++ record { priority = p; next = Runs; condition = 0; locks = locks; frames = frames } ∷ [] → Stands line (move n (book.Ready (number_of p)) st.book.line) st.book.owner → started_of line ≡ suc (started_of d.line) → events.items ≡ d.events.items ++ event.Start n ∷ [] →
-    frames.begun ≡ 0 → Alike image (made_in image (memory_in d.store)) fs (frames_in frames) → Shows image earlier d st →
+    frames.begun ≡ 0 → Alike image (made_in image (memory_in d.store)) fs (frames_in frames) → (IsSoundImage image → FitInRoom image frames) → Shows image earlier d st →
     Shows image earlier (record d { activities = activities; line = line; events = events }) (on_book (born (number_of p)) (with_frames st.book.started fs st))
 unfolding born
-shows_born image earlier d st p n activities line events locks frames fs count few is moved more told none alike h =
+shows_born image earlier d st p n activities line events locks frames fs count few is moved more told none alike fits h =
     let k = st.book.started in
     let same : k ≡ n = h.started ∙ sym count in
     let new : Activity = record { priority = p; next = Runs; condition = 0; locks = locks; frames = frames } in
@@ -521,7 +513,7 @@ shows_born image earlier d st p n activities line events locks frames fs count f
       started = ap suc h.started ∙ sym (ap length is ∙ added d.activities.items new);
       few = omega (arith, same, few);
       counted = more ∙ ap suc h.counted ∙ sym (ap length is ∙ added d.activities.items new);
-      activities = each_joined image (made_in image (memory_in d.store)) d.activities.items activities.items st.book.activity st.frames k new act fs h.started is (record { priority = refl; begun = sym none; next = refl; frames = alike }) h.activities;
+      activities = each_joined image (made_in image (memory_in d.store)) d.activities.items activities.items st.book.activity st.frames k new act fs h.started is (record { priority = refl; begun = sym none; next = refl; frames = alike; fits = fits }) h.activities;
       room = h.room;
       waiting = waits_after image d.activities.items activities.items st.book.line (move k (book.Ready (number_of p)) st.book.line) st.frames (put nat_eq st.frames k fs) k (λ l wants at kept is'. absurd (no_wait (book.Ready (number_of p)) _ (place-moved k (book.Ready (number_of p)) st.book.line) refl l wants at)) (λ x ne. place-unmoved k x (book.Ready (number_of p)) st.book.line ne)
           (λ x kept ne at. get_before d.activities.items new x kept (λ z. ne (z ∙ sym h.started)) (sym (ap (λ xs. slice_get xs x) is) ∙ at)) (λ x ne. put_other st.frames k fs x ne) h.waiting;
@@ -585,9 +577,9 @@ no_frames frames none ends = (λ i. let fs : Frames = record { following = rever
 
 -- only silent work has been done
 pub shows_silent : (image : Image) (earlier : List Event) (d : Desk) (st : State Memory Frames) (store : Store) (activities : Vec Activity Global) (output : Vec ℕ Global) (spent : Option ℕ) (a : ℕ) (old : Activity) (frames : Kept) → HasTurn a d →
-    slice_get d.activities.items a ≡ Some old → Runs ≡ old.next → activities.items ≡ slice_set d.activities.items a (record old { frames = frames }) → Rests image old.frames frames (memory_in d.store) (memory_in store) d.output.items output.items →
+    slice_get d.activities.items a ≡ Some old → Runs ≡ old.next → activities.items ≡ slice_set d.activities.items a (record old { frames = frames }) → Rests image old.frames frames (memory_in d.store) (memory_in store) d.output.items output.items → StayFit image old.frames frames →
     spent ≡ d.spent → Shows image earlier d st → Shows image earlier (record d { store = store; activities = activities; output = output; spent = spent }) st
-shows_silent image earlier d st store activities output spent a old frames turn_of was runs is rests same h =
+shows_silent image earlier d st store activities output spent a old frames turn_of was runs is rests stay same h =
     let made = made_in image (memory_in d.store) in
     let s = h.activities a old was in
     let new : Activity = record old { frames = frames } in
@@ -608,6 +600,7 @@ shows_silent image earlier d st store activities output spent a old frames turn_
             begun = s.begun ∙ sym rests.begun;
             next = s.next;
             frames = subst (λ m. ShowsFrames image made m (st.frames a) old.frames → ShowsFrames image made m (st.frames a) frames) runs (λ e. alike_both image made (st.frames a) (frames_in old.frames) (frames_in frames) e rests.alike) s.frames;
+            fits = λ whole. stay whole (s.fits whole);
           }) (λ x ne. refl) (λ x ne. refl) h.activities);
       room = h.room;
       waiting = waits_after image d.activities.items activities.items st.book.line st.book.line st.frames st.frames a (λ l wants at kept is'. absurd (turns_no_wait image earlier d st a h turn_of l wants at)) (λ x ne. refl) (kept_others d.activities.items activities.items a new is) (λ x ne. refl) h.waiting;

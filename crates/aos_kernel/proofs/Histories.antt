@@ -6,7 +6,7 @@ use Rattle.aos_base.specs.declared.kernel.Event.{Event}
 use Rattle.aos_base.specs.declared.kernel.Outcome.{Outcome}
 use Rattle.aos_base.specs.declared.kernel.Outcome.TheVariants.{Going, Ended, Dead, Spent}
 use Rattle.aos_base.specs.Book.{Stand, On, outcome, outcome_of, on_worker, first_ready, ready, stands}
-use Rattle.aos_base.specs.Machine.{Choice, Step, Tick, State, on_book, dispatch, tick_of, step_of, if_going, turn_by, happens, happens_in, execution}
+use Rattle.aos_base.specs.Machine.{Choice, Step, Tick, State, on_book, dispatch, tick_of, step_of, if_going, turn_by, happens, happens_in}
 use Rattle.aos_concurrency.proofs.Executions.{execution-append}
 use Rattle.aos_code.specs.declared.image.Image.{Image}
 use Rattle.aos_code.specs.Memory.{Memory}

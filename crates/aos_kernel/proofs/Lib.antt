@@ -1,6 +1,7 @@
 pub mod Pieces
 pub mod Rows
 pub mod Judging
+pub mod Fits
 pub mod Desks
 pub mod Handing
 pub mod Waiting

@@ -68,7 +68,7 @@ EachShows image made items acts frames = (x : ℕ) (kept : Activity) → slice_g
 
 pub each_grown : (image : Image) (made all : ℕ → Option Made) (items : List Activity) (acts : ℕ → book.Activity) (frames : ℕ → Frames) → Knows all made → EachShows image made items acts frames → EachShows image all items acts frames
 each_grown image made all items acts frames knows each x kept at =
-    let s = each x kept at in record { priority = s.priority; begun = s.begun; next = s.next; frames = frames_grown image made all kept.next (frames x) kept.frames knows s.frames }
+    let s = each x kept at in record { priority = s.priority; begun = s.begun; next = s.next; frames = frames_grown image made all kept.next (frames x) kept.frames knows s.frames; fits = s.fits }
 
 -- after one has changed
 pub each_after : (image : Image) (made : ℕ → Option Made) (items items' : List Activity) (acts acts' : ℕ → book.Activity) (frames frames' : ℕ → Frames) (a : ℕ) (old new : Activity) → slice_get items a ≡ Some old → items' ≡ slice_set items a new →

@@ -17,6 +17,8 @@ use Rattle.aos_code.specs.Memory.{Memory}
 use Rattle.aos_code.specs.Machine.{Frames, machine, made_in, turn, verdict}
 use Rattle.aos_store.specs.declared.frames.Frames.{Frames as Kept}
 use Rattle.aos_store.specs.Store.{frames_in, memory_in}
+use Rattle.aos_sound.specs.FitFrames.{IsSoundImage}
+use Rattle.aos_silent.specs.Room.{FitInRoom}
 use Rattle.aos_cpu.specs.Turns.{Alike, StandsAtWork, IsBefore}
 use Rattle.aos_lock.specs.declared.lock.Passed.{Passed}
 use Rattle.aos_lock.specs.declared.lock.Passed.TheVariants.{Waiter, Entrant, Free}
@@ -43,12 +45,13 @@ ShowsFrames image made (WillTrap n) fs kept = Alike image made fs (frames_in kep
 ShowsFrames image made Unwinds fs kept = Alike image made fs (frames_in kept)
 ShowsFrames image made Gone fs kept = frames_in kept ≡ record { following = []; frames = [] }
 
--- an activity with its frames, where objects are known to be made as this
+-- an activity with its frames, where objects are known to be made as this; where the image is sound, they fit it and have room
 pub record ShowsActivity (image : Image) (made : ℕ → Option Made) (kept : Activity) (a : book.Activity) (fs : Frames) : Type 0 where
   pub priority : a.priority ≡ number_of kept.priority
   pub begun : a.begun ≡ kept.frames.begun
   pub next : a.next ≡ next_in kept.next kept.locks.items
   pub frames : ShowsFrames image made kept.next fs kept.frames
+  pub fits : IsSoundImage image → FitInRoom image kept.frames
 
 -- the work at which one who waits for a lock stands
 abbrev pub work_at : LockName → Wants → Did

@@ -6,6 +6,7 @@ ghost use Rattle.aos_base.specs.Rooted.{Made as MadeAs};
 ghost use Rattle.aos_code.specs.Machine.{Frames as FramesOf, bodies, body_frame, body_of, level, position, priority_of as priority_in, regions_of};
 ghost use Rattle.aos_store.specs.declared.frames.Frames.{Frames as KeptFrames};
 ghost use Rattle.aos_store.specs.Store.{frames_in, memory_in};
+ghost use Rattle.aos_silent.specs.Room.{AreRoomy};
 ghost use Rattle.aos_cpu.specs.Turns.{where_in, Alike};
 ghost use Rattle.aos_kernel.specs.Shows.{IsPopped, IsEmptied};
 
@@ -114,6 +115,7 @@ pub fn frames_of_object(
     ensures frames { IfOk result
         (λ frames. frames_in frames ≡ body_of image.now (memory_in store.now) object) }
     ensures begun { IfOk result (λ frames. frames.begun ≡ 0) }
+    ensures room { IfOk result (λ frames. AreRoomy image.now frames) }
 {
     let mut frames = Frames::new(alloc);
     let body = body_of_object(image, store, object);

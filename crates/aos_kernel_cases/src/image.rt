@@ -76,12 +76,13 @@ fn indices_of(alloc: Global, text: &str) -> Result<Vec<u32>, Stop> {
     Ok(indices)
 }
 
-// A type: the number of its body, the kinds of its cells, the type that it extends, its methods, and the priority of its objects'
-// activities, as in `0 n r; extends 2; methods 12 13; priority 3`.
+// A type: the number of its body, the kinds of its cells, whether its body is active, the type that it extends, its methods, and the
+// priority of its objects' activities, as in `4 n r; active no; extends 2; methods 12 13; priority 3`.
 fn type_of(alloc: Global, text: &str) -> Result<TypeDesc, Stop> {
     let (text, priority) = text.split_once("; priority ").unwrap_or((text, "2"));
     let (text, methods) = text.split_once("; methods ").unwrap_or((text, ""));
     let (text, base) = text.split_once("; extends ").unwrap_or((text, "0"));
+    let (text, active) = text.split_once("; active ").unwrap_or((text, "yes"));
     let (body, kinds) = text.split_once(' ').unwrap_or((text, ""));
     let (Some(body), Some(base)) = (index_of(body), index_of(base)) else {
         return Err(Stop::Malformed("malformed: a type has no body's number"));
@@ -97,7 +98,7 @@ fn type_of(alloc: Global, text: &str) -> Result<TypeDesc, Stop> {
         methods: indices_of(alloc, methods)?,
         init: 0,
         body,
-        active: body != 0,
+        active: body != 0 && active == "yes",
         priority,
         safe: false,
     })

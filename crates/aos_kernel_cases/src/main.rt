@@ -4,7 +4,8 @@
 //! Sections say an image, whose parts are numbered in their order:
 //!
 //! - `module BODY CELLS`, with what its cells hold at first, as in `module 1 num 0, ref 0`.
-//! - `type BODY KINDS`, with the kinds of its cells, as in `type 0 n r; extends 2; methods 12 13; priority 3`.
+//! - `type BODY KINDS`, with the kinds of its cells, as in `type 0 n r; extends 2; methods 12 13; priority 3`. Its body is active,
+//!   but where the type says `; active no` behind the kinds.
 //! - `condition CODE`.
 //! - `procedure MODULE PARAMETERS`, or `method` where it is called on an object, with the code below, as in
 //!   `procedure 0 n open/1/1; gives n; keeps 2`.

@@ -29,7 +29,7 @@ impl Test for Verdicts {
 
     ghost Held = { Unit {0} };
 
-    ghost held = { λ _. tt };
+    ghost held = { λ _ _. Unit {0} };
 
     fn verdict(&mut self, waiter: u32) -> Verdict {
         if (waiter as usize) < self.of.len() {

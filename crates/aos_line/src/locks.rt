@@ -100,7 +100,7 @@ impl Line {
         ensures stands { (line : List Stand) (owner : LockName → Option ℕ) → Stands self.old line owner →
             Stands self.new (left_by result line) (put is_lock owner lock (new_owner result)) }
         ensures nowhere { (b : ℕ) → new_owner result ≡ Some b → IsNowhere self.new b }
-        ensures held { T.held test.new ≡ T.held test.old }
+        ensures held { (h : T.Held) → T.held test.old h → T.held test.new h }
         ensures started { started_of self.new ≡ started_of self.old }
     {
         let Some(number) = self.numbers.get(lock) else {

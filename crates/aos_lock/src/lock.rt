@@ -113,7 +113,7 @@ impl Lock {
         ensures others { KeepsOthers links.old links.new (list_in links.old self.old.queue) }
         ensures table { SameTable links.old links.new }
         ensures verdicts { (other : ℕ) → T.verdict_of test.new other ≡ T.verdict_of test.old other }
-        ensures held { T.held test.new ≡ T.held test.old }
+        ensures held { (h : T.Held) → T.held test.old h → T.held test.new h }
     {
         let passed = heir(links, &self.queue, test);
         self.owner = passed.owner();
@@ -138,7 +138,7 @@ impl Lock {
             KeepsOthers links.old links.new touched }
         ensures marks { KeepsMarks links.old links.new activity }
         ensures verdicts { (other : ℕ) → T.verdict_of test.new other ≡ T.verdict_of test.old other }
-        ensures held { T.held test.new ≡ T.held test.old }
+        ensures held { (h : T.Held) → T.held test.old h → T.held test.new h }
     {
         self.join(links, activity, true);
         self.release(links, test)
@@ -151,7 +151,7 @@ fn is_served<T: Test>(links: &Links, activity: u32, test: &mut T) -> bool
     ensures served { let verdict = T.verdict_of test.old activity in
         result ≡ is_waiter_served (mark_of links.now activity) verdict }
     ensures verdicts { (other : ℕ) → T.verdict_of test.new other ≡ T.verdict_of test.old other }
-    ensures held { T.held test.new ≡ T.held test.old }
+    ensures held { (h : T.Held) → T.held test.old h → T.held test.new h }
 {
     links.mark(activity) && test.verdict(activity) != Verdict::Fails
 }
@@ -173,7 +173,7 @@ fn heir<T: Test>(links: &Links, queue: &Queue, test: &mut T) -> Passed
     ensures heir { let es = waits_in links.now queue.now in
         result ≡ passed_to (heir_by (T.verdict_of test.old) es) }
     ensures verdicts { (other : ℕ) → T.verdict_of test.new other ≡ T.verdict_of test.old other }
-    ensures held { T.held test.new ≡ T.held test.old }
+    ensures held { (h : T.Held) → T.held test.old h → T.held test.new h }
 {
     let mut entrant = None;
     let mut at = queue.first();

@@ -135,7 +135,7 @@ impl Locks {
             KeepsOthers links.old links.new touched }
         ensures table { SameTable links.old links.new }
         ensures verdicts { (other : ℕ) → T.verdict_of test.new other ≡ T.verdict_of test.old other }
-        ensures held { T.held test.new ≡ T.held test.old }
+        ensures held { (h : T.Held) → T.held test.old h → T.held test.new h }
     {
         self.locks[lock as usize].release(links, test)
     }
@@ -166,7 +166,7 @@ impl Locks {
             KeepsOthers links.old links.new touched }
         ensures marks { KeepsMarks links.old links.new activity }
         ensures verdicts { (other : ℕ) → T.verdict_of test.new other ≡ T.verdict_of test.old other }
-        ensures held { T.held test.new ≡ T.held test.old }
+        ensures held { (h : T.Held) → T.held test.old h → T.held test.new h }
     {
         self.locks[lock as usize].wait(links, activity, test)
     }

@@ -10,14 +10,14 @@ pub trait Test {
     /// What a waiter's condition comes to, from what the test holds.
     ghost verdict_of: { Self → ℕ → Verdict };
 
-    /// What the test holds besides, as its user sees it. No call changes it.
+    /// What else may be told of the test, as its user sees it. No call makes it untrue.
     ghost Held: { Type 0 };
 
-    ghost held: { Self → Held };
+    ghost held: { Self → Held → Type 0 };
 
     /// What a waiter's condition comes to. No call changes any verdict.
     fn verdict(&mut self, waiter: u32) -> Verdict
         ensures verdict { result ≡ verdict_of self.old waiter }
         ensures kept { (other : ℕ) → verdict_of self.new other ≡ verdict_of self.old other }
-        ensures held { held self.new ≡ held self.old };
+        ensures held { (h : Held) → held self.old h → held self.new h };
 }

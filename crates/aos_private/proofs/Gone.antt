@@ -9,9 +9,11 @@ use Rattle.aos_code.specs.declared.instr.Cell.{Cell}
 use Rattle.aos_code.specs.declared.instr.Kind.{Kind}
 use Rattle.aos_code.specs.declared.image.Image.{Image}
 use Rattle.aos_code.specs.declared.image.ProcShape.{ProcShape}
+use Rattle.aos_code.specs.declared.image.TypeDesc.{TypeDesc}
 use Rattle.aos_code.specs.Memory.{Memory, Addr}
+use Rattle.aos_base.specs.Question.{Ends}
 use Rattle.aos_code.specs.Silent.{Stack, Keeps, is_of}
-use Rattle.aos_code.specs.Machine.{object_of, arguments_of, Frame, Frames, rooted, cells_at, leaves, goes_on, behind, reads, writes, copies, stores_text, fitted, puts_text, compares, enters, called_frame, calls_with, calls, goes, stop_of, handed, text_in, code_in, character_then, character_cells}
+use Rattle.aos_code.specs.Machine.{object_of, arguments_of, Frame, Frames, works, rooted, cells_at, leaves, goes_on, behind, reads, writes, copies, stores_text, fitted, puts_text, compares, enters, called_frame, calls_with, calls, goes, stop_of, handed, text_in, code_in, character_then, character_cells}
 use Rattle.aos_store.specs.declared.frames.Frames.{Frames as KeptFrames}
 use Rattle.aos_store.specs.Store.{list_in, frames_in, has_all, deep}
 use Rattle.aos_silent.specs.declared.silent.Stop.{Stop as KeptStop}
@@ -52,6 +54,11 @@ module _ (following : List ℕ) (at : ℕ) (k : Keeps) (s : Stack) (f : Frame) (
   compare_gone r (Some a) (Some b) = refl
   compare_gone r (Some a) None = refl
   compare_gone r None p = refl
+
+  -- the end of a frame whose region isn't open
+  pub end_gone : (shapes : List ProcShape) (types : List TypeDesc) (r : Option Cell) (b : Bool) → b ≡ has_gone (works following shapes types b (Ends r) at k s f fs mem).left
+  end_gone shapes types r true = refl
+  end_gone shapes types r false = refl
 
   -- as many characters are stored as the length of the text tells
   fitted_len : (strict : Bool) (room : ℕ) (cs : List ℕ) → stored_len strict room (length cs) ≡ option_map length (fitted following strict room cs)

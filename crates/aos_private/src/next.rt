@@ -1,5 +1,6 @@
 // Whether the next turn is private.
 ghost use Rattle.std.specs.Prelude.{◌≡◌, []};
+ghost use Rattle.aos_code.specs.Machine.{opened};
 ghost use Rattle.aos_store.specs.Store.{list_in, frames_in, memory_in, SameCounts};
 ghost use Rattle.aos_sound.specs.FitFrames.{IsSoundImage, FramesFit};
 ghost use Rattle.aos_silent.specs.Room.{AreRoomy};
@@ -14,17 +15,19 @@ use aos_silent::{Stop, silent_from};
 use aos_store::{Frames, Heap, Store};
 
 /// The silent work of the topmost frame, for which there is room, up to where it ends, where there is no object that tells anything;
-/// none where there is no frame.
+/// none where there is no frame, nor a body that is to be opened.
 fn come_without(image: &Image, frames: &mut Frames, nothing: &Heap) -> Option<Stop>
     requires sound { IsSoundImage image.now }
     requires fit { FramesFit image.now (frames_in frames.old) }
     requires room { AreRoomy image.now frames.old }
+    requires ready { opened (frames_in frames.old) ≡ frames_in frames.old }
     requires none { nothing.now ≡ [] }
     ensures stop { HasCome image.now (made_by []) result (frames_in frames.new) }
     ensures alike { Alike image.now (made_by []) (frames_in frames.old) (frames_in frames.new) }
     ensures counts { SameCounts frames.old frames.new }
     ensures fit { FramesFit image.now (frames_in frames.new) }
     ensures room { AreRoomy image.now frames.new }
+    ensures ready { opened (frames_in frames.new) ≡ frames_in frames.new }
 {
     let here = frames.count().saturating_sub(1);
     let Some(frame) = frames.list.last_mut() else {
@@ -42,11 +45,13 @@ fn come_in_room(image: &Image, frames: &mut Frames) -> Option<Stop>
     requires sound { IsSoundImage image.now }
     requires fit { FramesFit image.now (frames_in frames.old) }
     requires room { AreRoomy image.now frames.old }
+    requires ready { opened (frames_in frames.old) ≡ frames_in frames.old }
     ensures stop { HasCome image.now (made_by []) result (frames_in frames.new) }
     ensures alike { Alike image.now (made_by []) (frames_in frames.old) (frames_in frames.new) }
     ensures counts { SameCounts frames.old frames.new }
     ensures fit { FramesFit image.now (frames_in frames.new) }
     ensures room { AreRoomy image.now frames.new }
+    ensures ready { opened (frames_in frames.new) ≡ frames_in frames.new }
 {
     let heap = Heap::new(*frames.list.allocator());
     come_without(image, frames, &heap)
@@ -74,16 +79,18 @@ fn is_private_stop(image: &Image, frames: &Frames, store: &Store, stop: Stop) ->
 }
 
 /// Whether the next turn is private: it needs nothing but the activity's own frames, and doesn't trap. Some silent work is done, and
-/// no memory is taken.
+/// no memory is taken. No body is to be opened before it, since that takes memory.
 pub fn next_private(image: &Image, frames: &mut Frames) -> bool
     requires sound { IsSoundImage image.now }
     requires fit { FramesFit image.now (frames_in frames.old) }
     requires room { AreRoomy image.now frames.old }
+    requires ready { opened (frames_in frames.old) ≡ frames_in frames.old }
     ensures is { result ≡ is_private image.now (frames_in frames.old) }
     ensures alike { Alike image.now (made_by []) (frames_in frames.old) (frames_in frames.new) }
     ensures counts { SameCounts frames.old frames.new }
     ensures fit { FramesFit image.now (frames_in frames.new) }
     ensures room { AreRoomy image.now frames.new }
+    ensures ready { opened (frames_in frames.new) ≡ frames_in frames.new }
 {
     match come_in_room(image, frames) {
         None => false,

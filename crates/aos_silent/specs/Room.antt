@@ -1,5 +1,5 @@
 -- Room in a frame for operands and for what is kept, with which no memory is taken.
-use Rattle.std.specs.Prelude.{◌≡◌, ◌<◌, ◌≤◌, ◌^◌, ℕ, suc, ◌+◌, List, [], ◌∷◌, Some, length, slice_get, vec_len, vec_capacity}
+use Rattle.std.specs.Prelude.{◌≡◌, ◌<◌, ◌≤◌, ℕ, suc, ◌+◌, List, ◌∷◌, length, vec_len, vec_capacity}
 use Rattle.aos_code.specs.declared.instr.Cell.TheVariants.{Ref}
 use Rattle.aos_code.specs.declared.instr.Instr.{Instr}
 use Rattle.aos_code.specs.declared.instr.Instr.TheVariants as instr
@@ -7,10 +7,11 @@ use Rattle.aos_code.specs.declared.image.Image.{Image}
 use Rattle.aos_code.specs.Numbered.{numbered}
 use Rattle.aos_code.specs.Silent.{Stack, keeps_in}
 use Rattle.aos_sound.specs.Fits.{StandsOn}
-use Rattle.aos_sound.specs.FitFrames.{depth_of}
+use Rattle.aos_sound.specs.FitFrames.{depth_of, FramesFit, IsSoundImage}
 use Rattle.aos_store.specs.declared.frames.Frame.{Frame as KeptFrame}
 use Rattle.aos_store.specs.declared.frames.Frames.{Frames as KeptFrames}
-use Rattle.aos_store.specs.Store.{frame_in, kept_cells}
+use Rattle.aos_store.specs.Store.{frame_in, frames_in, kept_cells}
+use Rattle.aos_store.specs.Room.{IsRoomyFor, AreRoomyFor}
 
 -- there is no room for one operand more
 abbrev pub IsFull : KeptFrame → Type 0
@@ -45,14 +46,22 @@ pub record StandsInRoom (image : Image) (depth keeps : ℕ) (code : List Instr) 
   pub operands : depth ≤ vec_capacity f.operands
   pub kept : keeps ≤ length (kept_cells f)
 
--- a frame has room for all operands of its procedure's body, and for all that the procedure keeps
-pub record IsRoomy (image : Image) (f : KeptFrame) : Type 0 where
-  pub operands : depth_of image f.procedure ≤ vec_capacity f.operands
-  pub kept : keeps_in (numbered image.shapes.items f.procedure) ≤ length (kept_cells f)
+-- under how many numbers a procedure keeps values
+abbrev pub keeps_for : Image → (procedure : ℕ) → ℕ
+keeps_for image p = keeps_in (numbered image.shapes.items p)
 
--- Frames each of which has such room. They are fewer than 2^32, and where there is none no body is to follow, so that silent work takes
--- no memory.
-pub record AreRoomy (image : Image) (fs : KeptFrames) : Type 0 where
-  pub each : (i : ℕ) (f : KeptFrame) → slice_get fs.list.items i ≡ Some f → IsRoomy image f
-  pub few : length fs.list.items < 2 ^ 32
-  pub begun : fs.list.items ≡ [] → fs.following.items ≡ []
+-- a frame has room for all operands of its procedure's body, and for all that the procedure keeps
+abbrev pub IsRoomy : Image → KeptFrame → Type 0
+IsRoomy image f = IsRoomyFor (depth_of image) (keeps_for image) f
+
+-- Frames each of which has such room, and which are fewer than 2^32. Where there is none, a body may be to follow.
+abbrev pub AreRoomy : Image → KeptFrames → Type 0
+AreRoomy image fs = AreRoomyFor (depth_of image) (keeps_for image) fs.list.items
+
+-- frames fit an image, and have such room
+abbrev pub FitInRoom : Image → KeptFrames → Type 0
+FitInRoom image fs = FramesFit image (frames_in fs) × AreRoomy image fs
+
+-- where the image is sound, frames that fit it and have room do so still
+abbrev pub StayFit : Image → (old new : KeptFrames) → Type 0
+StayFit image old new = IsSoundImage image → FitInRoom image old → FitInRoom image new

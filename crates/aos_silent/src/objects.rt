@@ -168,7 +168,7 @@ fn put_lengths(stack: &mut Vec<Cell>, place: Cell, lengths: &[u32])
     }
 }
 
-/// The place of an open array that is an object, and its first lengths, so many; trap 1 at NIL.
+/// The place of an open array that is an object, and its lengths, so many; trap 1 at NIL.
 pub fn tell_array(frame: &mut Frame, heap: &Heap, count: u32) -> Result<Act, NoMemory>
     ensures ok { (shapes : List ShapeOf) (types : List TypeDesc) → IfOk result (λ did. IsStepOf shapes types (known heap.now) (looks (AtElements count) (λ s. Stops (FailsOf 1 0)) (frame_in frame.old).stack) did (frame_in frame.old) (frame_in frame.new)) }
     ensures stays { IfOk result (λ did. WhereStays did (frame_in frame.new ≡ frame_in frame.old)) }
@@ -184,14 +184,14 @@ pub fn tell_array(frame: &mut Frame, heap: &Heap, count: u32) -> Result<Act, NoM
         Some(number) => match heap.get(number) {
             None => Ok(LOST),
             Some(object) => {
-                if object.lengths.len() < count as usize {
+                if object.lengths.len() != count as usize {
                     return Ok(LOST);
                 }
                 frame.operands.reserve(count as usize)?;
                 put_lengths(
                     &mut frame.operands,
                     Cell::Place(Root::Object(number), 0, 0),
-                    &object.lengths[..count as usize],
+                    &object.lengths,
                 );
                 Ok(Act::Goes(0))
             }

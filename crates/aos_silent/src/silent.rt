@@ -1,11 +1,12 @@
 // The silent work of a frame, up to where it ends.
-ghost use Rattle.std.specs.Prelude.{◌≡◌, ◌<◌, ◌≤◌, ◌^◌, ℕ, true, Option, IfOk, IsOk, vec_capacity};
+ghost use Rattle.std.specs.Prelude.{◌≡◌, ◌<◌, ◌^◌, ℕ, true, Option, IfOk, IsOk};
 ghost use Rattle.std.specs.List.{list_all};
 ghost use Rattle.aos_base.specs.Rooted.{Made};
 ghost use Rattle.aos_code.specs.Numbered.{numbered as numbered_of};
 ghost use Rattle.aos_code.specs.Silent.{keeps_in};
 ghost use Rattle.aos_code.specs.Machine.{code_of as code_at, may_evaluate};
 ghost use Rattle.aos_store.specs.Store.{frame_in};
+ghost use Rattle.aos_store.specs.Room.{HasMoreRoom};
 ghost use Rattle.aos_sound.specs.Fits.{KeepsToPaths};
 ghost use Rattle.aos_silent.specs.Known.{known, Knows};
 ghost use Rattle.aos_silent.specs.Silent.{stop_in, silent_at, seen_at, silent_with, seen_with, IsStopOf};
@@ -55,7 +56,7 @@ fn walk_from(
     ensures alike { (all : ℕ → Option Made) → Knows all (known heap.now) → seen_with image.now code.now all here (frame_in frame.new) ≡ seen_with image.now code.now all here (frame_in frame.old) }
     ensures room { (depth : ℕ) → KeepsToPaths image.now frame.old.procedure code.now depth → StandsInRoom image.now depth keeps code.now frame.old →
         IsOk result × StandsInRoom image.now depth keeps code.now frame.new }
-    ensures more { vec_capacity frame.old.operands ≤ vec_capacity frame.new.operands }
+    ensures more { HasMoreRoom frame.old frame.new }
     ensures moves { list_all may_evaluate code.now ≡ true → HasRoomFor code.now frame.old →
         IsOk result × HasMoved (frame_in frame.old) (frame_in frame.new) }
     ensures asks { list_all may_evaluate code.now ≡ true → HasRoomFor code.now frame.old →
@@ -120,7 +121,7 @@ pub fn silent_condition(
     ensures place { IsStopOf result (frame_in frame.new) }
     ensures moves { HasMoved (frame_in frame.old) (frame_in frame.new) }
     ensures asks { AsksInRoom result code.now frame.new }
-    ensures more { vec_capacity frame.old.operands ≤ vec_capacity frame.new.operands }
+    ensures more { HasMoreRoom frame.old frame.new }
 {
     let keeps = keeps_of(&image.shapes, frame.procedure);
     match walk_from(image, heap, code, keeps, here as u32, frame) {

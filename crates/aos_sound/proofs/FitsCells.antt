@@ -140,10 +140,6 @@ module _ (image : Image) (laid : IsLaidOut image) where
       ends_have (Some v) [] h = tt
       ends_have (Some v) (g ∷ gs) h = h
 
-      awaits_have : (b : Bool) (c : ℕ) → Have (machine.awaits following b (machine.lock_in (numbered image.shapes.items f.procedure) f) c at k s f fs mem)
-      awaits_have true c = (have, none)
-      awaits_have false c = (have, none)
-
       answer_has : (q : Question) → Have (machine.answer following image.shapes.items image.types.items q at k s f fs mem)
       answer_has (Reads kind a) = reads_have kind (load a.root a.cell (rooted (f ∷ fs) mem))
       answer_has (Stores a v) = writes_have (is_some (load a.root a.cell (rooted (f ∷ fs) mem))) a (v ∷ [])
@@ -156,7 +152,7 @@ module _ (image : Image) (laid : IsLaidOut image) where
       answer_has (Starts v) = starts_have v
       answer_has Enters = (have, none)
       answer_has Leaves = (have, none)
-      answer_has (Awaits c) = awaits_have f.is_open c
+      answer_has (Awaits c) = (have, none)
       answer_has (PutsInt v n) = prints_have (machine.written v n)
       answer_has (PutsChar v) = writes_out_have (option_map (λ c. c ∷ []) (machine.code_in following v))
       answer_has (PutsString a n) = writes_out_have (machine.text_at following a n (rooted (f ∷ fs) mem))
@@ -168,8 +164,12 @@ module _ (image : Image) (laid : IsLaidOut image) where
       answer_has (Sizes v d) = (have, none)
       answer_has (Tests v t) = (have, none)
 
+      works_have : (found : Bool) (q : Question) → Have (machine.works following image.shapes.items image.types.items found q at k s f fs mem)
+      works_have true q = answer_has q
+      works_have false q = (have, none)
+
     goes_has : (mem : Memory) (stop : Stop) → Have (machine.goes following image.shapes.items image.types.items stop f fs mem)
-    goes_has mem (Work q at k s) = answer_has at k s mem q
+    goes_has mem (Work q at k s) = works_have at k s mem (machine.finds image.types.items q f mem) q
     goes_has mem (Ended (Begins at p s) k) = (have, none)
     goes_has mem (Ended (Fails n c) k) = (have, none)
     goes_has mem (Ended (Decides a) k) = (have, none)

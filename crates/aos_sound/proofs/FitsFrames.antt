@@ -167,10 +167,8 @@ module _ (image : Image) (whole : IsSoundImage image) where
       leave_fits : slice_get (code_of image f.procedure) at ≡ Some instr.Leave → On at s → On (at + 1) s → Fit (machine.answer following image.shapes.items image.types.items Leaves at k s f fs mem)
       leave_fits is st behind_st = left_fits Leaves (Leave (machine.lock_in (numbered image.shapes.items f.procedure) f)) (at_leave image.shapes.items image.types.items (λ o. None) f.procedure (here_of f fs) f.cells (code_of image f.procedure) at k s is) st behind_st
 
-      -- and where no region is open it goes on at once
-      awaits_fit : (b : Bool) (c : ℕ) → slice_get (code_of image f.procedure) at ≡ Some (instr.Await c) → On at s → On (at + 1) s → Fit (machine.awaits following b (machine.lock_in (numbered image.shapes.items f.procedure) f) c at k s f fs mem)
-      awaits_fit true c is st behind_st = left_fits (Awaits c) (Await (machine.lock_in (numbered image.shapes.items f.procedure) f) c) (at_await image.shapes.items image.types.items (λ o. None) f.procedure (here_of f fs) f.cells (code_of image f.procedure) at k s c is) st behind_st
-      awaits_fit false c is st behind_st = ((on s behind_st, follow), λ e. absurd (cc e))
+      awaits_fit : (c : ℕ) → slice_get (code_of image f.procedure) at ≡ Some (instr.Await c) → On at s → On (at + 1) s → Fit (machine.answer following image.shapes.items image.types.items (Awaits c) at k s f fs mem)
+      awaits_fit c is st behind_st = left_fits (Awaits c) (Await (machine.lock_in (numbered image.shapes.items f.procedure) f) c) (at_await image.shapes.items image.types.items (λ o. None) f.procedure (here_of f fs) f.cells (code_of image f.procedure) at k s c is) st behind_st
 
       stores_text_fit : (o : Option (List ℕ)) (to : Addr) (x : Rooted (List Cell)) → On (at + 1) s → Fit (machine.stores_text following o to x at k s f fs mem)
       stores_text_fit None to x st = ((fit, follow), λ e. absurd (cc e))
@@ -211,7 +209,7 @@ module _ (image : Image) (whole : IsSoundImage image) where
       answer_fits (Starts v) st = starts_fit v st.0 st.1 st.2
       answer_fits Enters st = enter_fits st.0 st.1 st.2
       answer_fits Leaves st = leave_fits st.0 st.1 st.2
-      answer_fits (Awaits c) st = awaits_fit f.is_open c st.0 st.1 st.2
+      answer_fits (Awaits c) st = awaits_fit c st.0 st.1 st.2
       answer_fits (PutsInt v n) st = prints_fit (machine.written v n) st
       answer_fits (PutsChar v) st = writes_out_fit (option_map (λ c. c ∷ []) (machine.code_in following v)) st
       answer_fits (PutsString a n) st = writes_out_fit (machine.text_at following a n (rooted (f ∷ fs) mem)) st
@@ -223,8 +221,13 @@ module _ (image : Image) (whole : IsSoundImage image) where
       answer_fits (Sizes v d) st = ((fit, follow), λ e. absurd (cc e))
       answer_fits (Tests v t) st = ((fit, follow), λ e. absurd (cc e))
 
+      -- and where what it needs isn't found nothing is done
+      works_fit : (found : Bool) (q : Question) → StandsAsked image f.procedure (code_of image f.procedure) q at s → Fit (machine.works following image.shapes.items image.types.items found q at k s f fs mem)
+      works_fit true q st = answer_fits q st
+      works_fit false q st = ((fit, follow), λ e. absurd (cc e))
+
     pub goes_fits : (mem : Memory) (stop : Stop) → StandsStopped image f.procedure (code_of image f.procedure) stop → Fit (machine.goes following image.shapes.items image.types.items stop f fs mem)
-    goes_fits mem (Work q at k s) st = answer_fits at k s mem q st
+    goes_fits mem (Work q at k s) st = works_fit at k s mem (machine.finds image.types.items q f mem) q st
     goes_fits mem (Ended (Begins at p s) k) st = (((fit.0, st.2, fit.2), follow), λ e. absurd (cc e))
     goes_fits mem (Ended (Fails n c) k) st = ((fit, follow), λ e. absurd (cc e))
     goes_fits mem (Ended (Decides a) k) st = ((fit, follow), λ e. absurd (cc e))

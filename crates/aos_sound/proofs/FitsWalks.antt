@@ -1,6 +1,6 @@
 -- What silent work over a sound body comes to, from operands that stand on a path; and that they never are more than its depth.
-use Rattle.std.proofs.Common.{◌≡◌, ◌≤◌, ◌<◌, nat_le, ℕ, zero, suc, pos, ◌+◌, List, [], ◌∷◌, ◌++◌, length, map, take, drop, true, Option, Some, None, slice_get, Bool, if◌then◌else◌, false, refl, sym, ap, ◌∙◌, subst, arith, leb-true, length-append}
-use Rattle.std.proofs.lemmas.List.{append-nil, length-map, length-take-le}
+use Rattle.std.proofs.Common.{◌≡◌, ◌≤◌, ◌<◌, nat_eq, ℕ, zero, suc, pos, ◌+◌, List, [], ◌∷◌, ◌++◌, length, map, drop, true, Option, Some, None, slice_get, Bool, if◌then◌else◌, false, refl, sym, ap, ◌∙◌, subst, arith, eqb-true, length-append}
+use Rattle.std.proofs.lemmas.List.{append-nil, length-map}
 use Rattle.std.proofs.lemmas.Option.{slice_get_within}
 use Rattle.aos_base.specs.declared.place.Root.TheVariants.{Frame as FrameRoot, Object as ObjectRoot}
 use Rattle.aos_base.specs.declared.text.Pos.{Pos}
@@ -73,17 +73,16 @@ heard_so shapes types (AsType t) o None = tt
 heard_so shapes types (AsMethod k) o None = tt
 heard_so shapes types (AtSlot k p vs) o None = tt
 heard_so shapes types (AtCell c) o (Some m) = (refl, tt)
-heard_so shapes types (AtElements j) o (Some m) = by (nat_le j (length m.lengths)) refl
+heard_so shapes types (AtElements j) o (Some m) = by (nat_eq j (length m.lengths)) refl
   where
     there : (n : ℕ) (vs : List Cell) → n ≡ j → AreOf (row n ++ []) vs → AreOf (row j) vs
     there n vs f are = subst (λ ks. AreOf ks vs) (append-nil (row n) ∙ ap row f) are
 
-    by : (b : Bool) → nat_le j (length m.lengths) ≡ b → HeardSo shapes (AtElements j) (if b then Tells (length_cells (take j m.lengths) ++ Place (ObjectRoot o) 0 0 ∷ []) else Unheard)
-    by true within =
-        let ns = take j m.lengths in
+    by : (b : Bool) → nat_eq j (length m.lengths) ≡ b → HeardSo shapes (AtElements j) (if b then Tells (length_cells m.lengths ++ Place (ObjectRoot o) 0 0 ∷ []) else Unheard)
+    by true same =
         let v : Cell = Place (ObjectRoot o) 0 0 in
-        there (length ns) (length_cells ns ++ v ∷ []) (length-take-le j m.lengths (leb-true j (length m.lengths) within)) (row_is ns [] v [] refl tt)
-    by false within = tt
+        there (length m.lengths) (length_cells m.lengths ++ v ∷ []) (sym (eqb-true j (length m.lengths) same)) (row_is m.lengths [] v [] refl tt)
+    by false same = tt
 heard_so shapes types (IsType t) o (Some m) = (refl, tt)
 heard_so shapes types (AsType t) o (Some m) = by (extends types m.type t)
   where

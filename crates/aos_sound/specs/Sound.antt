@@ -221,11 +221,6 @@ abbrev pub is_method : Option ProcShape → Bool
 is_method None = false
 is_method (Some f) = f.method
 
--- a procedure of this shape is called on no object
-abbrev pub is_plain : Option ProcShape → Bool
-is_plain None = false
-is_plain (Some f) = not f.method
-
 -- one of these types has a method in this slot
 abbrev pub has_slot : List TypeDesc → (slot : ℕ) → Bool
 has_slot [] k = false
@@ -250,7 +245,7 @@ module _ (image : Image) (own : ℕ) where
   may_stand role code at (Module m c) = has_place (slice_get image.modules.items m) c
   may_stand role code at (Param c) = nat_lt c (frame_cells (numbered image.shapes.items own))
   may_stand role code at (Length c) = nat_lt c (frame_cells (numbered image.shapes.items own))
-  may_stand role code at (Proc p) = is_plain (numbered image.shapes.items p)
+  may_stand role code at (Proc p) = is_some (numbered image.shapes.items p)
   may_stand role code at (Bind k) = has_slot image.types.items k
   may_stand role code at SelfRef = is_method (numbered image.shapes.items own)
   may_stand role code at (Offset c t) = is_type_or_none image t
@@ -261,7 +256,7 @@ module _ (image : Image) (own : ℕ) where
   may_stand role code at (Jump to) = may_jump role code to at
   may_stand role code at (JumpFalse to) = may_jump role code to at
   may_stand role code at (Call p) = is_procedure role && is_some (numbered image.shapes.items p)
-  may_stand role code at (Virtual k p) = is_procedure role && (is_method (numbered image.shapes.items p) && has_slot image.types.items k)
+  may_stand role code at (Virtual k p) = is_procedure role && (is_some (numbered image.shapes.items p) && has_slot image.types.items k)
   may_stand role code at (CallValue p) = is_procedure role && is_some (numbered image.shapes.items p)
   may_stand role code at (NewObject t) = is_procedure role && is_some (numbered image.types.items t)
   may_stand role code at (NewArray t j) = is_procedure role && is_some (numbered image.types.items t)

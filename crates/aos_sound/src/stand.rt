@@ -83,13 +83,6 @@ fn is_method(shapes: &[ProcShape], p: u32) -> bool
     has_procedure(shapes, p) && shapes[p as usize - 1].method
 }
 
-/// Whether the procedure of this number is called on no object.
-fn is_plain(shapes: &[ProcShape], p: u32) -> bool
-    ensures { result ≡ sound.is_plain (numbered shapes.now p) }
-{
-    has_procedure(shapes, p) && !shapes[p as usize - 1].method
-}
-
 /// Whether a type has a method in this slot.
 fn has_slot(types: &[TypeDesc], slot: u32) -> bool
     ensures { result ≡ sound.has_slot types.now slot }
@@ -132,7 +125,7 @@ fn may_stand(image: &Image, own: u32, role: Role, code: &[Instr], at: usize, i: 
         Instr::Module(m, c) => has_place(&image.modules, m, c),
         Instr::Param(c) => has_cell(&image.shapes, own, c),
         Instr::Length(c) => has_cell(&image.shapes, own, c),
-        Instr::Proc(p) => is_plain(&image.shapes, p),
+        Instr::Proc(p) => has_procedure(&image.shapes, p),
         Instr::Bind(slot) => has_slot(&image.types, slot),
         Instr::SelfRef => is_method(&image.shapes, own),
         Instr::Offset(_, t) => is_type_or_none(image, t),
@@ -144,7 +137,7 @@ fn may_stand(image: &Image, own: u32, role: Role, code: &[Instr], at: usize, i: 
         Instr::JumpFalse(to) => jumps(role, code, to as usize, at),
         Instr::Call(p) => for_procedure(role) && has_procedure(&image.shapes, p),
         Instr::Virtual(slot, p) => for_procedure(role)
-            && (is_method(&image.shapes, p) && has_slot(&image.types, slot)),
+            && (has_procedure(&image.shapes, p) && has_slot(&image.types, slot)),
         Instr::CallValue(p) => for_procedure(role) && has_procedure(&image.shapes, p),
         Instr::NewObject(t) => for_procedure(role) && has_type(&image.types, t),
         Instr::NewArray(t, _) => for_procedure(role) && has_type(&image.types, t),

@@ -1,3 +1,4 @@
 pub mod Lists
 pub mod Views
 pub mod Roots
+pub mod Rooms

@@ -1,2 +1,3 @@
 pub mod Objects
 pub mod Store
+pub mod Room

@@ -4,6 +4,7 @@ ghost use Rattle.aos_code.specs.Silent.{Stack};
 ghost use Rattle.aos_code.specs.Numbered.{numbered};
 ghost use Rattle.aos_code.specs.Machine.{first_cell as first_cell_of, lock_in};
 ghost use Rattle.aos_store.specs.Store.{frame_in, list_in, frames_in, SameCounts, own_cells, kept_cells, fits, fits_in, changed, with_cells, with_kept, keeps_in, deep, new_frame, IsFrameRefusal};
+ghost use Rattle.aos_store.specs.Room.{AreRoomyFor, HasMoreRoom, KeepsRoom, MakesRoom};
 ghost use Rattle.aos_base.specs.Rooted.{from_last, change_from_last};
 ghost use Rattle.std.specs.Option.{option_and_then, option_map, option_copied};
 
@@ -131,6 +132,7 @@ impl Frame {
     pub fn change(&mut self, what: Change) -> bool
         ensures there { result ≡ fits what (length (own_cells self.old)) }
         ensures after { frame_in self.new ≡ (if result then with_cells (changed what) (frame_in self.old) else frame_in self.old) }
+        ensures room { HasMoreRoom self.old self.new }
     {
         let own = self.len();
         change_front(&mut self.cells, own, what)
@@ -143,6 +145,7 @@ impl Frames {
         ensures frames { frames_in result ≡ record { following = []; frames = [] } }
         ensures begun { result.begun ≡ 0 }
         ensures turns { result.turns ≡ 0 }
+        ensures room { (depths keeps : ℕ → ℕ) → AreRoomyFor depths keeps result.list.items }
     {
         Frames {
             list: Vec::new(alloc),
@@ -226,6 +229,7 @@ impl Frames {
         ensures after { list_in self.new.list.items ≡ (if result then change_from_last above (with_cells (changed what)) (list_in self.old.list.items) else list_in self.old.list.items) }
         ensures following { self.new.following ≡ self.old.following }
         ensures counts { SameCounts self.old self.new }
+        ensures room { KeepsRoom self.old self.new }
     {
         match self.list.get_mut(above) {
             None => false,
@@ -264,6 +268,7 @@ impl Frames {
         ensures same { OnErr result (list_in self.new.list.items ≡ list_in self.old.list.items) }
         ensures following { self.new.following ≡ self.old.following }
         ensures counts { SameCounts self.old self.new }
+        ensures room { MakesRoom procedure depth keeps self.old self.new }
     {
         if self.is_deep(counted) {
             return Err(FrameErr::Deep);

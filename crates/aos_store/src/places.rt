@@ -4,6 +4,7 @@ ghost use Rattle.std.specs.Option.{option_map};
 ghost use Rattle.aos_base.specs.Rooted.{at_root, load, spliced};
 ghost use Rattle.aos_code.specs.Machine.{memory_with};
 ghost use Rattle.aos_store.specs.Store.{frames_in, SameCounts, memory_in, rooted_in, fits_in, changed, with_frames, has_all, read_all};
+ghost use Rattle.aos_store.specs.Room.{KeepsRoom};
 
 use crate::cells::Change;
 use crate::frames::Frames;
@@ -27,6 +28,7 @@ pub fn change_at(frames: &mut Frames, store: &mut Store, root: Root, what: Chang
     ensures there { result ≡ fits_in what (at_root root (rooted_in frames.old store.old)) }
     ensures frames { frames_in frames.new ≡ (if result then with_frames root (changed what) frames.old else frames_in frames.old) }
     ensures counts { SameCounts frames.old frames.new }
+    ensures room { KeepsRoom frames.old frames.new }
     ensures memory { memory_in store.new ≡ (if result then memory_with root (changed what) (memory_in store.old) else memory_in store.old) }
 {
     match root {
@@ -47,6 +49,7 @@ pub fn store_at(
     ensures there { result ≡ is_some (load root cell (rooted_in frames.old store.old)) }
     ensures frames { frames_in frames.new ≡ (if result then with_frames root (spliced cell (value ∷ [])) frames.old else frames_in frames.old) }
     ensures counts { SameCounts frames.old frames.new }
+    ensures room { KeepsRoom frames.old frames.new }
     ensures memory { memory_in store.new ≡ (if result then memory_with root (spliced cell (value ∷ [])) (memory_in store.old) else memory_in store.old) }
 {
     change_at(frames, store, root, Change::Sets(cell, value))
@@ -88,6 +91,7 @@ fn copy_one(
         memory_in store.new ≡ memory_with to (spliced to_cell (v ∷ [])) (memory_in store.old) }
     ensures following { (frames_in frames.new).following ≡ (frames_in frames.old).following }
     ensures counts { SameCounts frames.old frames.new }
+    ensures room { KeepsRoom frames.old frames.new }
 {
     if let Some(value) = load_at(frames, store, from, from_cell) {
         store_at(frames, store, to, to_cell, value);
@@ -109,6 +113,7 @@ fn copy_across(
     requires target { has_all count to_cell (at_root to (rooted_in frames.old store.old)) ≡ true }
     ensures frames { frames_in frames.new ≡ with_frames to (spliced to_cell (read_all count from_cell (at_root from (rooted_in frames.old store.old)))) frames.old }
     ensures counts { SameCounts frames.old frames.new }
+    ensures room { KeepsRoom frames.old frames.new }
     ensures memory { memory_in store.new ≡ memory_with to (spliced to_cell (read_all count from_cell (at_root from (rooted_in frames.old store.old)))) (memory_in store.old) }
 {
     for i in 0..count {
@@ -137,6 +142,7 @@ pub fn copy_at(
     ensures there { result ≡ (has_all count from_cell (at_root from (rooted_in frames.old store.old)) && has_all count to_cell (at_root to (rooted_in frames.old store.old))) }
     ensures frames { frames_in frames.new ≡ (if result then with_frames to (spliced to_cell (read_all count from_cell (at_root from (rooted_in frames.old store.old)))) frames.old else frames_in frames.old) }
     ensures counts { SameCounts frames.old frames.new }
+    ensures room { KeepsRoom frames.old frames.new }
     ensures memory { memory_in store.new ≡ (if result then memory_with to (spliced to_cell (read_all count from_cell (at_root from (rooted_in frames.old store.old)))) (memory_in store.old) else memory_in store.old) }
 {
     if from == to {

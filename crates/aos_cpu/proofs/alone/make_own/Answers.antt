@@ -28,4 +28,8 @@ returns-in_default c =
       counts = tt;
       none = still_none c.args.image.now c.in_ok-finish.field-0 c.args.frames.now c.finish.new.frames (memory_in c.args.store.now) (memory_in c.finish.new.store) c.args.output.now.items c.finish.new.output.items
           c.requires.own c.requires.memory c.in_ok-finish.ensures.ok;
+      fit = c.finish.ensures.fit;
     }
+
+pub returns-in-Went-clause-fit : goal.returns-in-Went-clause-fit
+returns-in-Went-clause-fit c whole fit = c.finish.ensures.fit whole fit

@@ -31,3 +31,6 @@ returns-then-is_own_stop-clause-ok c =
     let mid = c.come_to_stop.new.frames in
     let alike = subst (λ (m : Memory). Alike image (made_in image m) (frames_in old) (frames_in mid)) c.requires.memory c.come_to_stop.ensures.alike in
     ok_more c.make_own.result (λ is. HasTried image is mid c.make_own.new.frames) _ (λ is tried. tried_behind image is old mid c.make_own.new.frames alike c.come_to_stop.ensures.counts tried) c.make_own.ensures.ok
+
+pub returns-then-is_own_stop-clause-fit : goal.returns-then-is_own_stop-clause-fit
+returns-then-is_own_stop-clause-fit c whole fit = c.make_own.ensures.fit whole (c.come_to_stop.ensures.fit whole fit)

@@ -5,10 +5,12 @@ use Rattle.aos_base.specs.Question.{Reads, Stores, Copies, Ends, Starts, PutsInt
 use Rattle.aos_code.specs.declared.instr.Cell.TheVariants.{Num, Ref}
 use Rattle.aos_store.specs.Store.{memory_in}
 use Rattle.aos_silent.specs.Acts.{addr_in, question_in, operands_of, results}
+use Rattle.aos_sound.specs.FitFrames.{depth_of}
+use Rattle.aos_silent.specs.Room.{keeps_for}
 use Rattle.aos_cpu.specs.Turns.{HasAnswered, Stands}
 use Rattle.aos_cpu.specs.Answers.{IsAnswered}
-use Rattle.aos_base.specs.declared.kernel.Did.TheVariants.{Enter, Leave}
-use Rattle.aos_silent.specs.declared.act.Question.TheVariants.{Enters as AsksEnter, Leaves as AsksLeave}
+use Rattle.aos_base.specs.declared.kernel.Did.TheVariants.{Enter, Leave, Await}
+use Rattle.aos_silent.specs.declared.act.Question.TheVariants.{Enters as AsksEnter, Leaves as AsksLeave, Awaits as AsksAwait}
 use Rattle.aos_cpu.proofs.Answering.{has_answered, has_ok, left_in}
 use Rattle.aos_cpu.proofs.answers.answer.Goals as goal
 
@@ -57,14 +59,11 @@ returns-in-Leaves-clause-ok c =
     left_in c.args.image.now c.args.question AsksLeave Leave c.top_lock-in-Leaves.result c.args.at c.args.frames.now (memory_in c.args.store.now) c.args.output.now.items c.in-Leaves.is c.requires.stands
     (λ following f fs. refl) c.top_lock-in-Leaves.ensures
 
-pub wait-requires-clause-stands : goal.wait-requires-clause-stands
-wait-requires-clause-stands c = subst (λ q. Stands q c.args.at c.args.frames.now) c.in-Awaits.is c.requires.stands
-
 pub returns-in-Awaits-clause-ok : goal.returns-in-Awaits-clause-ok
 returns-in-Awaits-clause-ok c =
-    let out = c.args.output.now.items in
-    let mem = memory_in c.args.store.now in
-    subst (λ q. HasAnswered c.args.image.now q c.args.at c.args.frames.now c.wait.new.frames mem mem c.wait.result out out) (sym c.in-Awaits.is) (c.wait.ensures.answered mem out)
+    let n = c.in-Awaits.condition in
+    left_in c.args.image.now c.args.question (AsksAwait n) (λ l. Await l n) c.top_lock-in-Awaits.result c.args.at c.args.frames.now (memory_in c.args.store.now) c.args.output.now.items c.in-Awaits.is c.requires.stands
+    (λ following f fs. refl) c.top_lock-in-Awaits.ensures
 
 pub returns-in-PutsInt-clause-ok : goal.returns-in-PutsInt-clause-ok
 returns-in-PutsInt-clause-ok c =
@@ -127,3 +126,41 @@ pub returns-in-Calls-clause-ok : goal.returns-in-Calls-clause-ok
 returns-in-Calls-clause-ok c =
     let out = c.args.output.now.items in
     subst (λ q. IfOk c.call.result (λ did. HasAnswered c.args.image.now q c.args.at c.args.frames.now c.call.new.frames (memory_in c.args.store.now) (memory_in c.args.store.now) did out out)) (sym c.in-Calls.is) (c.call.ensures.ok out)
+
+-- room is kept, whatever room procedures need
+
+pub returns-in-Reads-clause-room : goal.returns-in-Reads-clause-room
+returns-in-Reads-clause-room c = c.read.ensures.room (depth_of c.args.image.now) (keeps_for c.args.image.now)
+
+pub returns-in-Stores-clause-room : goal.returns-in-Stores-clause-room
+returns-in-Stores-clause-room c = c.write.ensures.room (depth_of c.args.image.now) (keeps_for c.args.image.now)
+
+pub returns-in-Copies-clause-room : goal.returns-in-Copies-clause-room
+returns-in-Copies-clause-room c = c.copy.ensures.room (depth_of c.args.image.now) (keeps_for c.args.image.now)
+
+pub returns-in-PutsText-clause-room : goal.returns-in-PutsText-clause-room
+returns-in-PutsText-clause-room c = c.put_text.ensures.room (depth_of c.args.image.now) (keeps_for c.args.image.now)
+
+pub returns-in-ComparesTexts-clause-room : goal.returns-in-ComparesTexts-clause-room
+returns-in-ComparesTexts-clause-room c = c.compare_texts.ensures.room (depth_of c.args.image.now) (keeps_for c.args.image.now)
+
+pub returns-in-Ends-clause-room : goal.returns-in-Ends-clause-room
+returns-in-Ends-clause-room c = c.end_frame.ensures.room (depth_of c.args.image.now) (keeps_for c.args.image.now)
+
+pub returns-in-Makes-clause-room : goal.returns-in-Makes-clause-room
+returns-in-Makes-clause-room c = c.make.ensures.room (depth_of c.args.image.now) (keeps_for c.args.image.now)
+
+pub returns-in-PutsInt-clause-room : goal.returns-in-PutsInt-clause-room
+returns-in-PutsInt-clause-room c = c.put_int.ensures.room (depth_of c.args.image.now) (keeps_for c.args.image.now)
+
+pub returns-in-PutsChar-clause-room : goal.returns-in-PutsChar-clause-room
+returns-in-PutsChar-clause-room c = c.put_char.ensures.room (depth_of c.args.image.now) (keeps_for c.args.image.now)
+
+pub returns-in-PutsString-clause-room : goal.returns-in-PutsString-clause-room
+returns-in-PutsString-clause-room c = c.put_string.ensures.room (depth_of c.args.image.now) (keeps_for c.args.image.now)
+
+pub returns-in-PutsNothing-clause-room : goal.returns-in-PutsNothing-clause-room
+returns-in-PutsNothing-clause-room c = c.put_nothing.ensures.room (depth_of c.args.image.now) (keeps_for c.args.image.now)
+
+pub returns-in-PutsLn-clause-room : goal.returns-in-PutsLn-clause-room
+returns-in-PutsLn-clause-room c = c.put_ln.ensures.room (depth_of c.args.image.now) (keeps_for c.args.image.now)

@@ -1,8 +1,9 @@
-use Rattle.std.proofs.Common.{◌≡◌, ◌∷◌, [], drop, length, reverse, arith}
+use Rattle.std.proofs.Common.{◌≡◌, ◌-◌, ◌∷◌, [], drop, length, reverse, arith}
 use Rattle.std.specs.Prelude.{Result, Ok, Err, OnErr}
 use Rattle.aos_code.specs.Machine.{Frames, behind}
 use Rattle.aos_store.specs.Store.{frame_in}
 use Rattle.aos_silent.proofs.Oks.{ok_more}
+use Rattle.aos_store.proofs.Rooms.{roomy_set}
 use Rattle.aos_cpu.proofs.Turns.{last_read, behind_put, same_put}
 use Rattle.aos_cpu.proofs.answers.put_behind.Goals as goal
 
@@ -32,3 +33,11 @@ returns-in-Some-clause-err c =
     (λ same. let p = same_put frames.list.items frames.list.len top c.put_on.new.frame all here same in
     λ j. (let x : Frames = record { following = reverse frames.following.items; frames = p j } in x))
     c.put_on.ensures.err
+
+pub returns-in-Some-clause-room : goal.returns-in-Some-clause-room
+returns-in-Some-clause-room c depths keeps roomy =
+    let frames = c.args.frames.now.list in
+    let f = c.in-Some.frame.now in
+    let all : frames.len ≡ length frames.items = omega arith in
+    let here = last_read frames.items frames.len f all c.in-Some.ensures.item.3.0 c.in-Some.ensures.item.1 in
+    roomy_set depths keeps frames.items (frames.len - 1) f c.put_on.new.frame here c.put_on.ensures.room roomy

@@ -5,6 +5,7 @@ use Rattle.aos_store.specs.Store.{list_in, frame_in, memory_in, rooted_in}
 use Rattle.aos_silent.specs.Acts.{behind_value}
 use Rattle.aos_cpu.specs.Calls.{Gift, gifts, all_copied, called, called_cells}
 use Rattle.aos_cpu.proofs.Calling.{none_of, some_of, deep_same, counted_all, call_lost, call_deep, call_made}
+use Rattle.aos_store.proofs.Rooms.{shallow}
 use Rattle.aos_cpu.proofs.calls.call_shape.Goals as goal
 
 pub returns-in-None-clause-ok : goal.returns-in-None-clause-ok
@@ -51,5 +52,13 @@ returns-in_ok-enter-in-Some-clause-ok c out =
     let fs = list_in old.list.items in
     let same = deep_same shape.counted n c.in-Some.copied c.count_with-counted.result s.2 c.count_with-counted.ensures fs in
     let count = counted_all shape.counted n c.in-Some.copied c.count_with-counted.result s.2 c.count_with-counted.ensures fs (sym c.if-is_deep.ensures) in
-    let frame = c.in_ok-frame-in-Some.ensures s.0 s.1 ∙ (λ i. called c.args.procedure (c.object_of-object.ensures i) (count i) (called_cells (length fs) shape.kinds.items s.0)) in
+    let frame = c.in_ok-frame-in-Some.ensures.frame s.0 s.1 ∙ (λ i. called c.args.procedure (c.object_of-object.ensures i) (count i) (called_cells (length fs) shape.kinds.items s.0)) in
     call_made shape c.args.procedure c.args.way (sym c.may_pass.ensures ∙ c.if-not-may_pass.false) c.args.count c.args.at old mem out all (λ f fs is. c.behind_value-all.ensures ∙ ap (behind_value c.args.way) (c.arguments.ensures f fs is)) s.0 c.enter.new.frames (frame_in c.in_ok-frame-in-Some.frame) (taken (Some s.0) s.1) (sym same ∙ sym c.if-is_deep.ensures) frame c.in_ok-enter-in-Some.ensures.ok
+
+pub returns-in_err-enter-in-Some-clause-room : goal.returns-in_err-enter-in-Some-clause-room
+returns-in_err-enter-in-Some-clause-room c depths keeps le many roomy =
+    c.enter.ensures.room depths keeps (c.in_ok-frame-in-Some.ensures.room depths keeps le many) (shallow c.count_with-counted.result c.args.frames.now.list.items (sym c.if-is_deep.ensures)) roomy
+
+pub returns-in_ok-enter-in-Some-clause-room : goal.returns-in_ok-enter-in-Some-clause-room
+returns-in_ok-enter-in-Some-clause-room c depths keeps le many roomy =
+    c.enter.ensures.room depths keeps (c.in_ok-frame-in-Some.ensures.room depths keeps le many) (shallow c.count_with-counted.result c.args.frames.now.list.items (sym c.if-is_deep.ensures)) roomy

@@ -2,7 +2,7 @@ use Rattle.std.proofs.Common.{◌≡◌, ◌<◌, ◌≤◌, length, reverse, sy
 use Rattle.std.specs.Prelude.{vec_capacity}
 use Rattle.aos_store.specs.Store.{memory_in}
 use Rattle.aos_silent.specs.Conditions.{need}
-use Rattle.aos_cpu.proofs.Verdicts.{has_top, no_verdict, whole_top, begins_in_room, whole_verdict, as_before, room_back}
+use Rattle.aos_cpu.proofs.Verdicts.{has_top, no_verdict, whole_top, begins_in_room, whole_verdict, as_before, room_back, room_kept}
 use Rattle.aos_cpu.proofs.condition.verdict.Goals as goal
 
 pub returns-then-count-eq0-clause-verdict : goal.returns-then-count-eq0-clause-verdict
@@ -52,3 +52,11 @@ returns-clause-room c =
     let le = room_back t.0 c.args.stack.now c.exchange-at.new.operands c.exchange.new.operands c.exchange-at.result c.exchange.result old c.exchange-at.new.frames.list.items c.evaluate-verdict.new.frames.list.items c.exchange.new.frames.list.items t.1
     (c.exchange-at.ensures.exchanged t.0 t.1) c.evaluate-verdict.ensures.moved c.exchange.ensures.exchanged in
     omega (arith, le, c.clear.ensures.capacity)
+
+pub returns-clause-keeps : goal.returns-clause-keeps
+returns-clause-keeps c =
+    let old = c.args.frames.now.list.items in
+    let some : 0 < length old = omega arith in
+    let t = has_top old some in
+    room_kept t.0 c.args.stack.now c.exchange-at.new.operands c.exchange.new.operands c.exchange-at.result c.exchange.result old c.exchange-at.new.frames.list.items c.evaluate-verdict.new.frames.list.items c.exchange.new.frames.list.items t.1
+    (c.exchange-at.ensures.exchanged t.0 t.1) c.evaluate-verdict.ensures.moved c.exchange.ensures.exchanged

@@ -1,4 +1,4 @@
-use Rattle.std.proofs.Common.{◌≡◌, get_or, reverse, refl, sym, ap, ◌∙◌}
+use Rattle.std.proofs.Common.{◌≡◌, get_or, reverse, refl, sym, ap, ◌∙◌, arith}
 use Rattle.std.specs.Prelude.{pos}
 use Rattle.aos_silent.specs.Silent.{here_at}
 use Rattle.aos_code.specs.declared.instr.Instr.{Instr}
@@ -22,3 +22,8 @@ returns-in-JumpFalse-clause-done c =
     (stepped_of image.shapes.items image.types.items (made_in image mem) c.jump_on_false-did.result (does (get_or code frame.next (Num (pos 0)))) f (reverse c.jump_on_false-did.new.stack.items)
     (c.jump_on_false-did.ensures.act ∙ ap does (sym c.in-JumpFalse.is)))
     (stays_more c.jump_on_false-did.result (c.jump_on_false-did.new.stack ≡ frame.operands) _ (λ e. ap (λ s. frame_in (record frame { operands = s })) e) c.jump_on_false-did.ensures.kept)
+
+pub returns-in-JumpFalse-clause-room : goal.returns-in-JumpFalse-clause-room
+returns-in-JumpFalse-clause-room c =
+    let more = c.go_after-in-JumpFalse.ensures.room in
+    record { procedure = more.procedure; operands = omega (arith, more.operands, c.jump_on_false-did.ensures.room); kept = more.kept }

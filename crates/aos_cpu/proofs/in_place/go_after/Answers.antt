@@ -1,9 +1,8 @@
-use Rattle.std.proofs.Common.{◌≡◌, refl, ap, subst, arith}
+use Rattle.std.proofs.Common.{◌≡◌, refl, subst, arith}
 use Rattle.aos_store.specs.Store.{frame_in}
 use Rattle.aos_silent.specs.declared.act.Act.{Act}
 use Rattle.aos_silent.specs.Acts.{WhereStays}
-use Rattle.aos_silent.specs.Silent.{seen_at}
-use Rattle.aos_cpu.proofs.InPlace.{silent_top, begun_top}
+use Rattle.aos_cpu.proofs.InPlace.{silent_top, begun_top, worked_same}
 use Rattle.aos_cpu.proofs.in_place.go_after.Goals as goal
 
 pub returns-in-Goes-clause-done : goal.returns-in-Goes-clause-done
@@ -16,10 +15,10 @@ returns-in-Begins-clause-done c image here mem f code_is at_is step same =
     begun_top image here mem f (frame_in c.args.frame.now) c.args.code.now c.args.at c.args.did code_is at_is c.requires.within step c.in-Begins.to c.in-Begins.pos c.in-Begins.is
 
 pub returns-in-Sees-clause-done : goal.returns-in-Sees-clause-done
-returns-in-Sees-clause-done c image here mem f code_is at_is step same = record { seen = λ all knows. ap (seen_at image all here) (subst (λ (d : Act). WhereStays d (frame_in c.args.frame.now ≡ f)) c.in-Sees.is same); memory = refl }
+returns-in-Sees-clause-done c image here mem f code_is at_is step same = worked_same image here mem mem f (frame_in c.args.frame.now) (subst (λ (d : Act). WhereStays d (frame_in c.args.frame.now ≡ f)) c.in-Sees.is same) refl
 
 pub returns-in-Fails-clause-done : goal.returns-in-Fails-clause-done
-returns-in-Fails-clause-done c image here mem f code_is at_is step same = record { seen = λ all knows. ap (seen_at image all here) (subst (λ (d : Act). WhereStays d (frame_in c.args.frame.now ≡ f)) c.in-Fails.is same); memory = refl }
+returns-in-Fails-clause-done c image here mem f code_is at_is step same = worked_same image here mem mem f (frame_in c.args.frame.now) (subst (λ (d : Act). WhereStays d (frame_in c.args.frame.now ≡ f)) c.in-Fails.is same) refl
 
 pub returns-in-Decides-clause-done : goal.returns-in-Decides-clause-done
-returns-in-Decides-clause-done c image here mem f code_is at_is step same = record { seen = λ all knows. ap (seen_at image all here) (subst (λ (d : Act). WhereStays d (frame_in c.args.frame.now ≡ f)) c.in-Decides.is same); memory = refl }
+returns-in-Decides-clause-done c image here mem f code_is at_is step same = worked_same image here mem mem f (frame_in c.args.frame.now) (subst (λ (d : Act). WhereStays d (frame_in c.args.frame.now ≡ f)) c.in-Decides.is same) refl

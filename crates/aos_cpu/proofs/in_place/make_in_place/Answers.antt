@@ -1,6 +1,6 @@
 use Rattle.std.proofs.Common.{◌≡◌, ◌-◌, length, refl, arith}
 use Rattle.aos_cpu.proofs.Turns.{last_read}
-use Rattle.aos_cpu.proofs.InPlace.{kept_run}
+use Rattle.aos_cpu.proofs.InPlace.{kept_run, kept_fit}
 use Rattle.aos_cpu.proofs.in_place.make_in_place.Goals as goal
 
 pub returns-clause-made : goal.returns-clause-made
@@ -11,3 +11,12 @@ returns-clause-made c =
     let there = last_read list.items list.len c.in-Some.frame.now all c.in-Some.ensures.item.3.0 c.in-Some.ensures.item.1 in
     kept_run c.args.frames.now list.len c.in-Ok.here c.in-Some.frame.now c.run_top-made.new.frame all above there _ c.args.image.now c.args.budget c.run_top-made.result.0 c.run_top-made.result.1 refl
     c.run_top-made.ensures.made refl refl
+
+pub returns-clause-fit : goal.returns-clause-fit
+returns-clause-fit c =
+    let list = c.args.frames.now.list in
+    let f = c.in-Some.frame.now in
+    let all : list.len ≡ length list.items = omega arith in
+    let above : c.in-Ok.here ≡ list.len - 1 = omega arith in
+    let there = last_read list.items list.len f all c.in-Some.ensures.item.3.0 c.in-Some.ensures.item.1 in
+    kept_fit c.args.frames.now list.len c.in-Ok.here f c.run_top-made.new.frame all above there c.args.image.now c.run_top-made.ensures.made.2 c.run_top-made.ensures.room

@@ -1,21 +1,31 @@
-use Rattle.std.proofs.Common.{◌≡◌, sym, ◌∙◌, subst, arith}
+use Rattle.std.proofs.Common.{◌≡◌, refl, sym, ◌∙◌, subst, arith}
 use Rattle.aos_store.specs.Store.{frame_in, memory_in}
 use Rattle.aos_code.specs.Memory.{Memory}
 use Rattle.aos_code.specs.Machine.{made_in}
 use Rattle.aos_silent.specs.Known.{Knows}
 use Rattle.aos_cpu.specs.InPlace.{HasRunTop}
+use Rattle.aos_store.proofs.Rooms.{more_room}
 use Rattle.aos_cpu.proofs.Own.{nothing_made}
-use Rattle.aos_cpu.proofs.InPlace.{run_still, run_more, still_none}
+use Rattle.aos_cpu.proofs.InPlace.{run_none, run_still, run_more, still_none}
 use Rattle.aos_cpu.proofs.in_place.run_top.Goals as goal
 
 pub returns-in_default-clause-made : goal.returns-in_default-clause-made
 returns-in_default-clause-made c =
     run_still c.args.image.now c.args.here c.args.budget c.loop-made.made c.args.begun c.loop-made.now (frame_in c.args.frame.now) (frame_in c.loop-made.frame) (frame_in c.turn_top.new.frame)
     c.loop-made.invariant.run
-    (λ all. c.in_default.ensures.seen all (subst (λ (m : Memory). Knows all (made_in c.args.image.now m)) (sym c.loop-made.invariant.none) (nothing_made all)))
+    (λ all. c.in_default.ensures.tried.seen all (subst (λ (m : Memory). Knows all (made_in c.args.image.now m)) (sym c.loop-made.invariant.none) (nothing_made all)))
+    c.in_default.ensures.tried.fits
 
 pub returns-in_default-clause-none : goal.returns-in_default-clause-none
-returns-in_default-clause-none c = c.in_default.ensures.memory ∙ c.loop-made.invariant.none
+returns-in_default-clause-none c = c.in_default.ensures.tried.memory ∙ c.loop-made.invariant.none
+
+pub loop-made-init : goal.loop-made-init
+loop-made-init c =
+    record {
+      run = run_none c.args.image.now c.args.here c.args.budget c.args.begun (frame_in c.args.frame.now);
+      none = c.requires.memory;
+      room = record { procedure = refl; operands = omega arith; kept = omega arith };
+    }
 
 pub loop-made-preserved : goal.loop-made-preserved
 loop-made-preserved c =
@@ -24,11 +34,15 @@ loop-made-preserved c =
     let none = c.loop-made.invariant.none in
     record {
       run = run_more c.args.image.now c.args.here c.args.budget c.loop-made.made c.args.begun c.loop-made.now c.count-now.result c.in-Some.begins was now (frame_in c.args.frame.now) (frame_in c.loop-made.frame)
-          (frame_in c.turn_top.new.frame) none c.loop-made.invariant.run c.if-budget-now.false c.in-Some.ensures c.count-now.ensures;
-      none = still_none c.args.image.now c.args.here c.in-Some.begins was now (frame_in c.loop-made.frame) (frame_in c.turn_top.new.frame) c.in-Some.ensures none;
+          (frame_in c.turn_top.new.frame) none c.loop-made.invariant.run c.if-budget-now.false c.in-Some.ensures.tried c.count-now.ensures;
+      none = still_none c.args.image.now c.args.here c.in-Some.begins was now (frame_in c.loop-made.frame) (frame_in c.turn_top.new.frame) c.in-Some.ensures.tried none;
+      room = more_room c.args.frame.now c.loop-made.frame c.turn_top.new.frame c.loop-made.invariant.room c.turn_top.ensures.room;
     }
 
 pub returns-clause-made : goal.returns-clause-made
 returns-clause-made c =
     let all : c.loop-made.made ≡ c.args.most = omega arith in
     subst (λ n. HasRunTop c.args.image.now c.args.here c.args.budget n c.args.begun c.loop-made.now (frame_in c.args.frame.now) (frame_in c.loop-made.frame)) all c.loop-made.invariant.run
+
+pub returns-in_default-clause-room : goal.returns-in_default-clause-room
+returns-in_default-clause-room c = more_room c.args.frame.now c.loop-made.frame c.turn_top.new.frame c.loop-made.invariant.room c.turn_top.ensures.room

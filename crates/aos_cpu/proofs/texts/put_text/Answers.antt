@@ -33,3 +33,6 @@ returns-clause-ok c out =
     (stored.frames ∙ ap (λ ys. with_frames c.args.to.root (spliced c.args.to.cell (character_cells [] ys)) c.args.frames.now) c.deref.ensures.value)
     (stored.memory ∙ ap (λ ys. memory_with c.args.to.root (spliced c.args.to.cell (character_cells [] ys)) (memory_in c.args.store.now)) c.deref.ensures.value)
     c.go_behind.ensures.behind
+
+pub returns-clause-room : goal.returns-clause-room
+returns-clause-room c depths keeps roomy = c.go_behind.ensures.room depths keeps (c.if-not-store_text.ensures.room depths keeps roomy)

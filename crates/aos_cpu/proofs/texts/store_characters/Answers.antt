@@ -21,6 +21,7 @@ loop-i-init c =
     record {
       frames = ap (λ (x : List Frame). let now : Frames = record { following = reverse fs.following.items; frames = x } in now) (sym (none_frames c.args.root c.args.cell (list_in fs.list.items)));
       counts = (refl, refl);
+      room = λ depths keeps roomy. roomy;
       memory = sym (none_memory c.args.root c.args.cell (memory_in c.args.store.now));
     }
 
@@ -47,6 +48,7 @@ loop-i-preserved c =
     record {
       frames = λ j. (let now : Frames = record { following = follow j; frames = more.0 j } in now);
       counts = (c.store_at.ensures.counts.0 ∙ old.counts.0, c.store_at.ensures.counts.1 ∙ old.counts.1);
+      room = λ depths keeps roomy. c.store_at.ensures.room depths keeps (old.room depths keeps roomy);
       memory = more.1;
     }
   where

@@ -32,3 +32,6 @@ returns-in-Some-clause-ok c =
     let after = c.finish.new.output.items in
     ok_more c.finish.result (λ did. IsTurned image did mid new mem now before after) (λ did. IsTurned image did old new mem now before after)
     (λ did turned. turned_behind image did old mid new mem mem now before after (c.come_to_stop.ensures.alike, refl) c.come_to_stop.ensures.counts.0 turned) c.finish.ensures.ok
+
+pub returns-in-Some-clause-fit : goal.returns-in-Some-clause-fit
+returns-in-Some-clause-fit c whole fit = c.finish.ensures.fit whole (c.come_to_stop.ensures.fit whole fit)

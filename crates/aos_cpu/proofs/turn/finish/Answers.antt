@@ -3,42 +3,22 @@ use Rattle.aos_store.specs.Store.{list_in, memory_in}
 use Rattle.aos_base.specs.declared.kernel.Did.TheVariants.{Went, Trapped}
 use Rattle.aos_silent.specs.declared.silent.Stop.{Stop}
 use Rattle.aos_silent.specs.declared.silent.Stop.TheVariants.{Fails as AtFault, Decides as AtVerdict}
+use Rattle.aos_sound.specs.FitFrames.{depth_of}
 use Rattle.aos_silent.specs.Known.{known}
-use Rattle.aos_cpu.specs.Turns.{StandsAtStop, HasAnswered, WhereLeft, Same, IsTurned}
-use Rattle.aos_silent.proofs.Oks.{ok_more, ok_both}
-use Rattle.aos_cpu.proofs.Turns.{begun_shown, failed_shown, shown_alike, worked, stands_at, stands_before}
+use Rattle.aos_silent.specs.Room.{keeps_for}
+use Rattle.aos_cpu.specs.Turns.{StandsAtStop}
+use Rattle.aos_cpu.proofs.Turns.{begun_shown, failed_shown, shown_alike}
+use Rattle.aos_cpu.proofs.Fitting.{begun_stay}
 use Rattle.aos_cpu.proofs.turn.finish.Goals as goal
 
-pub answer-requires-clause-stands : goal.answer-requires-clause-stands
-answer-requires-clause-stands c =
-    stands_at c.args.image.now (known c.args.store.now.objects) c.in-Work.question c.in-Work.at c.args.frames.now
-    (subst (λ (s : Stop). StandsAtStop c.args.image.now (known c.args.store.now.objects) s (list_in c.args.frames.now.list.items)) c.in-Work.is c.requires)
+pub work-requires-clause-stands : goal.work-requires-clause-stands
+work-requires-clause-stands c = subst (λ (s : Stop). StandsAtStop c.args.image.now (known c.args.store.now.objects) s (list_in c.args.frames.now.list.items)) c.in-Work.is c.requires
 
 pub returns-in-Work-clause-ok : goal.returns-in-Work-clause-ok
-returns-in-Work-clause-ok c =
-    let old = c.args.frames.now in
-    let stands = subst (λ (s : Stop). StandsAtStop c.args.image.now (known c.args.store.now.objects) s (list_in old.list.items)) c.in-Work.is c.requires in
-    let before = memory_in c.args.store.now in
-    let after = memory_in c.answer.new.store in
-    ok_more c.answer.result
-    (λ did. HasAnswered c.args.image.now c.in-Work.question c.in-Work.at old c.answer.new.frames before after did c.args.output.now.items c.answer.new.output.items)
-    (λ did. IsTurned c.args.image.now did old c.answer.new.frames before after c.args.output.now.items c.answer.new.output.items)
-    (λ did answered fs h. shown_alike c.args.image.now old c.answer.new.frames before after fs did c.args.output.now.items c.answer.new.output.items h
-    (worked c.args.image.now c.in-Work.question c.in-Work.at old c.answer.new.frames before after did c.args.output.now.items c.answer.new.output.items stands answered c.answer.ensures.counts.0))
-    c.answer.ensures.ok
+returns-in-Work-clause-ok c = c.work.ensures.ok
 
 pub returns-in-Work-clause-before : goal.returns-in-Work-clause-before
-returns-in-Work-clause-before c =
-    let old = c.args.frames.now in
-    let stands = subst (λ (s : Stop). StandsAtStop c.args.image.now (known c.args.store.now.objects) s (list_in old.list.items)) c.in-Work.is c.requires in
-    let before = memory_in c.args.store.now in
-    let after = memory_in c.answer.new.store in
-    ok_both c.answer.result
-    (λ did. HasAnswered c.args.image.now c.in-Work.question c.in-Work.at old c.answer.new.frames before after did c.args.output.now.items c.answer.new.output.items)
-    (λ did. WhereLeft did (Same old c.answer.new.frames before after c.args.output.now.items c.answer.new.output.items))
-    _
-    (λ did answered left. stands_before c.args.image.now c.in-Work.question c.in-Work.at old c.answer.new.frames before after did c.args.output.now.items c.answer.new.output.items stands answered left)
-    c.answer.ensures.ok c.answer.ensures.left
+returns-in-Work-clause-before c = c.work.ensures.before
 
 pub returns-in-Begins-clause-ok : goal.returns-in-Begins-clause-ok
 returns-in-Begins-clause-ok c fs h =
@@ -57,7 +37,7 @@ returns-in-Fails-clause-ok c fs h =
     let mem = memory_in c.args.store.now in
     let out = c.args.output.now.items in
     let stands = subst (λ (s : Stop). StandsAtStop image (known c.args.store.now.objects) s (list_in old.list.items)) c.in-Fails.is c.requires in
-    shown_alike image old old mem mem fs (Trapped c.in-Fails.number c.in-Fails.code) out out h (failed_shown image (AtFault c.in-Fails.number c.in-Fails.code) c.in-Fails.number c.in-Fails.code old mem out (λ following f gs. refl) stands)
+    shown_alike image old old mem mem fs (Trapped c.in-Fails.number c.in-Fails.code) out out h (failed_shown image (AtFault c.in-Fails.number c.in-Fails.code) c.in-Fails.number c.in-Fails.code old mem out (λ following f gs is. refl) stands)
 
 -- a condition's end is the end of none here
 pub returns-in-Decides-clause-ok : goal.returns-in-Decides-clause-ok
@@ -67,4 +47,13 @@ returns-in-Decides-clause-ok c fs h =
     let mem = memory_in c.args.store.now in
     let out = c.args.output.now.items in
     let stands = subst (λ (s : Stop). StandsAtStop image (known c.args.store.now.objects) s (list_in old.list.items)) c.in-Decides.is c.requires in
-    shown_alike image old old mem mem fs (Trapped 16 0) out out h (failed_shown image (AtVerdict c.in-Decides.field-0) 16 0 old mem out (λ following f gs. refl) stands)
+    shown_alike image old old mem mem fs (Trapped 16 0) out out h (failed_shown image (AtVerdict c.in-Decides.field-0) 16 0 old mem out (λ following f gs is. refl) stands)
+
+pub returns-in-Begins-clause-fit : goal.returns-in-Begins-clause-fit
+returns-in-Begins-clause-fit c =
+    let image = c.args.image.now in
+    let made = known c.args.store.now.objects in
+    let old = c.args.frames.now in
+    let stands = subst (λ (s : Stop). StandsAtStop image made s (list_in old.list.items)) c.in-Begins.is c.requires in
+    let begun = c.begin_statement.ensures in
+    begun_stay image made c.in-Begins.at c.in-Begins.pos old c.begin_statement.new.frames stands begun.frames begun.following (begun.room (depth_of image) (keeps_for image))

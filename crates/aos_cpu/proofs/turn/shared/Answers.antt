@@ -39,3 +39,9 @@ pub returns-in-Some-clause-ok : goal.returns-in-Some-clause-ok
 returns-in-Some-clause-ok c =
     went_in_place c.args.image.now c.in-Some.begins (memory_in c.args.store.now) (memory_in c.turn_in_place.new.store) c.args.frames.now (record c.turn_in_place.new.frames { begun = c.count-frames.result }) c.args.output.now.items
     c.in-Some.ensures.tried (c.count-frames.ensures ∙ ap (counted c.in-Some.begins) c.turn_in_place.ensures.counts.0)
+
+pub returns-in-None-clause-fit : goal.returns-in-None-clause-fit
+returns-in-None-clause-fit c whole fit = c.by_stop.ensures.fit whole (c.turn_in_place.ensures.fit whole fit)
+
+pub returns-in-Some-clause-fit : goal.returns-in-Some-clause-fit
+returns-in-Some-clause-fit c whole fit = c.turn_in_place.ensures.fit whole fit

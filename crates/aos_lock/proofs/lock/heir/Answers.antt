@@ -40,7 +40,7 @@ loop-at-preserved g c =
     record {
       walked = subst (λ (e : Option ℕ). Walked verdict links ns c.behind-at.result e) (ap (sooner c.loop-at.entrant a) (sym c.mark.ensures) ∙ sym c.first_of-entrant.ensures) on;
       verdicts = λ b. c.is_served.ensures.verdicts b ∙ c.loop-at.invariant.verdicts b;
-      held = c.is_served.ensures.held ∙ c.loop-at.invariant.held;
+      held = λ h told. c.is_served.ensures.held h (c.loop-at.invariant.held h told);
     }
 
 pub loop-at-smaller : goal.loop-at-smaller

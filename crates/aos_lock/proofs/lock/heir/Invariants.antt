@@ -7,7 +7,7 @@ abbrev pub invariant-loop-at : goal.invariant-loop-at
 invariant-loop-at g l = record {
   walked : Walked (g.T.Test.verdict_of l.fn.test) l.links (list_in l.links l.queue) l.at l.entrant;
   verdicts : (b : ℕ) → g.T.Test.verdict_of l.test b ≡ g.T.Test.verdict_of l.fn.test b;
-  held : g.T.Test.held l.test ≡ g.T.Test.held l.fn.test;
+  held : (h : g.T.Test.Held) → g.T.Test.held l.fn.test h → g.T.Test.held l.test h;
 }
 
 abbrev pub decreases-loop-at : goal.decreases-loop-at

@@ -1,5 +1,5 @@
-use Rattle.std.proofs.Common.{◌≡◌, ◌-◌, ◌++◌, ℕ, suc, List, ◌∷◌, [], length, take, drop, reverse, true, sym, ap, ◌∙◌, subst, arith, le-leb, append_assoc}
-use Rattle.std.specs.Prelude.{Some, nat_le, slice_get, if◌then◌else◌}
+use Rattle.std.proofs.Common.{◌≡◌, ◌-◌, ◌++◌, ℕ, suc, List, ◌∷◌, [], length, drop, reverse, true, sym, ap, ◌∙◌, subst, arith, eq-eqb, append_assoc}
+use Rattle.std.specs.Prelude.{Some, nat_eq, slice_get, if◌then◌else◌}
 use Rattle.std.proofs.lemmas.List.{length-reverse}
 use Rattle.aos_base.specs.declared.place.Root.TheVariants.{Object as ObjectRoot}
 use Rattle.aos_code.specs.declared.instr.Cell.{Cell}
@@ -40,15 +40,15 @@ returns-in_ok-reserve-in-Some-get-clause-ok c shapes types =
     let s = f.stack in
     let n = c.in-Some.number in
     let object = c.in-Some-get.object.now in
-    let ns = take c.args.count object.lengths.items in
+    let ns = object.lengths.items in
     let told = length_cells ns ++ Place (ObjectRoot n) 0 0 ∷ [] in
     let top : Some n ≡ object_in (slice_get s 0) = subst (λ (xs : List Cell). Some n ≡ object_in (slice_get (reverse xs) 0)) c.deref.ensures.value c.in-Some.ensures in
-    let within : nat_le c.args.count (length object.lengths.items) ≡ true = le-leb c.args.count (length object.lengths.items) (omega arith) in
+    let as_many : nat_eq c.args.count (length object.lengths.items) ≡ true = eq-eqb c.args.count (length object.lengths.items) (omega arith) in
     let now = reverse c.put_lengths.new.stack.items in
     told_step shapes types (known c.args.heap.now) (looks (AtElements c.args.count) (λ r. Stops (Fails 1 0)) s) (GoesOn 0) f now
     (told_one shapes types c.args.heap.now (AtElements c.args.count) s now (λ r. Stops (Fails 1 0)) n (omega arith) top object told c.in-Some-get.ensures
-    (ap (λ b. if b then Tells told else Unheard) within)
-    (c.put_lengths.ensures.operands ∙ ap (λ (xs : List ℕ). length_cells (take c.args.count xs) ++ (Place (ObjectRoot n) 0 0 ∷ drop 1 (reverse c.reserve.new.self.items))) c.deref-in-Some-get.ensures.value
+    (ap (λ b. if b then Tells told else Unheard) as_many)
+    (c.put_lengths.ensures.operands ∙ ap (λ (xs : List ℕ). length_cells xs ++ (Place (ObjectRoot n) 0 0 ∷ drop 1 (reverse c.reserve.new.self.items))) c.deref-in-Some-get.ensures.value
     ∙ put (length_cells ns) (Place (ObjectRoot n) 0 0) _ (drop 1 s) (ap (λ xs. drop 1 (reverse xs)) c.in_ok-reserve-in-Some-get.ensures.items)))
   where
     put : (above : List Cell) (v : Cell) (below below' : Stack) → below ≡ below' → above ++ (v ∷ below) ≡ (above ++ v ∷ []) ++ below'

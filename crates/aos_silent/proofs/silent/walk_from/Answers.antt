@@ -2,10 +2,12 @@ use Rattle.std.proofs.Common.{◌≡◌, ◌<◌, length, refl, sym, ap, ◌∙�
 use Rattle.std.proofs.lemmas.Option.{slice_get_within, slice_get-get_or}
 use Rattle.std.specs.Prelude.{pos, vec_len}
 use Rattle.aos_code.specs.declared.instr.Instr.TheVariants.{Begin, Num}
+use Rattle.aos_code.specs.Machine.{Frame}
 use Rattle.aos_code.specs.Numbered.{numbered}
 use Rattle.aos_code.specs.Silent.{keeps_in}
 use Rattle.aos_sound.specs.Fits.{KeepsToPaths}
 use Rattle.aos_store.specs.Store.{frame_in}
+use Rattle.aos_store.proofs.Rooms.{more_room}
 use Rattle.aos_silent.specs.declared.act.Act.TheVariants.{Begins as BeginsAt}
 use Rattle.aos_silent.specs.Acts.{IsBeginOf, WhereStays}
 use Rattle.aos_silent.specs.Known.{known}
@@ -29,7 +31,8 @@ loop-frame-preserved c =
           room_on image (known c.args.heap.now) c.args.here depth c.args.keeps c.args.code.now f g c.in_ok-over.field-0 (omega arith) c.in_ok-over.ensures.ok c.do_one.ensures.room c.do_one.ensures.keeps
           (subst (λ p. KeepsToPaths image p c.args.code.now depth) (sym (ap (λ (x : Seen). x.procedure) (c.loop-frame.invariant.seen (known c.args.heap.now) (λ o m e. e)))) paths) (c.loop-frame.invariant.room depth paths stands) c.in-Goes.over c.saturating_add-frame.result c.in-Goes.is
           c.saturating_add-frame.ensures (omega arith);
-      more = omega (arith, c.loop-frame.invariant.more, c.do_one.ensures.room);
+      more = more_room c.args.frame.now f (record g { next = c.saturating_add-frame.result }) c.loop-frame.invariant.more
+          (record { procedure = ap (λ (x : Frame). x.procedure) c.in_ok-over.ensures.ok.same; operands = c.do_one.ensures.room; kept = c.do_one.ensures.keeps });
       moves = λ all room.
           let before = c.loop-frame.invariant.moves all room in
           let now =
@@ -151,3 +154,34 @@ returns-clause-room c depth paths stands = (refl, c.loop-frame.invariant.room de
 pub do_one-requires-clause-keeps : goal.do_one-requires-clause-keeps
 do_one-requires-clause-keeps c =
     c.requires.keeps ∙ ap (λ (x : Seen). keeps_in (numbered c.args.image.now.shapes.items x.procedure)) (sym (c.loop-frame.invariant.seen (known c.args.heap.now) (λ o m e. e)))
+
+-- no room is lost
+
+pub returns-in-Sees-clause-more : goal.returns-in-Sees-clause-more
+returns-in-Sees-clause-more c =
+    let g = c.do_one.new.frame in
+    more_room c.args.frame.now c.loop-frame.frame g c.loop-frame.invariant.more
+    (record { procedure = ap (λ (x : Frame). x.procedure) c.in_ok-over.ensures.ok.same; operands = c.do_one.ensures.room; kept = c.do_one.ensures.keeps })
+
+pub returns-in-Begins-clause-more : goal.returns-in-Begins-clause-more
+returns-in-Begins-clause-more c =
+    let g = c.do_one.new.frame in
+    more_room c.args.frame.now c.loop-frame.frame (record g { next = c.in-Begins.to }) c.loop-frame.invariant.more
+    (record { procedure = ap (λ (x : Frame). x.procedure) c.in_ok-over.ensures.ok.same; operands = c.do_one.ensures.room; kept = c.do_one.ensures.keeps })
+
+pub returns-in-Fails-clause-more : goal.returns-in-Fails-clause-more
+returns-in-Fails-clause-more c =
+    let g = c.do_one.new.frame in
+    more_room c.args.frame.now c.loop-frame.frame g c.loop-frame.invariant.more
+    (record { procedure = ap (λ (x : Frame). x.procedure) c.in_ok-over.ensures.ok.same; operands = c.do_one.ensures.room; kept = c.do_one.ensures.keeps })
+
+pub returns-in-Decides-clause-more : goal.returns-in-Decides-clause-more
+returns-in-Decides-clause-more c =
+    let g = c.do_one.new.frame in
+    more_room c.args.frame.now c.loop-frame.frame g c.loop-frame.invariant.more
+    (record { procedure = ap (λ (x : Frame). x.procedure) c.in_ok-over.ensures.ok.same; operands = c.do_one.ensures.room; kept = c.do_one.ensures.keeps })
+
+pub returns-in_err-over-clause-more : goal.returns-in_err-over-clause-more
+returns-in_err-over-clause-more c =
+    more_room c.args.frame.now c.loop-frame.frame c.do_one.new.frame c.loop-frame.invariant.more
+    (record { procedure = ap (λ (x : Frame). x.procedure) c.in_err-over.ensures.err; operands = c.do_one.ensures.room; kept = c.do_one.ensures.keeps })

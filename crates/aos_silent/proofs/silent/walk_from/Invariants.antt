@@ -1,10 +1,11 @@
-use Rattle.std.proofs.Common.{◌≡◌, ◌≤◌, ◌-◌, ℕ, length, true}
-use Rattle.std.specs.Prelude.{Option, vec_capacity}
+use Rattle.std.proofs.Common.{◌≡◌, ◌-◌, ℕ, length, true}
+use Rattle.std.specs.Prelude.{Option}
 use Rattle.std.specs.List.{list_all}
 use Rattle.aos_base.specs.Rooted.{Made}
 use Rattle.aos_code.specs.Machine.{may_evaluate}
 use Rattle.aos_sound.specs.Fits.{KeepsToPaths}
 use Rattle.aos_store.specs.Store.{frame_in}
+use Rattle.aos_store.specs.Room.{HasMoreRoom}
 use Rattle.aos_silent.specs.Known.{known, Knows}
 use Rattle.aos_silent.specs.Silent.{seen_with}
 use Rattle.aos_silent.specs.Room.{StandsInRoom}
@@ -16,7 +17,7 @@ abbrev pub invariant-loop-frame : goal.invariant-loop-frame
 invariant-loop-frame l = record {
   seen : (all : ℕ → Option Made) → Knows all (known l.heap) → seen_with l.image l.code all l.here (frame_in l.frame) ≡ seen_with l.image l.code all l.here (frame_in l.fn.frame);
   room : (depth : ℕ) → KeepsToPaths l.image l.fn.frame.procedure l.code depth → StandsInRoom l.image depth l.keeps l.code l.fn.frame → StandsInRoom l.image depth l.keeps l.code l.frame;
-  more : vec_capacity l.fn.frame.operands ≤ vec_capacity l.frame.operands;
+  more : HasMoreRoom l.fn.frame l.frame;
   moves : list_all may_evaluate l.code ≡ true → HasRoomFor l.code l.fn.frame → HasMoved (frame_in l.fn.frame) (frame_in l.frame) × HasRoomFor l.code l.frame;
 }
 

@@ -10,6 +10,7 @@ loop-i-init c =
     record {
       frames = ap (λ (x : List Frame). let now : Frames = record { following = reverse fs.following.items; frames = x } in now) (sym (none_frames c.args.to c.args.to_cell (list_in fs.list.items)));
       counts = (refl, refl);
+      room = λ depths keeps roomy. roomy;
       memory = sym (none_memory c.args.to c.args.to_cell (memory_in c.args.store.now));
     }
 
@@ -26,5 +27,6 @@ loop-i-preserved c =
     record {
       frames = λ j. (let now : Frames = record { following = follow j; frames = more.0 j } in now);
       counts = (new.counts.0 ∙ old.counts.0, new.counts.1 ∙ old.counts.1);
+      room = λ depths keeps roomy. new.room depths keeps (old.room depths keeps roomy);
       memory = more.1;
     }

@@ -1,12 +1,10 @@
--- The topmost frame has room for its silent work, and has so behind it.
-use Rattle.std.proofs.Common.{◌≡◌, ◌<◌, ◌≤◌, ◌-◌, ◌^◌, ◌⊎◌, ℕ, zero, suc, List, [], ◌∷◌, length, reverse, inl, inr, sym, ap, ◌∙◌, subst, arith}
+-- The topmost frame has room for its silent work, and frames that fit a sound image have so behind it.
+use Rattle.std.proofs.Common.{◌≡◌, ◌<◌, ◌≤◌, ◌-◌, ◌^◌, ℕ, List, [], ◌∷◌, length, reverse, refl, inl, inr, sym, ap, subst, ◌∙◌, arith}
 use Rattle.std.specs.Prelude.{Some, None, slice_get, slice_set, vec_capacity}
 use Rattle.std.proofs.lemmas.List.{length-set}
-use Rattle.std.proofs.lemmas.Option.{slice_get_within}
 use Rattle.aos_code.specs.declared.image.Image.{Image}
 use Rattle.aos_code.specs.Numbered.{numbered}
-use Rattle.aos_code.specs.Silent.{keeps_in}
-use Rattle.aos_code.specs.Machine.{Frame, Frames, opened_by, code_of}
+use Rattle.aos_code.specs.Machine.{Frame, Frames, opened, opened_by, body_frame, code_of}
 use Rattle.aos_sound.specs.Fits.{KeepsToPaths, StandsOn, result_of}
 use Rattle.aos_sound.specs.FitFrames.{IsSoundImage, HasBody, FitFor, FramesFit, depth_of}
 use Rattle.aos_sound.proofs.FitsWalks.{keeps_to_paths}
@@ -14,7 +12,9 @@ use Rattle.aos_sound.proofs.FitsFrames.{paths_of}
 use Rattle.aos_store.specs.declared.frames.Frame.{Frame as KeptFrame}
 use Rattle.aos_store.specs.declared.frames.Frames.{Frames as KeptFrames}
 use Rattle.aos_store.specs.Store.{frame_in, list_in, frames_in, kept_cells}
-use Rattle.aos_silent.specs.Room.{StandsInRoom, IsRoomy, AreRoomy}
+use Rattle.aos_store.specs.Room.{AreRoomyFor}
+use Rattle.aos_store.proofs.Rooms.{set_get}
+use Rattle.aos_silent.specs.Room.{StandsInRoom, keeps_for, IsRoomy, AreRoomy}
 use Rattle.aos_cpu.proofs.Turns.{all_but_top, list_top, list_set}
 
 -- where there is a frame no body is to be opened
@@ -22,21 +22,31 @@ pub opened_top : (following : List ℕ) (l : List Frame) (f : Frame) (fs : List 
 opened_top following l f fs e =
     (λ i. (let x : Frames = record { following = following; frames = e i } in x)) ∙ ap (λ m. opened_by m following) (sym e)
 
--- and where there is none, none is to follow
-pub nothing_left : (image : Image) (old : KeptFrames) → AreRoomy image old → old.list.items ≡ [] → frames_in old ≡ record { following = []; frames = [] }
-nothing_left image old room none = λ i. (let x : Frames = record { following = reverse (room.begun none i); frames = list_in (none i) } in x)
+-- where there is none, and no body is to be opened, none is to follow
+none_follows : (following : List ℕ) → opened_by [] following ≡ record { following = following; frames = [] } → following ≡ []
+none_follows [] e = refl
+none_follows (p ∷ ps) e = let z : body_frame 0 p ∷ [] ≡ [] = ap (λ (x : Frames). x.frames) e in absurd (cc z)
 
--- how much a frame of this procedure keeps
-abbrev pub keeps_for : Image → (procedure : ℕ) → ℕ
-keeps_for image p = keeps_in (numbered image.shapes.items p)
+pub nothing_left : (old : KeptFrames) → opened (frames_in old) ≡ frames_in old → length old.list.items ≡ 0 → frames_in old ≡ record { following = []; frames = [] }
+nothing_left old opens none = by old.list.items refl none
+  where
+    by : (l : List KeptFrame) → old.list.items ≡ l → length l ≡ 0 → frames_in old ≡ record { following = []; frames = [] }
+    by [] e z =
+        let following = reverse old.following.items in
+        let bare : opened_by [] following ≡ record { following = following; frames = [] } =
+        subst (λ (l : List KeptFrame). opened_by (list_in l) following ≡ record { following = following; frames = list_in l }) e opens in
+        let follow = none_follows following bare in
+        λ i. (let x : Frames = record { following = follow i; frames = list_in (e i) } in x)
+    by (f ∷ fs) e z = absurd (omega (arith, z))
 
--- what stands in a list in which one has been set
-set_get : {A : Type 0} (xs : List A) (m i : ℕ) (y x : A) → slice_get (slice_set xs m y) i ≡ Some x → (x ≡ y) ⊎ (slice_get xs i ≡ Some x)
-set_get [] m i y x e = inr e
-set_get (z ∷ xs) zero zero y x e = let same : y ≡ x = cc e in inl (sym same)
-set_get (z ∷ xs) zero (suc i) y x e = inr e
-set_get (z ∷ xs) (suc m) zero y x e = inr e
-set_get (z ∷ xs) (suc m) (suc i) y x e = set_get xs m i y x e
+-- opening a body leaves none that is to be opened
+pub opened_twice : (fs : Frames) → opened (opened fs) ≡ opened fs
+opened_twice fs = by fs.frames fs.following
+  where
+    by : (l : List Frame) (following : List ℕ) → opened (opened_by l following) ≡ opened_by l following
+    by [] [] = refl
+    by [] (p ∷ ps) = refl
+    by (f ∷ l) following = refl
 
 module _ (image : Image) (whole : IsSoundImage image) (old : KeptFrames) (fit : FramesFit image (frames_in old)) (room : AreRoomy image old) (n : ℕ) (f : KeptFrame) (len : n ≡ length old.list.items)
     (here : slice_get old.list.items (n - 1) ≡ Some f) where
@@ -74,14 +84,9 @@ module _ (image : Image) (whole : IsSoundImage image) (old : KeptFrames) (fit : 
           kept = subst (λ p. keeps_for image p ≤ length (kept_cells g)) (sym own) stands.kept;
         }
 
-    pub still_roomy : (new : KeptFrames) → new.list.items ≡ slice_set old.list.items (n - 1) g → new.following ≡ old.following → AreRoomy image new
-    still_roomy new list following =
-        let items = old.list.items in
-        let lt : n - 1 < length items = slice_get_within items (n - 1) f here in
-        let long : length new.list.items ≡ length items = ap length list ∙ length-set items (n - 1) g in
+    pub still_roomy : AreRoomyFor (depth_of image) (keeps_for image) (slice_set old.list.items (n - 1) g)
+    still_roomy =
         record {
-          each = λ i x e.
-              elim (set_get items (n - 1) i g x (ap (λ l. slice_get l i) (sym list) ∙ e)) [ inl same ↦ subst (IsRoomy image) (sym same) is_roomy | inr was ↦ room.each i x was ];
-          few = omega (arith, long, room.few);
-          begun = λ e. (let none : length new.list.items ≡ 0 = ap length e in absurd (omega (arith, none, long, lt)));
+          each = λ i x e. elim (set_get old.list.items (n - 1) i g x e) [ inl same ↦ subst (IsRoomy image) (sym same) is_roomy | inr was ↦ room.each i x was ];
+          few = omega (arith, room.few, length-set old.list.items (n - 1) g);
         }
