@@ -34,8 +34,7 @@ use Rattle.aos_symbols.specs.Spelling.{is_word}
 use Rattle.aos_symbols.specs.Env as env
 use Rattle.aos_symbols.proofs.Each.{Each}
 use Rattle.aos_symbols.proofs.Holds.{Holds, holds_bind, holds_walk, test_is, broken}
-use Rattle.aos_operators.specs.declared.known.Class.{Class}
-use Rattle.aos_operators.specs.declared.known.Class.TheVariants.{Unknown, Constant, Variable, ReadOnly, Computed, Procedure as ClassOf}
+use Rattle.aos_operators.specs.declared.known.Class.TheVariants.{Computed}
 use Rattle.aos_operators.specs.Known.{Answer, Spot, object_number, type_as, is_number, is_char}
 use Rattle.aos_operators.specs.Kinds.{is_pointer_type, is_object_type}
 use Rattle.aos_operators.specs.Places.{place_of}
@@ -54,7 +53,7 @@ use Rattle.aos_check_expr.proofs.Typing.{IsWhole, IsSound, IsTextAt, expr_sound,
 use Rattle.aos_check_expr.proofs.Called.{IsCalling, IsBound}
 use Rattle.aos_check_expr.proofs.Initials.{initialized, none_initialized}
 use Rattle.aos_check_call.specs.Calls as judge
-use Rattle.aos_check_call.specs.Calls.{lengths_wanted, new_breaches, count_breaches, outs, ended, arguments, behind_arguments, goes_on}
+use Rattle.aos_check_call.specs.Calls.{lengths_wanted, new_breaches, is_no_variable, count_breaches, outs, ended, arguments, behind_arguments, is_selected, is_selected_behind, goes_on}
 use Rattle.aos_check_call.proofs.Places.{MayBe as MayBeOf, IsRead, read_sound, copied_text, object_itself, object_made, pointer_made, IsTarget, target_sound, lengths_counted}
 use Rattle.aos_check_call.proofs.Changed.{change_call_sound, assert_sound, halt_sound}
 
@@ -211,9 +210,10 @@ module _ (p : Inside) (e : Env) (whole : IsWhole p e) where
 
   new_with_sound : (at first : Pos) (a : Spot) → IsRead p e whole a → (xs : List TreeExpr) → Holds MayBe (judge.new_with e at first a xs)
   new_with_sound at first a is xs =
-      holds_bind (IsTarget p e whole) MayBe (judged (new_breaches e at first a) a) (λ b. if judge.makes_object e b.known.of then judge.new_object e at b xs else judge.new_lengths e at b xs)
+      holds_bind (IsTarget p e whole) MayBe (judged (new_breaches e at first a.known.of a.known.class) a)
+      (λ b. if is_no_variable b.known.class then kept None else if judge.makes_object e b.known.of then judge.new_object e at b xs else judge.new_lengths e at b xs)
       (target_sound p e whole at first a is)
-      (λ b to. by b to (is_object_type e to.of) refl)
+      (λ b to. choice_sound (is_no_variable b.known.class) (kept None) _ (λ h. tt) (by b to (is_object_type e to.of) refl))
     where
       object_or : (b c : Bool) → (b || c) ≡ true → c ≡ false → b ≡ true
       object_or true c is other = refl
@@ -226,14 +226,16 @@ module _ (p : Inside) (e : Env) (whole : IsWhole p e) where
           rw (ap (judge.makes_object e) to.known ∙ kind)
           (led_sound at b to.of to.known (object_or (is_pointer_type e to.of) (is_object_type e to.of) to.kind kind) to.typed xs)
 
-  new_of_sound : (at first : Pos) (o : Option Desig) (xs : List TreeExpr) → Holds MayBe (judge.new_of e at first o xs)
-  new_of_sound at first None xs = λ h. tt
-  new_of_sound at first (Some d) xs =
+  new_of_sound : (at : Pos) (x : TreeExpr) (o : Option Desig) (xs : List TreeExpr) → Holds MayBe (judge.new_of e at x o xs)
+  new_of_sound at x None xs =
+      holds_bind (IsSound p) MayBe (expr e x) (λ v. judged (new_breaches e at (out-Expr x).pos v.known.of Computed) None) (expr_sound p e whole x) (λ v sound h. tt)
+  new_of_sound at x (Some d) xs =
+      let first = (out-Expr x).pos in
       holds_bind (IsRead p e whole) MayBe (designator e d) (λ a. judge.new_with e at first a xs) (read_sound p e whole d) (λ a is. new_with_sound at first a is xs)
 
   new_sound : (at : Pos) (xs : List TreeExpr) → Holds MayBe (judge.new_call e at xs)
   new_sound at [] = λ h. tt
-  new_sound at (a ∷ xs) = new_of_sound at (out-Expr a).pos (desig_alone a) xs
+  new_sound at (x ∷ xs) = new_of_sound at x (desig_alone x) xs
 
   -- COPY.
 
@@ -265,13 +267,9 @@ module _ (p : Inside) (e : Env) (whole : IsWhole p e) where
   routine_sound routine.Inc at xs = change_call_sound p e whole routine.Inc at xs
   routine_sound routine.Incl at xs = change_call_sound p e whole routine.Incl at xs
 
-  no_call_sound : (at : Pos) (c : Class) → Holds MayBe (judge.no_call at c)
-  no_call_sound at Unknown = λ h. tt
-  no_call_sound at (Constant v) = λ h. tt
-  no_call_sound at Variable = λ h. tt
-  no_call_sound at ReadOnly = λ h. tt
-  no_call_sound at Computed = λ h. tt
-  no_call_sound at (ClassOf m n) = λ h. tt
+  no_call_sound : (at : Pos) (of : Option TypeId) → Holds MayBe (judge.no_call at of)
+  no_call_sound at None = λ h. tt
+  no_call_sound at (Some t) = λ h. tt
 
   -- Procedures that modules declare.
 
@@ -308,8 +306,8 @@ module _ (p : Inside) (e : Env) (whole : IsWhole p e) where
 
   spot_sound : (first : Pos) (j : Judged judge_expr.Part) → Holds IsPart j → Holds MayBe (judge.called_spot e first j)
   spot_sound first j is =
-      holds_bind (IsSpot p e) MayBe (bind j (judge_expr.spot_of_part e)) (λ a. judge.no_call first a.known.class)
-      (holds_bind IsPart (IsSpot p e) j (judge_expr.spot_of_part e) is (spot_fine p e whole.constants)) (λ a x. no_call_sound first a.known.class)
+      holds_bind (IsSpot p e) MayBe (bind j (judge_expr.spot_of_part e)) (λ a. judge.no_call first a.known.of)
+      (holds_bind IsPart (IsSpot p e) j (judge_expr.spot_of_part e) is (spot_fine p e whole.constants)) (λ a x. no_call_sound first a.known.of)
 
   bound_sound : (first : Pos) (b : judge_expr.Bound) → IsBound p e b → (xs : List TreeExpr) → Holds MayBe (judge.perform_bound e first b xs)
   bound_sound first b is xs = perform_sound first b.callee b.heading (is whole) xs
@@ -326,7 +324,9 @@ module _ (p : Inside) (e : Env) (whole : IsWhole p e) where
 
   with_sound : (first : Pos) (a : judge_expr.Part) → IsPart a → (at : Pos) (xs : List TreeExpr) → Holds MayBe (judge.bracketed_as e first a at xs)
   with_sound first (judge_expr.Waits b) is at xs = bound_sound first b is xs
-  with_sound first (judge_expr.Begun h) is at xs = bracket_sound first (judge_expr.Begun h) is at xs
+  with_sound first (judge_expr.Begun h) is at xs =
+      holds_bind MayBe MayBe (judge.bracketed_spot e first (judge_expr.Begun h) at xs) (λ s. judged (breach_unless (not (judge.is_value_called h.found)) 36 first) s)
+      (bracket_sound first (judge_expr.Begun h) is at xs) (λ s kept_so none. kept_so)
   with_sound first (judge_expr.Meant a) is at xs = bracket_sound first (judge_expr.Meant a) is at xs
 
   whole_sound : (d : Desig) → Holds MayBe (judge.called_whole e d)
@@ -371,10 +371,12 @@ module _ (p : Inside) (e : Env) (whole : IsWhole p e) where
   in_module_sound h (s.Follow q ∷ more) d = value_sound d
 
   called_meaning_sound : (x : Symbol) → IsProcedure p e x → (m : Meaning) → x.means ≡ m → (d : Desig) → Holds MayBe (judge.called_meaning e x m d)
-  called_meaning_sound x seen means.Out is d = out_selectors_sound d.name.pos d.selectors
+  called_meaning_sound x seen means.Out is d =
+      choice_sound (is_selected_behind d.selectors) (judge.called_value e d) _ (value_sound d) (out_selectors_sound d.name.pos d.selectors)
   called_meaning_sound x seen (means.Module m) is d = in_module_sound (desig.plain e d.name) d.selectors d
   called_meaning_sound x seen (means.Routine r) is d =
-      let xs = arguments d.selectors in ended_sound d.name.pos (behind_arguments d.selectors) (judge.routine_call e r d.name.pos xs) (routine_sound r d.name.pos xs)
+      let xs = arguments d.selectors in choice_sound (is_selected d.selectors) (judge.called_value e d) _ (value_sound d)
+      (ended_sound d.name.pos (behind_arguments d.selectors) (judge.routine_call e r d.name.pos xs) (routine_sound r d.name.pos xs))
   called_meaning_sound x seen means.Proper is d = λ h. tt
   called_meaning_sound x seen (means.Procedure k) is d = by (desig.is_of_module x) refl (goes_on d.selectors)
     where

@@ -87,7 +87,7 @@ module _ (p : Inside) (e : Env) (whole : IsWhole p e) where
       (t : TypeId) × (of ≡ Some t) × IsPlaceOf p place (type_as t)
   changed_known r place None (closed typed known) is = absurd known
   changed_known r place (Some t) (closed typed known) is = (t, refl, typed)
-  changed_known r place of (opened t q same at opening rows lengths) is =
+  changed_known r place of (opened t q same at opening rows lengths variables) is =
       absurd (not_both (sym (low_changed r t (subst (λ o. is_changed r o ≡ true) same is)) ∙ (opened_row e t opening).1))
 
   pub place_changed : (r : Routine) (place : Place) (of : Option TypeId) → IsTyped p e place of → is_changed r of ≡ true → IsPlaceOf p place (changed_type (changing r of))
@@ -117,7 +117,7 @@ module _ (p : Inside) (e : Env) (whole : IsWhole p e) where
       Holds (λ n. IsOf p n (amount_type (changing r of))) (amount e r of x)
   amount_sound r place of typed is None = λ h. one_of (changing r of)
   amount_sound r place None (closed typed known) is (Some x) = absurd known
-  amount_sound r place None (opened t q same at opening rows lengths) is (Some x) = absurd (none-some t same)
+  amount_sound r place None (opened t q same at opening rows lengths variables) is (Some x) = absurd (none-some t same)
   amount_sound r place (Some t) typed is (Some x) =
       holds_bind (IsSound p) (λ n. IsOf p n (amount_type (changing r (Some t)))) (expr e x)
       (λ v. judged (breach_unless (is_amount r (Some t) v.known.of) 35 (out-Expr x).pos) v.typed) (expr_sound p e whole x)

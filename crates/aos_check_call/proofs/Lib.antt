@@ -2,3 +2,4 @@ mod Endings
 pub mod Places
 pub mod Changed
 pub mod CallTyping
+pub mod Keeping

@@ -1,9 +1,9 @@
 -- Variables that are assigned, those in which COPY puts a text, and those of which NEW makes an object, have the types that their
 -- statements ask for.
-use Rattle.std.proofs.Common.{◌≡◌, ℕ, ◌<◌, ◌==◌, List, [], ◌∷◌, ◌++◌, length, Bool, true, false, not, ◌&&◌, ◌||◌, Option, Some, None, is_some, slice_get, refl, sym, ap, ◌∙◌, subst, eqb-true, ne_eqb, arith, if◌then◌else◌}
+use Rattle.std.proofs.Common.{◌≡◌, ℕ, ◌≤◌, ◌<◌, ◌==◌, List, [], ◌∷◌, ◌++◌, length, Bool, true, false, not, ◌&&◌, ◌||◌, Option, Some, None, is_some, refl, sym, ap, ◌∙◌, subst, eqb-true, ne_eqb, arith, if◌then◌else◌}
 use Rattle.std.proofs.lemmas.Bool.{and_parts}
 use Rattle.std.specs.Option.{is_none}
-use Rattle.std.proofs.lemmas.Option.{none-some, same_Some}
+use Rattle.std.proofs.lemmas.Option.{none-some, same_Some, slice_get_within}
 use Rattle.aos_base.specs.declared.text.Pos.{Pos}
 use Rattle.aos_tree.specs.declared.expr.Desig.{Desig}
 use Rattle.aos_types.specs.declared.row.TypeId.{TypeId}
@@ -45,7 +45,7 @@ use Rattle.aos_check_expr.proofs.Objects.{IsMadeAs, pointer_kind, object_kind}
 use Rattle.aos_check_expr.proofs.Pointed.{made_there, made_pointed, number_back}
 use Rattle.aos_check_expr.proofs.Passed.{basic_fit, whole_place}
 use Rattle.aos_check_expr.proofs.Spots.{IsTyped, closed, opened, IsStoredHeld, opened_row}
-use Rattle.aos_check_expr.proofs.Worded.{room_kept}
+use Rattle.aos_check_expr.proofs.Worded.{room_kept, room_writable}
 use Rattle.aos_check_expr.proofs.Typing.{IsWhole, IsSoundSpot, IsTextAt, characters_are, text_rows_are, designator_sound, designator_known, designator_stored}
 use Rattle.aos_check_call.specs.Calls.{is_made, made_type, lengths_wanted, new_breaches, count_breaches, put_text}
 use Rattle.aos_check_call.specs.Calls as judge
@@ -77,14 +77,14 @@ not_nil types t told is = by told
     by (of_any any) = let m = n in omega (arith, any, m)
     by (defined r from there shut) = let m = n in omega (arith, from, m)
 
--- nor of that of procedures that are named
-pub not_named : (types : List TypeRow) → row_of types env.procedure ≡ None → (t : TypeId) → IsTold types t → is_the env.procedure t ≡ false
-not_named types none t told = ne_eqb 4294967295 t.0 (by told)
+-- nor has one the number of procedures that are named
+pub not_named : (e : Env) → 10 ≤ length e.types → (t : TypeId) → IsTold e.types t → is_the (env.procedure e) t ≡ false
+not_named e many t told = ne_eqb (length e.types) t.0 (by told)
   where
-    by : IsTold types t → 4294967295 ≡ t.0 → ⊥
-    by (basic below) h = omega (arith, below, h)
-    by (of_any any) h = omega (arith, any, h)
-    by (defined r from there shut) h = none-some r (sym none ∙ ap (slice_get types) h ∙ there)
+    by : IsTold e.types t → length e.types ≡ t.0 → ⊥
+    by (basic below) h = omega (arith, below, h, many)
+    by (of_any any) h = omega (arith, any, h, many)
+    by (defined r from there shut) h = let within = slice_get_within e.types t.0 r there in omega (arith, within, h)
 
 -- a value is nothing that is assigned
 no_value : (c : Class) (first : Pos) → IsKnownClass IsGood c → (IsStored c → ⊥) → written c first ≡ [] → ⊥
@@ -119,13 +119,13 @@ module _ (p : Inside) (e : Env) (whole : IsWhole p e) where
 
   variable_assigned : (a : Spot) (of : Option TypeId) → of ≡ a.known.of → IsTyped p e (place_of a.held) of → passes (is_built e) of ≡ true → IsAssigned a
   variable_assigned a None is (closed typed known) test = absurd known
-  variable_assigned a None is (opened t r same at opening rows lengths) test = absurd (none-some t same)
+  variable_assigned a None is (opened t r same at opening rows lengths variables) test = absurd (none-some t same)
   variable_assigned a (Some t) is typed test = record { of = t; known = sym is; built = test; typed = typed }
 
   -- what isn't an open array is of its type, which is told
   pub told_typed : (place : Place) (t : TypeId) → is_opened e t ≡ false → IsTyped p e place (Some t) → IsTold e.types t × IsPlaceOf p place (type_as t)
   told_typed place t isnt (closed typed known) = (known, typed)
-  told_typed place t isnt (opened u r same at opening rows lengths) = absurd (not_both (sym isnt ∙ ap (is_opened e) (same_Some t u same) ∙ opening))
+  told_typed place t isnt (opened u r same at opening rows lengths variables) = absurd (not_both (sym isnt ∙ ap (is_opened e) (same_Some t u same) ∙ opening))
 
   -- what is written is a variable of its type
   pub written_typed : (a : Spot) (first : Pos) → IsRead a → written a.known.class first ≡ [] → IsTyped p e (place_of a.held) a.known.of
@@ -197,7 +197,8 @@ module _ (p : Inside) (e : Env) (whole : IsWhole p e) where
       let may = ap (λ o. is_none v.known.of || (is_characters e v.known || is_some o)) one.1 ∙ always (is_none v.known.of) (is_characters e v.known) in
       let typed : IsTyped p e (place_of a.held) a.known.of =
       subst (IsTyped p e (place_of a.held)) (sym is.known) is.typed in
-      (text_rows_are p e whole v sound may, characters_are p e whole (place_of a.held) a.known typed one.0, room_kept p e whole 1 (place_of a.held) a.known typed one.0)
+      let place = place_of a.held in
+      (text_rows_are p e whole v sound may, characters_are p e whole place a.known typed one.0, room_kept p e whole 1 place a.known typed one.0, room_writable p e whole 1 place a.known typed one.0)
 
   -- what COPY stores
   characters_of : (place : Place) (k : Known) → IsTyped p e place k.of → passes (λ t. is_characters e k) k.of ≡ true → is_characters e k ≡ true
@@ -205,7 +206,7 @@ module _ (p : Inside) (e : Env) (whole : IsWhole p e) where
     where
       by : (of : Option TypeId) → IsTyped p e place of → passes (λ t. is_characters e k) of ≡ true → is_characters e k ≡ true
       by None (closed typed known) h = absurd known
-      by None (opened t r same at opening rows lengths) h = absurd (none-some t same)
+      by None (opened t r same at opening rows lengths variables) h = absurd (none-some t same)
       by (Some t) typed h = h
 
   pub copied_text : (at : Pos) (v : Answer) (second : Pos) (a : Spot) → IsTextAt p e v → IsRead a →
@@ -214,7 +215,8 @@ module _ (p : Inside) (e : Env) (whole : IsWhole p e) where
       let test = passes (λ t. is_characters e a.known) a.known.of in
       let typed = written_typed a second is (none_left (written a.known.class second) (breach_unless test 35 second) h) in
       let are = characters_of (place_of a.held) a.known typed (test_is test 35 second (none_right (written a.known.class second) (breach_unless test 35 second) h)) in
-      (text, characters_are p e whole (place_of a.held) a.known typed are, room_kept p e whole 1 (place_of a.held) a.known typed are)
+      let place = place_of a.held in
+      (text, characters_are p e whole place a.known typed are, room_kept p e whole 1 place a.known typed are, room_writable p e whole 1 place a.known typed are)
 
   -- NEW: what it makes for a variable.
 
@@ -295,26 +297,6 @@ module _ (p : Inside) (e : Env) (whole : IsWhole p e) where
           )
       by o there pointer = absurd (not_both pointer)
 
-  -- a value isn't made
-  no_class : (a : List Breach) (x : Breach) (b : List Breach) → a ++ (x ∷ b) ≡ [] → ⊥
-  no_class a x b none = some_breach (none_right a (x ∷ b) none)
-
-  no_object : (c : Class) (of : Option TypeId) (h : Held) (there at first : Pos) → IsKnownClass IsGood c → (IsStored c → ⊥) →
-      new_breaches e at first (record { known = record { of = of; class = c }; held = h; at = there }) ≡ [] → ⊥
-  no_object (Constant v) of h there at first known value none = no_class (breach_unless (is_made e of) 47 at) _ [] none
-  no_object Computed of h there at first known value none = no_class (breach_unless (is_made e of) 47 at) _ [] none
-  no_object (Procedure m n) of h there at first known value none = no_class (breach_unless (is_made e of) 47 at) _ [] none
-  no_object Unknown of h there at first known value none = known
-  no_object Variable of h there at first known value none = value tt
-  no_object ReadOnly of h there at first known value none = value tt
-
-  typed_made : (a : Spot) (at first : Pos) → IsRead a → new_breaches e at first a ≡ [] → IsTyped p e (place_of a.held) a.known.of
-  typed_made a at first is none = by a.held refl is.held is.sound
-    where
-      by : (h : Held) → h ≡ a.held → IsStoredHeld h a.known.class → IsSoundSpot p e (record { known = a.known; held = h; at = a.at }) → IsTyped p e (place_of a.held) a.known.of
-      by (Stands place) same held sound = subst (λ h. IsTyped p e (place_of h) a.known.of) same sound
-      by (Value x) same held sound = absurd (no_object a.known.class a.known.of a.held a.at at first is.class held none)
-
   -- what NEW makes something for is of a pointer type, or of an object type
   pub record IsTarget (a : Spot) : Type 0 where
     pub of : TypeId
@@ -322,8 +304,9 @@ module _ (p : Inside) (e : Env) (whole : IsWhole p e) where
     pub kind : (is_pointer_type e of || is_object_type e of) ≡ true
     pub typed : IsPlaceOf p (place_of a.held) (type_as of)
 
-  pub target_sound : (at first : Pos) (a : Spot) → IsRead a → new_breaches e at first a ≡ [] → IsTarget a
-  target_sound at first a is none = by a.known.of refl (typed_made a at first is none)
+  pub target_sound : (at first : Pos) (a : Spot) → IsRead a → new_breaches e at first a.known.of a.known.class ≡ [] → IsTarget a
+  target_sound at first a is none =
+      by a.known.of refl (written_typed a first is (none_right (breach_unless (is_made e a.known.of) 47 at) (written a.known.class first) none))
     where
       kind : is_made e a.known.of ≡ true
       kind = test_is (is_made e a.known.of) 47 at (none_left (breach_unless (is_made e a.known.of) 47 at) _ none)
@@ -334,7 +317,7 @@ module _ (p : Inside) (e : Env) (whole : IsWhole p e) where
 
       none_typed : (of : Option TypeId) → of ≡ None → IsTyped p e (place_of a.held) of → ⊥
       none_typed None is (closed typed known) = known
-      none_typed None is (opened t r same also opening rows lengths) = none-some t same
+      none_typed None is (opened t r same also opening rows lengths variables) = none-some t same
       none_typed (Some t) is held = none-some t (sym is)
 
       by : (of : Option TypeId) → a.known.of ≡ of → IsTyped p e (place_of a.held) a.known.of → IsTarget a

@@ -83,31 +83,42 @@ abbrev pub behind_arguments : List Selector → List Selector
 behind_arguments (s.Paren' p shape row ∷ more) = more
 behind_arguments xs = xs
 
--- more stands behind the bracket of a call, so that it is a part of a designator
+-- a selector that is no bracket stands behind the name of a procedure, which has no parts
+abbrev pub is_selected : List Selector → Bool
+is_selected [] = false
+is_selected (s.Paren' p shape row ∷ more) = false
+is_selected (s.Field p n ∷ more) = true
+is_selected (s.Index' p shape row ∷ more) = true
+is_selected (s.Follow p ∷ more) = true
+
+-- and behind the name of a procedure of Out
+abbrev pub is_selected_behind : List Selector → Bool
+is_selected_behind (s.Field p n ∷ more) = is_selected more
+is_selected_behind _ = false
+
+-- more than a bracket stands behind the name of a procedure, so that a call of it is a part of a designator
 abbrev pub goes_on : List Selector → Bool
 goes_on (s.Paren' p shape row ∷ more) = not (length more == 0)
-goes_on _ = false
+goes_on xs = is_selected xs
 
 -- all selectors but the last one
 abbrev pub before_last : List Selector → List Selector
 before_last xs = take (length xs - 1) xs
 
--- NEW stands at the first place, its argument, a pointer or an object variable, at the second.
+-- NEW stands at the first place, its argument, a pointer or an object variable that may be written, at the second.
 
 abbrev pub is_made : Env → Option TypeId → Bool
 is_made e = passes (λ t. desig.is_pointer_type e t || desig.is_object_type e t)
 
-abbrev pub new_breaches : Env → Pos → Pos → Spot → List Breach
-new_breaches e at first a =
-    breach_unless (is_made e a.known.of) 47 at ++ new_class_at a.known.class
-  where
-    new_class_at : Class → List Breach
-    new_class_at ReadOnly = breach 33 first
-    new_class_at Unknown = []
-    new_class_at Variable = []
-    new_class_at (Constant v) = breach 47 at
-    new_class_at Computed = breach 47 at
-    new_class_at (Procedure m n) = breach 47 at
+abbrev pub new_breaches : Env → Pos → Pos → Option TypeId → Class → List Breach
+new_breaches e at first of c = breach_unless (is_made e of) 47 at ++ written c first
+
+-- of what isn't a variable nothing more is asked
+abbrev pub is_no_variable : Class → Bool
+is_no_variable Unknown = false
+is_no_variable Variable = false
+is_no_variable ReadOnly = false
+is_no_variable c = true
 
 -- there is a length for each open dimension of the array that a pointer leads to, and none elsewhere
 abbrev pub lengths_wanted : Env → TypeId → ℕ
@@ -141,13 +152,20 @@ may_be_length None length = true
 may_be_length (Some t) length = is_number length
 
 -- what is no procedure isn't called
-abbrev pub no_call : Pos → Class → Judged (Option Stat)
-no_call at Unknown = kept None
-no_call at (Constant v) = refused 36 at
-no_call at Variable = refused 36 at
-no_call at ReadOnly = refused 36 at
-no_call at Computed = refused 36 at
-no_call at (Procedure m n) = refused 36 at
+abbrev pub no_call : Pos → Option TypeId → Judged (Option Stat)
+no_call at None = kept None
+no_call at (Some of) = refused 36 at
+
+-- what a predeclared function or the name of a type gives is a value
+abbrev pub gives_value : Meaning → Bool
+gives_value (means.Function f) = true
+gives_value (means.Type of) = is_some of
+gives_value m = false
+
+abbrev pub is_value_called : Lookup → Bool
+is_value_called NoName = false
+is_value_called NotExported = false
+is_value_called (Found x) = gives_value x.means
 
 -- INC, DEC, INCL and EXCL of a variable, by a value or by 1: the variable is of an integer type, or a set
 abbrev pub changing : Routine → Option TypeId → Changing
@@ -194,10 +212,11 @@ module _ (e : Env) where
   abbrev pub text_to : Spot → Answer → Option TextConstant
   text_to a v = text_for e a.known v.known.class
 
-  -- a string constant fits where there is room for its 0X; no other value fits an open array
+  -- a string constant fits where there is room for its 0X; no other value fits an open array, but one that may be anything
   abbrev pub value_fits : Spot → Answer → Option TextConstant → Bool
   value_fits a v (Some t) = has_room e a.known.of t
-  value_fits a v None = assignable.is_assignable e v.known a.known.of && not (is_opening e a.known.of)
+  value_fits a v None =
+      assignable.is_assignable e v.known a.known.of && (is_none v.known.of || not (is_opening e a.known.of))
 
   -- the text of a part is put in an array of characters
   abbrev pub put_text : Pos → Bool → Answer → Spot → Stat
@@ -262,15 +281,17 @@ module _ (e : Env) where
 
   abbrev pub new_with : Pos → Pos → Spot → List TreeExpr → Judged (Option Stat)
   new_with at first a xs =
-      bind (judged (new_breaches e at first a) a) (λ b. if makes_object e b.known.of then new_object at b xs else new_lengths at b xs)
+      bind (judged (new_breaches e at first a.known.of a.known.class) a) (λ b.
+      if is_no_variable b.known.class then kept None
+      else if makes_object e b.known.of then new_object at b xs else new_lengths at b xs)
 
-  abbrev pub new_of : Pos → Pos → Option Desig → List TreeExpr → Judged (Option Stat)
-  new_of at first None xs = refused 47 at
-  new_of at first (Some d) xs = bind (designator e d) (λ a. new_with at first a xs)
+  abbrev pub new_of : Pos → TreeExpr → Option Desig → List TreeExpr → Judged (Option Stat)
+  new_of at x None xs = bind (expr e x) (λ v. judged (new_breaches e at (out-Expr x).pos v.known.of Computed) None)
+  new_of at x (Some d) xs = bind (designator e d) (λ a. new_with at (out-Expr x).pos a xs)
 
   abbrev pub new_call : Pos → List TreeExpr → Judged (Option Stat)
   new_call at [] = refused 34 at
-  new_call at (a ∷ xs) = new_of at (out-Expr a).pos (desig_alone a) xs
+  new_call at (x ∷ xs) = new_of at x (desig_alone x) xs
 
   -- COPY, whose second argument is an array of characters that is a variable
   abbrev pub copied : Pos → Answer → Pos → Spot → Judged (Option Stat)
@@ -334,13 +355,13 @@ module _ (e : Env) where
   perform_with at c s xs =
       bind (arguments_for e at s.parameters (map (expr e) xs) xs) (λ h. kept (Some (Perform at c (listed_arguments h.given))))
 
-  -- a function gives a value
+  -- a function gives a value, and is asked for its arguments first
   abbrev pub perform_signed : (at : Pos) → Callee → Signature → List TreeExpr → Judged (Option Stat)
   perform_signed at c s xs = by s.gives
     where
       by : Gives → Judged (Option Stat)
       by gives.Nothing = perform_with at c s xs
-      by (gives.Value of) = refused 36 at
+      by (gives.Value of) = bind (arguments_for e at s.parameters (map (expr e) xs) xs) (λ h. refused 36 at)
 
   -- of what has this heading
   abbrev pub perform : (at : Pos) → Callee → Heading → List TreeExpr → Judged (Option Stat)
@@ -359,7 +380,7 @@ module _ (e : Env) where
 
   -- of a variable or a value
   abbrev pub called_spot : (first : Pos) → Judged Part → Judged (Option Stat)
-  called_spot first j = bind (bind j (spot_of_part e)) (λ a. no_call first a.known.class)
+  called_spot first j = bind (bind j (spot_of_part e)) (λ a. no_call first a.known.of)
 
   abbrev pub perform_bound : (first : Pos) → Bound → List TreeExpr → Judged (Option Stat)
   perform_bound first b xs = perform first b.callee b.heading xs
@@ -376,9 +397,14 @@ module _ (e : Env) where
   abbrev pub bracketed_spot : (first : Pos) → Part → Pos → List TreeExpr → Judged (Option Stat)
   bracketed_spot first a p xs = called_spot first (bracketed e first a p (map (expr e) xs) xs)
 
+  -- behind a name that may stand for a predeclared function
+  abbrev pub bracketed_name : (first : Pos) → Head → Pos → List TreeExpr → Judged (Option Stat)
+  bracketed_name first h p xs =
+      bind (bracketed_spot first (Begun h) p xs) (λ s. judged (breach_unless (not (is_value_called h.found)) 36 first) s)
+
   abbrev pub bracketed_as : (first : Pos) → Part → Pos → List TreeExpr → Judged (Option Stat)
   bracketed_as first (Waits b) p xs = perform_bound first b xs
-  bracketed_as first (Begun h) p xs = bracketed_spot first (Begun h) p xs
+  bracketed_as first (Begun h) p xs = bracketed_name first h p xs
   bracketed_as first (Meant a) p xs = bracketed_spot first (Meant a) p xs
 
   abbrev pub called_with : (first : Pos) → Part → Pos → List TreeExpr → Judged (Option Stat)
@@ -420,10 +446,12 @@ module _ (e : Env) where
 
   -- a call, by what its first name stands for
   abbrev pub called_meaning : Symbol → Meaning → Desig → Judged (Option Stat)
-  called_meaning x means.Out d = out_selectors d.name.pos d.selectors
+  called_meaning x means.Out d =
+      if is_selected_behind d.selectors then called_value d else out_selectors d.name.pos d.selectors
   called_meaning x (means.Module m) d = called_in_module (desig.plain e d.name) d.selectors d
   called_meaning x (means.Routine r) d =
-      ended d.name.pos (behind_arguments d.selectors) (routine_call r d.name.pos (arguments d.selectors))
+      if is_selected d.selectors then called_value d
+      else ended d.name.pos (behind_arguments d.selectors) (routine_call r d.name.pos (arguments d.selectors))
   called_meaning x means.Proper d = not_yet d.name.pos
   called_meaning x (means.Procedure k) d =
       if desig.is_of_module x && not (goes_on d.selectors) then performed d.name.pos x k d.selectors else called_value d

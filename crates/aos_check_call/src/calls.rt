@@ -10,7 +10,10 @@ use crate::methods::called_value;
 use crate::news::new_call;
 use crate::out::out_selectors;
 use crate::procedures::{called_in_module, performed};
-use crate::refusals::{arguments, behind_arguments, goes_on, not_yet, refuse_behind, refused};
+use crate::refusals::{
+    arguments, behind_arguments, goes_on, is_selected, is_selected_behind, not_yet, refuse_behind,
+    refused,
+};
 use crate::routines::{assert_call, change_call, halt_call};
 use crate::texts::copy_call;
 use aos_base::Pos;
@@ -84,8 +87,10 @@ fn called_meaning(
     let at = desig.name.pos;
     let selectors = desig.selectors.as_slice();
     match symbol.means {
-        Meaning::Out => out_selectors(alloc, found, env, at, selectors),
-        Meaning::Routine(routine) => {
+        Meaning::Out if !is_selected_behind(selectors) => out_selectors(
+            alloc, found, env, at, selectors,
+        ),
+        Meaning::Routine(routine) if !is_selected(selectors) => {
             routine_selectors(alloc, found, env, routine, at, selectors)
         },
         Meaning::Proper => Ok(not_yet(found, at)),

@@ -11,25 +11,21 @@ use crate::procedures::perform;
 use crate::refusals::refused;
 use aos_base::Pos;
 use aos_check_expr::{bracketed, follow_selectors};
-use aos_designators::{Bound, Part, bound_part, plain, spot_of_part};
+use aos_designators::{Bound, Head, Part, bound_part, plain, spot_of_part};
 use aos_made_stat::MadeStat;
-use aos_operators::Class;
-use aos_symbols::{Breach, Env, WRONG_CALL};
+use aos_symbols::{Breach, Env, Lookup, Meaning, WRONG_CALL, note};
 use aos_tree::{Desig, Expr, Selector};
+use aos_types::TypeId;
 use std::alloc::{AllocError, Global};
 
 /// A call of what can't be called, which begins at a place.
-fn no_call(found: &mut Option<Breach>, at: Pos, class: Class) -> Option<MadeStat>
-    ensures noted { found.new ≡ first_after found.old (judge.no_call at class).breaches }
-    ensures answer { option_map seen_stat result ≡ (judge.no_call at class).answer }
+fn no_call(found: &mut Option<Breach>, at: Pos, of: Option<TypeId>) -> Option<MadeStat>
+    ensures noted { found.new ≡ first_after found.old (judge.no_call at of).breaches }
+    ensures answer { option_map seen_stat result ≡ (judge.no_call at of).answer }
 {
-    match class {
-        Class::Unknown => None,
-        Class::Constant(_) => refused(found, WRONG_CALL, at),
-        Class::Variable => refused(found, WRONG_CALL, at),
-        Class::ReadOnly => refused(found, WRONG_CALL, at),
-        Class::Computed => refused(found, WRONG_CALL, at),
-        Class::Procedure(_, _) => refused(found, WRONG_CALL, at),
+    match of {
+        None => None,
+        Some(_) => refused(found, WRONG_CALL, at),
     }
 }
 
@@ -48,7 +44,7 @@ fn called_spot(
         (judge.called_spot env.now first (kept (seen_part part))).answer) }
 {
     let spot = spot_of_part(alloc, found, env, part)?;
-    Ok(no_call(found, first, spot.known.class))
+    Ok(no_call(found, first, spot.known.of))
 }
 
 /// A call of a method, or of what a value of a procedure type stands for, with these arguments.
@@ -109,6 +105,43 @@ fn bracketed_spot(
     called_spot(alloc, found, env, first, called)
 }
 
+/// Whether what a bracket stands behind is a predeclared function or the name of a type, which give values.
+fn is_value_called(lookup: Lookup) -> bool
+    ensures { result ≡ judge.is_value_called lookup }
+{
+    let Lookup::Found(symbol) = lookup else {
+        return false;
+    };
+    match symbol.means {
+        Meaning::Function(_) => true,
+        Meaning::Type(of) => of.is_some(),
+        _ => false,
+    }
+}
+
+/// A bracket, which stands here, behind a name that may stand for a predeclared function.
+#[tactic(auto, using(aos_symbols::proofs::Keeping::after_more))]
+fn bracketed_name(
+    alloc: Global,
+    found: &mut Option<Breach>,
+    env: &Env<'_>,
+    first: Pos,
+    head: Head,
+    at: Pos,
+    arguments: &[Expr],
+) -> Result<Option<MadeStat>, AllocError>
+    ensures noted { OnOk result (found.new ≡ first_after found.old
+        (judge.bracketed_name env.now first head at arguments.now).breaches) }
+    ensures answer { IfOk result (λ s. option_map seen_stat s ≡
+        (judge.bracketed_name env.now first head at arguments.now).answer) }
+{
+    let call = bracketed_spot(alloc, found, env, first, Part::Begun(head), at, arguments)?;
+    if is_value_called(head.found) {
+        note(found, WRONG_CALL, first);
+    }
+    Ok(call)
+}
+
 /// A call, with a bracket that stands here, of what a designator is so far that begins at a place.
 fn called_with(
     alloc: Global,
@@ -126,9 +159,7 @@ fn called_with(
 {
     match bound_part(alloc, env, first, part)? {
         Part::Waits(bound) => perform_bound(alloc, found, env, first, bound, arguments),
-        Part::Begun(head) => {
-            bracketed_spot(alloc, found, env, first, Part::Begun(head), at, arguments)
-        },
+        Part::Begun(head) => bracketed_name(alloc, found, env, first, head, at, arguments),
         Part::Meant(spot) => {
             bracketed_spot(alloc, found, env, first, Part::Meant(spot), at, arguments)
         },

@@ -11,12 +11,13 @@ ghost use Rattle.aos_check_call.specs.Calls as judge;
 use crate::refusals::refused;
 use aos_base::Pos;
 use aos_check_expr::{arguments_for, desig_alone, designator, expr};
+use aos_designators::refuse_written;
 use aos_made::MadeArguments;
 use aos_made_stat::{MadeExprs, MadeStat};
 use aos_operators::{
     Class, Spot, is_number, is_object_type, is_pointer_type, made_number, place_of, target_of,
 };
-use aos_symbols::{ARGUMENT_COUNT, Breach, Env, Method, NOT_BUILT, READ_ONLY, WRONG_NEW, note};
+use aos_symbols::{ARGUMENT_COUNT, Breach, Env, Method, NOT_BUILT, WRONG_NEW, note};
 use aos_tree::{Desig, Expr};
 use aos_typed::open_array;
 use aos_types::{Signature, TypeId};
@@ -32,22 +33,37 @@ fn is_made(env: &Env<'_>, of: Option<TypeId>) -> bool
     }
 }
 
-/// NEW stands at a place, and its argument begins at `first`: that must be a pointer or an object variable that may be written.
+/// NEW stands at a place, and its argument, of this type and class, begins at `first`: that must be a pointer or an object variable
+/// that may be written.
 #[tactic(auto, using(aos_symbols::proofs::Keeping::after_more))]
-fn refuse_new(found: &mut Option<Breach>, env: &Env<'_>, at: Pos, first: Pos, spot: &Spot)
+fn refuse_new(
+    found: &mut Option<Breach>,
+    env: &Env<'_>,
+    at: Pos,
+    first: Pos,
+    of: Option<TypeId>,
+    class: Class,
+)
     ensures { found.new ≡
-        first_after found.old (judge.new_breaches env.now at first (seen_spot spot.now)) }
+        first_after found.old (judge.new_breaches env.now at first of class) }
 {
-    if !is_made(env, spot.known.of) {
+    if !is_made(env, of) {
         note(found, WRONG_NEW, at);
     }
-    match spot.known.class {
-        Class::Unknown => {},
-        Class::Variable => {},
-        Class::ReadOnly => note(found, READ_ONLY, first),
-        Class::Constant(_) => note(found, WRONG_NEW, at),
-        Class::Computed => note(found, WRONG_NEW, at),
-        Class::Procedure(_, _) => note(found, WRONG_NEW, at),
+    refuse_written(found, class, first);
+}
+
+/// Whether what is of this class isn't a variable, so that NEW asks nothing more of it.
+fn is_no_variable(class: Class) -> bool
+    ensures { result ≡ judge.is_no_variable class }
+{
+    match class {
+        Class::Unknown => false,
+        Class::Variable => false,
+        Class::ReadOnly => false,
+        Class::Constant(_) => true,
+        Class::Computed => true,
+        Class::Procedure(_, _) => true,
     }
 }
 
@@ -280,7 +296,10 @@ fn new_with(
     ensures answer { IfOk result (λ s. option_map seen_stat s ≡
         (judge.new_with env.now at first (seen_spot spot) arguments.now).answer) }
 {
-    refuse_new(found, env, at, first, &spot);
+    refuse_new(found, env, at, first, spot.known.of, spot.known.class);
+    if is_no_variable(spot.known.class) {
+        return Ok(None);
+    }
     if makes_object(env, spot.known.of) {
         new_object(alloc, found, env, at, spot, arguments)
     } else {
@@ -288,24 +307,27 @@ fn new_with(
     }
 }
 
-/// NEW of an argument that begins at `first`, and is a designator or not, with these others, in a call that begins at a place.
+/// NEW of an argument, which is a designator or not, with these others, in a call that begins at a place.
 #[tactic(auto, using(aos_symbols::proofs::Keeping::after_more))]
 fn new_of(
     alloc: Global,
     found: &mut Option<Breach>,
     env: &Env<'_>,
     at: Pos,
-    first: Pos,
+    argument: &Expr,
     variable: Option<&Desig>,
     arguments: &[Expr],
 ) -> Result<Option<MadeStat>, AllocError>
     ensures noted { OnOk result (found.new ≡ first_after found.old
-        (judge.new_of env.now at first (option_copied variable.entry) arguments.now).breaches) }
+        (judge.new_of env.now at argument.now (option_copied variable.entry) arguments.now).breaches) }
     ensures answer { IfOk result (λ s. option_map seen_stat s ≡
-        (judge.new_of env.now at first (option_copied variable.entry) arguments.now).answer) }
+        (judge.new_of env.now at argument.now (option_copied variable.entry) arguments.now).answer) }
 {
+    let first = argument.pos;
     let Some(variable) = variable else {
-        return Ok(refused(found, WRONG_NEW, at));
+        let value = expr(alloc, found, env, argument)?;
+        refuse_new(found, env, at, first, value.known.of, Class::Computed);
+        return Ok(None);
     };
     let spot = designator(alloc, found, env, variable)?;
     new_with(alloc, found, env, at, first, spot, arguments)
@@ -325,9 +347,8 @@ pub fn new_call(
         (λ s. option_map seen_stat s ≡ (judge.new_call env.now at arguments.now).answer) }
 {
     match arguments.split_first() {
-        Some((variable, more)) => {
-            let desig = desig_alone(variable);
-            new_of(alloc, found, env, at, variable.pos, desig, more)
+        Some((argument, more)) => {
+            new_of(alloc, found, env, at, argument, desig_alone(argument), more)
         },
         None => Ok(refused(found, ARGUMENT_COUNT, at)),
     }

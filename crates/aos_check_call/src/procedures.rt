@@ -40,6 +40,7 @@ fn perform_with(
 }
 
 /// A call of a procedure with these arguments, which begins at a place: a function gives a value.
+#[tactic(auto, using(aos_symbols::proofs::Keeping::after_more))]
 fn perform_signed(
     alloc: Global,
     found: &mut Option<Breach>,
@@ -56,7 +57,11 @@ fn perform_signed(
 {
     match signature.gives {
         Gives::Nothing => perform_with(alloc, found, env, at, callee, signature, arguments),
-        Gives::Value(_) => Ok(refused(found, WRONG_CALL, at)),
+        Gives::Value(_) => {
+            let parameters = signature.parameters.as_slice();
+            let _handing = arguments_for(alloc, found, env, at, parameters, arguments)?;
+            Ok(refused(found, WRONG_CALL, at))
+        },
     }
 }
 

@@ -48,13 +48,36 @@ pub fn behind_arguments(selectors: &[Selector]) -> &[Selector]
     }
 }
 
-/// Whether more stands behind the bracket of a call, so that it is a part of a designator.
+/// Whether a selector that is no bracket stands behind the name of a procedure.
+pub fn is_selected(selectors: &[Selector]) -> bool
+    ensures { result ≡ judge.is_selected selectors.now }
+{
+    match selectors.split_first() {
+        None => false,
+        Some((Selector::Paren(_, _), _)) => false,
+        _ => true,
+    }
+}
+
+/// Whether one stands behind the name of a procedure of Out.
+pub fn is_selected_behind(selectors: &[Selector]) -> bool
+    ensures { result ≡ judge.is_selected_behind selectors.now }
+{
+    match selectors.split_first() {
+        Some((Selector::Field(_, _), more)) => is_selected(more),
+        _ => false,
+    }
+}
+
+/// Whether more than a bracket stands behind the name of a procedure, so that a call of it is a
+/// part of a designator.
 pub fn goes_on(selectors: &[Selector]) -> bool
     ensures { result ≡ judge.goes_on selectors.now }
 {
     match selectors.split_first() {
+        None => false,
         Some((Selector::Paren(_, _), more)) => !more.is_empty(),
-        _ => false,
+        _ => true,
     }
 }
 

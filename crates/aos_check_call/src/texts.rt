@@ -32,7 +32,8 @@ pub fn text_to(env: &Env<'_>, spot: &Spot, value: &Answer) -> Option<TextConstan
     text_for(env, spot.known, value.known.class)
 }
 
-/// Whether a value fits a variable: a string constant fits where there is room for its 0X, and no other value fits an open array.
+/// Whether a value fits a variable: a string constant fits where there is room for its 0X, and no other value fits an open array, but
+/// one that may be anything.
 pub fn value_fits(
     alloc: Global,
     env: &Env<'_>,
@@ -45,7 +46,10 @@ pub fn value_fits(
     let of = spot.known.of;
     match text_to(env, spot, value) {
         Some(text) => Ok(has_room(env, of, text)),
-        None => Ok(is_assignable(alloc, env, value.known, of)? && !is_opening(env, of)),
+        None => {
+            let may_be_open = value.known.of.is_none() || !is_opening(env, of);
+            Ok(is_assignable(alloc, env, value.known, of)? && may_be_open)
+        },
     }
 }
 

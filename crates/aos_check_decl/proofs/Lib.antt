@@ -14,12 +14,12 @@ pub mod TypingTargets
 pub mod TypingAliases
 pub mod TypingTables
 pub mod TypingLimits
+pub mod Initials
 pub mod TypingOnce
 pub mod TypingSlots
 pub mod ObjectTypes
 pub mod TypingDefined
 pub mod TypingObjects
-pub mod TypingPlain
 pub mod TypingStays
 pub mod TypingWalks
 pub mod TypingWhole

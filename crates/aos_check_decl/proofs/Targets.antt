@@ -2,16 +2,15 @@
 use Rattle.std.proofs.Common.{◌≡◌, ℕ, suc, ◌+◌, ◌<◌, ◌≤◌, List, [], ◌∷◌, ◌++◌, length, get_or, drop, drop-cons, add-one, Bor, Option, refl, ap, ◌∙◌, sym, subst, append_assoc}
 use Rattle.std.proofs.Math.Path.{ap₂}
 use Rattle.std.proofs.lemmas.List.{at_drop_more, at_drop_all}
-use Rattle.aos_tree.specs.declared.decl.Proc.{Proc}
 use Rattle.aos_tree.specs.declared.decl.Decl.{Decl}
 use Rattle.aos_symbols.specs.declared.env.Env.{Env}
 use Rattle.aos_symbols.specs.declared.breach.Breach.{Breach}
 use Rattle.aos_symbols.specs.Judged.{Judged, judged, kept, bind, walk}
-use Rattle.aos_symbols.specs.Declarations.{types_in, type_defs, seen_procedures}
+use Rattle.aos_symbols.specs.Declarations.{types_in, type_defs, seen_parts}
 use Rattle.aos_symbols.specs.Env as env
 use Rattle.aos_symbols.proofs.Paths.{past}
 use Rattle.aos_check_decl.specs.declared.aliases.Target.{Target}
-use Rattle.aos_check_decl.specs.Aliases.{with_target, local_targets}
+use Rattle.aos_check_decl.specs.Aliases.{with_target, inner_targets}
 use Rattle.aos_check_decl.specs.Told.{Told}
 use Rattle.aos_check_decl.proofs.Telling.{Leads, led_by}
 
@@ -35,27 +34,27 @@ module _ (e : Env) where
   pub types_end : (ts : List Target) (ds : List Decl) (i : ℕ) → length ds ≤ i → walk (with_target e) ts (type_defs (drop i ds)) ≡ kept ts
   types_end ts ds i le = ap (walk (with_target e) ts) (at_drop_all type_defs ds i le)
 
-  -- one procedure more
-  procedure_step : (k : ℕ) (ts : List Target) (ps : List (Bor Proc)) (i : ℕ) (d : Bor Proc) → i < length ps →
-      local_targets e k ts (seen_procedures (drop i ps))
-      ≡ bind (walk (with_target (env.within e k)) ts (type_defs (get_or ps i d).now.decls)) (λ us. local_targets e (suc k) us (seen_procedures (drop (i + 1) ps)))
-  procedure_step k ts ps i d lt =
-      ap (λ l. local_targets e k ts (seen_procedures l)) (drop-cons ps i d lt)
-      ∙ ap (λ j. bind (walk (with_target (env.within e k)) ts (type_defs (get_or ps i d).now.decls)) (λ us. local_targets e (suc k) us (seen_procedures (drop j ps)))) (sym (add-one i))
+  -- one part more
+  part_step : (k : ℕ) (ts : List Target) (ps : List (Bor (List Decl))) (i : ℕ) (d : Bor (List Decl)) → i < length ps →
+      inner_targets e k ts (seen_parts (drop i ps))
+      ≡ bind (walk (with_target (env.within e k)) ts (type_defs (get_or ps i d).now)) (λ us. inner_targets e (suc k) us (seen_parts (drop (i + 1) ps)))
+  part_step k ts ps i d lt =
+      ap (λ l. inner_targets e k ts (seen_parts l)) (drop-cons ps i d lt)
+      ∙ ap (λ j. bind (walk (with_target (env.within e k)) ts (type_defs (get_or ps i d).now)) (λ us. inner_targets e (suc k) us (seen_parts (drop j ps)))) (sym (add-one i))
 
-  pub procedure_on : (k next : ℕ) (ts : List Target) (ps : List (Bor Proc)) (i : ℕ) (d : Bor Proc) (whole : Judged (List Target))
+  pub part_on : (k next : ℕ) (ts : List Target) (ps : List (Bor (List Decl))) (i : ℕ) (d : Bor (List Decl)) (whole : Judged (List Target))
       {before begun behind : Option Breach} {us : List Target} {f : Env} {ds : List Decl} →
-      Leads (local_targets e k ts (seen_procedures (drop i ps))) whole before begun → i < length ps → d ≡ get_or ps i d → next ≡ k + 1 → f ≡ e → ds ≡ d.now.decls →
+      Leads (inner_targets e k ts (seen_parts (drop i ps))) whole before begun → i < length ps → d ≡ get_or ps i d → next ≡ k + 1 → f ≡ e → ds ≡ d.now →
       Told (walk (with_target (env.within f k)) ts (type_defs ds)) before behind us →
-      Leads (local_targets e next us (seen_procedures (drop (i + 1) ps))) whole behind begun
-  procedure_on k next ts ps i d whole {before = before} {begun = begun} {behind = behind} {us = us} leads lt at one same are told =
+      Leads (inner_targets e next us (seen_parts (drop (i + 1) ps))) whole behind begun
+  part_on k next ts ps i d whole {before = before} {begun = begun} {behind = behind} {us = us} leads lt at one same are told =
       let here = λ (f : Env) (ds : List Decl). walk (with_target (env.within f k)) ts (type_defs ds) in
-      let rest = seen_procedures (drop (i + 1) ps) in
-      let told_here : Told (here e (get_or ps i d).now.decls) before behind us =
-      subst (λ (j : Judged (List Target)). Told j before behind us) (ap₂ here same (are ∙ ap (λ (p : Bor Proc). p.now.decls) at)) told in
-      subst (λ (n : ℕ). Leads (local_targets e n us rest) whole behind begun) (sym (one ∙ add-one k))
-      (led_by (here e (get_or ps i d).now.decls) (λ us. local_targets e (suc k) us rest) (local_targets e k ts (seen_procedures (drop i ps))) whole leads
-      (procedure_step k ts ps i d lt) told_here)
+      let rest = seen_parts (drop (i + 1) ps) in
+      let told_here : Told (here e (get_or ps i d).now) before behind us =
+      subst (λ (j : Judged (List Target)). Told j before behind us) (ap₂ here same (are ∙ ap (λ (p : Bor (List Decl)). p.now) at)) told in
+      subst (λ (n : ℕ). Leads (inner_targets e n us rest) whole behind begun) (sym (one ∙ add-one k))
+      (led_by (here e (get_or ps i d).now) (λ us. inner_targets e (suc k) us rest) (inner_targets e k ts (seen_parts (drop i ps))) whole leads
+      (part_step k ts ps i d lt) told_here)
 
-  pub procedures_end : (k : ℕ) (ts : List Target) (ps : List (Bor Proc)) (i : ℕ) → length ps ≤ i → local_targets e k ts (seen_procedures (drop i ps)) ≡ kept ts
-  procedures_end k ts ps i le = ap (λ l. local_targets e k ts (seen_procedures l)) (past ps i le)
+  pub parts_end : (k : ℕ) (ts : List Target) (ps : List (Bor (List Decl))) (i : ℕ) → length ps ≤ i → inner_targets e k ts (seen_parts (drop i ps)) ≡ kept ts
+  parts_end k ts ps i le = ap (λ l. inner_targets e k ts (seen_parts l)) (past ps i le)

@@ -5,6 +5,7 @@ use Rattle.std.specs.Prelude.{sum_by, zip}
 use Rattle.std.specs.List.{flat_map}
 use Rattle.std.proofs.lemmas.Bool.{cases_lt}
 use Rattle.std.proofs.lemmas.List.{length-map}
+use Rattle.std.proofs.lemmas.List.Sums.{sum_by_from}
 use Rattle.std.proofs.lemmas.Option.{none-some, same_Some, slice_get_within}
 use Rattle.std.proofs.Math.Seq.{take-append_seam, drop-append_seam}
 use mathlib.Core.Logic.{◌⊎◌, inl, inr}
@@ -45,13 +46,13 @@ use Rattle.aos_check_decl.specs.Aliases.{first_rows, follow, targets}
 use Rattle.aos_check_decl.specs.Headings.{headings}
 use Rattle.aos_check_decl.specs.Limits as limits
 use Rattle.aos_check_decl.specs.Pass.{own_numbers, entered, begun, declare}
+use Rattle.aos_check_decl.proofs.Initials.{HasInitials, headings_once}
 use Rattle.aos_check_decl.proofs.TypingLists.{mapped_at}
 use Rattle.aos_check_decl.proofs.TypingScopes.{variables_of, variables_at, scope_at}
 use Rattle.aos_check_decl.proofs.TypingEntries.{scope_fresh, procedure_there}
 use Rattle.aos_check_decl.proofs.TypingLimits.{result_scalar, result_kept, variables_kept, few_from}
 use Rattle.aos_check_decl.proofs.TypingProcedures.{types_of, HasResult, HasMade, IsHeaded}
 use Rattle.aos_check_decl.proofs.TypingTargets.{AreLed, IsGiven, targets_sound}
-use Rattle.aos_check_decl.proofs.TypingPlain.{headings_plain}
 use Rattle.aos_check_decl.proofs.TypingTypes.{Telling}
 use Rattle.aos_entries.specs.Entries.{number_at}
 use Rattle.aos_check_decl.specs.Methods.{slot_meant, defined_type, definition_breaches, definition_slots}
@@ -148,6 +149,8 @@ pub record IsDeclared (number : ℕ) (before : List Home) (types : List TypeRow)
       length s.variables ≡ length (single_variables (inner_decls d.value))
   pub variables : Each (IsKnown e.types) own.variables
   pub few : sum_by (variable_cells e.types) own.variables ≤ MOST_SCALARS
+  pub few_all : let so_far = sum_by (limits.scalars_of (circles e.types) e.types) e.before in
+      so_far ≤ MOST_SCALARS → so_far + sum_by (variable_cells e.types) own.variables ≤ MOST_SCALARS
   pub fields : FieldsAgree e.types e.here
   pub count : length own.variables ≡ length (single_variables m.decls)
   pub constants : (k : ℕ) (s : Scope) → slice_get e.here.scopes k ≡ Some s → AreGood s.constants
@@ -157,6 +160,7 @@ pub record IsDeclared (number : ℕ) (before : List Home) (types : List TypeRow)
   pub table : AreReady e.types
   pub signatures : length e.here.signatures ≡ length (all_procedures m.decls)
   pub procedures : (j : ℕ) (p : Procedure) → slice_get (all_procedures m.decls) j ≡ Some p → HasHeading m e j p
+  pub initials : HasInitials m
 
 -- What is known of the table before.
 
@@ -174,7 +178,7 @@ table_old before types ready = record {
   opens = ready.table.opens;
 }
 
-module _ (number : ℕ) (before : List Home) (types : List TypeRow) (text : List ℕ) (m : Module) (ready : IsReady before types) (given : IsGiven number before types m) (ts : List Target)
+module _ (number : ℕ) (before : List Home) (types : List TypeRow) (text : List ℕ) (m : Module) (ready : IsReady before types) (given : IsGiven number before types) (ts : List Target)
     (led : AreLed types (length (all_type_defs m.decls)) (all_type_defs m.decls) ts) (once : name_breaches text m ≡ []) where
   abbrev old : AreOld types
   old = table_old before types ready
@@ -378,6 +382,18 @@ module _ (number : ℕ) (before : List Home) (types : List TypeRow) (text : List
           (ap length own_there.2 ∙ headed.count) (omega arith) (omega arith)
           (ap (λ o. limits.variables_past flags e.types (sum_by (limits.scalars_of flags e.types) e.before) (zip ds (limits.variables_of flags e.types o))) (sym own_there.1) ∙ kept)
 
+      -- with those of the modules before
+      all_few : let so_far = sum_by (limits.scalars_of (circles e.types) e.types) e.before in
+          so_far ≤ MOST_SCALARS → so_far + sum_by (variable_cells e.types) own_there.0.variables ≤ MOST_SCALARS
+      all_few small =
+          let flags = circles e.types in
+          let ds = single_variables m.decls in
+          let so_far = sum_by (limits.scalars_of flags e.types) e.before in
+          let kept = variables_kept flags e.types e (length types) m.decls (whole.kept_whole number before types text m ts given ready.constants old led once none asked fine) in
+          subst (λ n. n ≤ MOST_SCALARS) (sum_by_from (variable_cells e.types) so_far own_there.0.variables)
+          (few_from flags e.types table.sound.sizes ds own_there.0.variables so_far so_far (ap length own_there.2 ∙ headed.count) small (omega arith)
+          (ap (λ o. limits.variables_past flags e.types so_far (zip ds (limits.variables_of flags e.types o))) (sym own_there.1) ∙ kept))
+
       goes_on : GoOn types e.types
       goes_on t told = headed.goes.on t (told_behind types (first_rows (length types) ts) t told)
 
@@ -487,6 +503,7 @@ module _ (number : ℕ) (before : List Home) (types : List TypeRow) (text : List
         object_fields = λ j d s is object there. object_fields j d is object s there;
         variables = subst (Each (IsKnown e.types)) (sym own_there.2) headed.known;
         few = own_few;
+        few_all = all_few;
         fields = fields_agree;
         count = ap length own_there.2 ∙ headed.count;
         constants = headed.fit.good;
@@ -496,6 +513,7 @@ module _ (number : ℕ) (before : List Home) (types : List TypeRow) (text : List
         table = table;
         signatures = headed.signatures ∙ (let same : 0 + length (all_procedures m.decls) ≡ length (all_procedures m.decls) = omega arith in same);
         procedures = has_heading;
+        initials = headings_once start m none;
       }
 
       declared_cut : IsDeclared number before types text m (record e { types = cut (circles based) based })
@@ -516,11 +534,10 @@ declare_sound number before types text m here ready once none =
     let claims = flat_map (limits.claim_breaches e.answer) e.answer.claims in
     let judged = limits.all_breaches (circles based.types) (cut (circles based.types) based.types) based (length types) m.decls in
     let behind = none_right begin.breaches (e.breaches ++ f.breaches) none in
-    let given : IsGiven number before types m = record {
+    let given : IsGiven number before types = record {
       here = here;
       named = ready.names;
       objects = ready.objects;
-      plain = headings_plain begin.answer m.decls (none_left e.breaches f.breaches behind);
     } in
     let led = targets_sound number before types text m given (none_left j.breaches [] (none_left begin.breaches (e.breaches ++ f.breaches) none)) in
     let limited = none_right e.breaches f.breaches behind in

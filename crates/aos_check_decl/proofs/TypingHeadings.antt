@@ -1,6 +1,6 @@
 -- Declarations and headings that break no rule: behind them the types of all variables and parameters are known, and all
 -- constants are good.
-use Rattle.std.proofs.Common.{◌≡◌, ℕ, zero, suc, ◌+◌, ◌<◌, ◌≤◌, ◌==◌, nat_eq, List, [], ◌∷◌, ◌++◌, length, replicate, Bool, true, false, Option, Some, None, slice_get, refl, sym, ap, ◌∙◌, subst, arith, length-append, length-set}
+use Rattle.std.proofs.Common.{◌≡◌, ℕ, zero, suc, ◌+◌, ◌<◌, ◌≤◌, ◌==◌, nat_eq, if◌then◌else◌, List, [], ◌∷◌, ◌++◌, length, replicate, Bool, true, false, Option, Some, None, slice_get, refl, sym, ap, ◌∙◌, subst, arith, length-append, length-set}
 use Rattle.std.specs.List.{flat_map}
 use Rattle.std.specs.Map.{lookup}
 use Rattle.std.proofs.lemmas.List.{length-replicate}
@@ -32,7 +32,7 @@ use Rattle.aos_symbols.specs.Declarations.{types_in, type_defs, singles_in, sing
 use Rattle.aos_symbols.specs.Home.{Home, add_constant, add_variable, object_of}
 use Rattle.aos_symbols.specs.Env as env
 use Rattle.aos_symbols.proofs.Each.{Each, joined, front, back, implied, repeated}
-use Rattle.aos_symbols.proofs.Holds.{Holds, holds_bind, broken}
+use Rattle.aos_symbols.proofs.Holds.{Holds, holds_bind, broken, none_left}
 use Rattle.aos_check_expr.specs.Expressions.{constant}
 use Rattle.aos_check_expr.proofs.Typing.{HasGood}
 use Rattle.aos_check_expr.proofs.Typing.{constant_good as good_value}
@@ -93,7 +93,7 @@ module _ (c : Telling) (path : List Open) (searched : Each (IsSearched c) path) 
   known_later : (ts us : List TypeRow) → GoesTo ts us → (vs : List (Option TypeId)) → Each (Known ts) vs → Each (Known us) vs
   known_later ts us goes vs known = implied (Known ts) (Known us) (c.known_on ts us goes) vs known
 
-  behind_on : (m n : ℕ) (e f g : Env) → IsBehind m e f → IsBehind n f g → IsBehind (m + n) e g
+  pub behind_on : (m n : ℕ) (e f g : Env) → IsBehind m e f → IsBehind n f g → IsBehind (m + n) e g
   behind_on m n e f g one two = record {
     more = one.more ++ two.more;
     count = length-append one.more two.more ∙ (λ i. one.count i + two.count i);
@@ -258,7 +258,7 @@ module _ (c : Telling) (path : List Open) (searched : Each (IsSearched c) path) 
         all = are.all;
         count = let n = are.count in omega (arith, n);
       })
-  member_sound e k f are (decl.Types' p shape row) = broken (AreMembers e (k + 0)) _ [] _
+  member_sound e k f are (decl.Types' p shape row) = λ h. members_are e k (k + 0) f (omega arith) are
   member_sound e k f are (decl.Vars' p shape row) = fields_members e k f are row
   member_sound e k f are (decl.Proc' p i def formals shape row body end) = λ h. members_are e k (k + 0) f (omega arith) are
 
@@ -476,9 +476,11 @@ module _ (c : Telling) (path : List Open) (searched : Each (IsSearched c) path) 
   abbrev IsOwn : Env → Def → TypeExpr → Type 0
   IsOwn e def of = (t : TypeId) → judge.slot_in (env.lookup e def.name) ≡ Some t → c.IsNumber (record { def = def; value = of }) t
 
-  type_by : IsOut c path searched → (e : Env) → IsFit c path e → (def : Def) (of : TypeExpr) → Slotted (record { def = def; value = of }) →
+  -- where no object type's is, or one that may stand there
+  type_by : (e : Env) → IsFit c path e → (def : Def) (of : TypeExpr) → Slotted (record { def = def; value = of }) →
+      (IsObject of → IsOwn e def of → Holds (Behind 0 e) (judge.defined e (judge.slot_in (env.lookup e def.name)) of)) →
       Holds (Behind 0 e) (judge.type_def e (record { def = def; value = of }))
-  type_by out e fit def of slot = by of slot
+  type_by e fit def of slot object = by of slot object
     where
       slot_of : (of : TypeExpr) → (IsObject of → ⊥) → IsOwn e def of → (o : Option TypeId) → judge.slot_in (env.lookup e def.name) ≡ o → IsSlotted c o
       slot_of of never ok None is = tt
@@ -487,22 +489,60 @@ module _ (c : Telling) (path : List Open) (searched : Each (IsSearched c) path) 
       other : (of : TypeExpr) → ((slot : Option TypeId) → IsOther c path searched of slot) → (IsObject of → ⊥) → IsOwn e def of → Holds (Behind 0 e) (judge.defined e (judge.slot_in (env.lookup e def.name)) of)
       other of plain never ok = let o = judge.slot_in (env.lookup e def.name) in defined_sound e fit o (slot_of of never ok o refl) of (plain o)
 
-      object : (of : TypeExpr) → IsObject of → IsOwn e def of → (o : Option TypeId) → judge.slot_in (env.lookup e def.name) ≡ o → Holds (Behind 0 e) (judge.defined e o of)
-      object of kind ok None is = defined_sound e fit None tt of (other_none c path searched of)
-      object of kind ok (Some t) is =
-          let d : TypeDef = record { def = def; value = of } in
-          object_defined out e fit t (c.slot_of d t (ok t is)) of kind (λ o at. c.many d t o (ok t is) at)
+      by : (of : TypeExpr) → Slotted (record { def = def; value = of }) →
+          (IsObject of → IsOwn e def of → Holds (Behind 0 e) (judge.defined e (judge.slot_in (env.lookup e def.name)) of)) →
+          Holds (Behind 0 e) (judge.type_def e (record { def = def; value = of }))
+      by (type.Named q) slot object = λ h. nothing_more c path searched e fit
+      by (type.Array' p lengths shape row) slot object = other (type.Array' p lengths shape row) (λ o. tt) (λ h. h) (slot refl e fit)
+      by (type.Record' p base shape row) slot object = other (type.Record' p base shape row) (λ o. tt) (λ h. h) (slot refl e fit)
+      by (type.Pointer' p shape row) slot object = other (type.Pointer' p shape row) (λ o. tt) (λ h. h) (slot refl e fit)
+      by (type.Proc p flag formals) slot object = other (type.Proc p flag formals) (λ o. tt) (λ h. h) (slot refl e fit)
+      by (type.Object' p base shape row body end) slot object = object tt (slot refl e fit)
 
-      by : (of : TypeExpr) → Slotted (record { def = def; value = of }) → Holds (Behind 0 e) (judge.type_def e (record { def = def; value = of }))
-      by (type.Named q) slot = λ h. nothing_more c path searched e fit
-      by (type.Array' p lengths shape row) slot = other (type.Array' p lengths shape row) (λ o. tt) (λ h. h) (slot refl e fit)
-      by (type.Record' p base shape row) slot = other (type.Record' p base shape row) (λ o. tt) (λ h. h) (slot refl e fit)
-      by (type.Pointer' p shape row) slot = other (type.Pointer' p shape row) (λ o. tt) (λ h. h) (slot refl e fit)
-      by (type.Proc p flag formals) slot = other (type.Proc p flag formals) (λ o. tt) (λ h. h) (slot refl e fit)
-      by (type.Object' p base shape row body end) slot = object (type.Object' p base shape row body end) tt (slot refl e fit) (judge.slot_in (env.lookup e def.name)) refl
+  -- an object type at a place of the module
+  object_there : IsOut c path searched → (e : Env) → IsFit c path e → (def : Def) (of : TypeExpr) → IsObject of → IsOwn e def of → (o : Option TypeId) →
+      judge.slot_in (env.lookup e def.name) ≡ o → Holds (Behind 0 e) (judge.defined e o of)
+  object_there out e fit def of kind ok None is = defined_sound e fit None tt of (other_none c path searched of)
+  object_there out e fit def of kind ok (Some t) is =
+      let d : TypeDef = record { def = def; value = of } in
+      object_defined out e fit t (c.slot_of d t (ok t is)) of kind (λ o at. c.many d t o (ok t is) at)
 
   type_def_sound : IsOut c path searched → (e : Env) → IsFit c path e → (d : TypeDef) → Slotted d → Holds (Behind 0 e) (judge.type_def e d)
-  type_def_sound out e fit d slot = type_by out e fit d.def d.value slot
+  type_def_sound out e fit d slot =
+      type_by e fit d.def d.value slot (λ kind ok. object_there out e fit d.def d.value kind ok (judge.slot_in (env.lookup e d.def.name)) refl)
+
+  -- and none within another type or a procedure
+
+  abbrev pub IsInside : Type 0
+  IsInside = (env.innermost path == 0) ≡ false
+
+  module _ (deep : IsInside) (e : Env) (fit : IsFit c path e) where
+    refused_there : (b : Bool) (i : Judged Met) (at : Pos) → b ≡ false → (if b then i else types.refused_type 26 at e).breaches ≡ [] → ⊥
+    refused_there true i at never none = let e : true ≡ false = never in absurd (cc)
+    refused_there false i at never none = absurd (cc)
+
+    here : (env.innermost e.path == 0) ≡ false
+    here = ap (λ os. env.innermost os == 0) fit.path_is ∙ deep
+
+    no_object : (at : Pos) (q : Option Qualident) (ds : List Decl) (members : Env → Judged MembersMet) (slot : Option TypeId) (o : Option ObjectScope) →
+        (types.object_in slot o e at q ds members).breaches ≡ [] → ⊥
+    no_object at q ds members None o none = refused_there (env.innermost e.path == 0) (types.refused_type 99 at e) at here none
+    no_object at q ds members (Some t) None none = refused_there (env.innermost e.path == 0) (types.refused_type 99 at e) at here none
+    no_object at q ds members (Some t) (Some o) none =
+        refused_there (env.innermost e.path == 0) (types.object_with e at q ds t o.scope (members (env.within e o.scope))) at here none
+
+    object_inside : (of : TypeExpr) → IsObject of → (slot : Option TypeId) → Holds (Behind 0 e) (judge.defined e slot of)
+    object_inside (type.Object' at q shape row body end) kind slot = λ none.
+        let met = types.type_in false slot e (type.Object' at q shape row body end) in
+        absurd (no_object at q (items-the_row-Decl _ row) (λ e. types.members_in (types.members_met e [] []) row) slot (types.object_slot e slot) (none_left met.breaches [] none))
+    object_inside (type.Named q) kind slot = absurd kind
+    object_inside (type.Array' p lengths shape row) kind slot = absurd kind
+    object_inside (type.Record' p base shape row) kind slot = absurd kind
+    object_inside (type.Pointer' p shape row) kind slot = absurd kind
+    object_inside (type.Proc p flag formals) kind slot = absurd kind
+
+    type_inside : (d : TypeDef) → Slotted d → Holds (Behind 0 e) (judge.type_def e d)
+    type_inside d slot = type_by e fit d.def d.value slot (λ kind ok. object_inside d.value kind (judge.slot_in (env.lookup e d.def.name)))
 
   -- Declarations one after another.
 
@@ -533,3 +573,19 @@ module _ (c : Telling) (path : List Open) (searched : Each (IsSearched c) path) 
   pub declarations_sound : IsOut c path searched → (ds : List Decl) → Each Slotted (type_defs ds) → (e : Env) → IsFit c path e →
       Holds (Behind (length (single_variables ds)) e) (walk judge.declared e ds)
   declarations_sound out ds slots e fit = walked judge.declared singles_in types_in (declared_sound out) ds slots e fit
+
+  -- The types among the declarations of an object type.
+
+  inner_declared_sound : IsInside → (e : Env) → IsFit c path e → (d : Decl) → Each Slotted (types_in d) → Holds (Behind 0 e) (judge.inner_declared e d)
+  inner_declared_sound deep e fit (decl.Consts p cs) slots = λ h. nothing_more c path searched e fit
+  inner_declared_sound deep e fit (decl.Types' p shape row) slots =
+      let ds = items-the_row-TypeDef _ row in
+      subst (λ (vs : List Def). Holds (Behind (length vs) e) (walk judge.type_def e ds)) (flat_none {X = TypeDef} {Y = Def} ds)
+      (walked judge.type_def (λ d. []) (λ d. d ∷ []) (λ e fit d slots. type_inside deep e fit d slots.0) ds (subst (Each Slotted) (sym (flat_each ds)) slots) e fit)
+  inner_declared_sound deep e fit (decl.Vars' p shape row) slots = λ h. nothing_more c path searched e fit
+  inner_declared_sound deep e fit (decl.Proc' p i def formals shape row body end) slots = λ h. nothing_more c path searched e fit
+
+  pub inner_sound : IsInside → (ds : List Decl) → Each Slotted (type_defs ds) → (e : Env) → IsFit c path e → Holds (Behind 0 e) (walk judge.inner_declared e ds)
+  inner_sound deep ds slots e fit =
+      subst (λ (vs : List Def). Holds (Behind (length vs) e) (walk judge.inner_declared e ds)) (flat_none {X = Decl} {Y = Def} ds)
+      (walked judge.inner_declared (λ d. []) types_in (inner_declared_sound deep) ds slots e fit)

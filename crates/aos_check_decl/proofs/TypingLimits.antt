@@ -130,7 +130,7 @@ variable_cells rows None = 0
 variable_cells rows (Some t) = variable_scalars rows t
 
 module _ (flags : List Bool) (rows : List TypeRow) (small : (t : TypeId) → scalars rows t ≤ MOST_SCALARS) where
-  counted_is : (of : Option TypeId) → judge.counted flags rows of ≡ variable_cells rows of
+  pub counted_is : (of : Option TypeId) → judge.counted flags rows of ≡ variable_cells rows of
   counted_is None = refl
   counted_is (Some t) = ap (λ o. unwrap_or o 0) (at_most_is MOST_SCALARS (variable_scalars rows t) (variable_within rows t (small t)))
 

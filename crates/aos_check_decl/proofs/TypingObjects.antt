@@ -1,8 +1,7 @@
 -- The object types that a module declares, by the types' numbers: each has the scope of a type, and no two have one.
-use Rattle.std.proofs.Common.{◌≡◌, ◌<◌, ◌≤◌, ℕ, zero, suc, ◌+◌, nat_eq, List, [], ◌∷◌, length, map, fold, Option, Some, None, option_map, slice_get, refl, sym, ap, ◌∙◌, subst, arith}
+use Rattle.std.proofs.Common.{◌≡◌, ◌<◌, ◌≤◌, ℕ, zero, suc, ◌+◌, nat_eq, List, [], ◌∷◌, length, fold, Option, Some, None, option_map, slice_get, refl, sym, ap, ◌∙◌, subst, arith}
 use Rattle.std.specs.Map.{lookup}
 use Rattle.std.proofs.lemmas.Bool.{cases_lt, cases_order}
-use Rattle.std.proofs.lemmas.List.{length-map}
 use Rattle.std.proofs.lemmas.Option.{none-some, same_Some, slice_get_within}
 use mathlib.Core.Logic.{◌⊎◌, inl, inr}
 use Rattle.aos_tree.specs.declared.decl.TypeDef.{TypeDef}
@@ -15,9 +14,12 @@ use Rattle.aos_symbols.specs.Declarations.{procedures, type_defs, single_variabl
 use Rattle.aos_symbols.specs.Scope.{Named}
 use Rattle.aos_symbols.specs.Home.{Home}
 use Rattle.aos_tree.specs.declared.decl.Decl.{items-the_row-Decl}
-use Rattle.aos_entries.specs.Entries.{Objects, initial_of, numbered_objects, with_object, next_object, objects_of, number_at, inner_scope, scopes}
+use Rattle.aos_entries.specs.Entries.{Objects, initial_of, numbered_objects, with_object, next_object, objects_of, number_at, inner_scope, inner_scopes, scopes}
+use Rattle.aos_entries.proofs.Entered.{inner_long}
 use Rattle.aos_symbols.proofs.Records.{lookup_here, lookup_other}
+use Rattle.aos_check_expr.proofs.Opens.{some_there}
 use Rattle.aos_check_decl.proofs.ObjectTypes.{IsObject}
+use Rattle.aos_check_decl.proofs.TypingEntries.{inner_at}
 use Rattle.aos_check_decl.proofs.TypingLists.{get_below}
 use Rattle.aos_check_decl.proofs.TypingScopes.{names_of, names_at}
 use Rattle.aos_check_decl.proofs.TypingFields.{AreApart}
@@ -196,16 +198,13 @@ module _ (m : ℕ) (numbers : List (Option TypeId)) (tree : Module) where
   }
 
 -- the scopes of types are there
-mapped : {X Y : Type 0} (f : X → Y) (xs : List X) (j : ℕ) → j < length xs → (y : Y) × (slice_get (map f xs) j ≡ Some y)
-mapped f [] j below = absurd (omega (arith, below))
-mapped f (x ∷ xs) zero below = (f x, refl)
-mapped f (x ∷ xs) (suc j) below = mapped f xs j (omega (arith, below))
-
 pub inner_there : (text : List ℕ) (homes : List Home) (numbers : List (Option TypeId)) (m : Module) (k : ℕ) → k ≤ length (type_defs m.decls) →
     (ns : List Named) × (names_at (scopes text homes numbers m) k ≡ Some ns)
 inner_there text homes numbers m zero low = (_, refl)
 inner_there text homes numbers m (suc j) low =
     let ds = type_defs m.decls in
-    let inner = map (inner_scope text) ds in
-    let x = mapped (inner_scope text) ds j (omega (arith, low)) in
-    (x.0.entries, ap (option_map names_of) (get_below inner _ j (let l = length-map ds (inner_scope text) in omega (arith, low, l)) ∙ x.1))
+    let inner = inner_scopes text numbers (length ds) ds in
+    let d = some_there ds j (omega (arith, low)) in
+    let x = inner_at text numbers (length ds) ds j d.0 d.1 in
+    let long = inner_long text numbers (length ds) ds in
+    ((inner_scope text numbers x.0 (inner_decls d.0.value)).entries, ap (option_map names_of) (get_below inner _ j (omega (arith, low, long)) ∙ x.1))

@@ -17,7 +17,7 @@ use Rattle.aos_tree.specs.declared.decl.TypeExpr.{TypeExpr}
 use Rattle.aos_tree.specs.declared.decl.TypeExpr.TheVariants as type
 use Rattle.aos_tree.specs.declared.module.Module.{Module}
 use Rattle.aos_symbols.specs.Spelling.{word, is_word, are_same}
-use Rattle.aos_symbols.specs.Declarations.{def_names, constants_in, types_in, singles_in, procedures_in, constant_defs, type_defs, single_variables, procedure_defs, names_in, declared_names, formal_names, Procedure, whole_procedures_in, procedures, methods_in, all_procedures}
+use Rattle.aos_symbols.specs.Declarations.{def_names, constants_in, types_in, singles_in, procedures_in, constant_defs, type_defs, single_variables, procedure_defs, names_in, declared_names, formal_names, Procedure, whole_procedures_in, procedures, inner_decls, methods_in, all_procedures}
 use Rattle.aos_check_names.specs.Names.{module_names, declared_again, twice_after, twice, other_end, object_end, within_decl, within_decls, within_types, within_type, name_breaches}
 use Rattle.aos_symbols.proofs.Each.{Each, joined, front, back, implied, each_at}
 use Rattle.aos_symbols.proofs.Holds.{none_left, none_right, test_is}
@@ -342,7 +342,47 @@ module _ (text : List ℕ) where
       (joined AreOnce (flat_map methods_in (types_in d)) (flat_map methods_in (type_defs ds))
       (once_within d (none_left (within_decl text d) (flat_map (within_decl text) ds) none)) (once_methods ds (none_right (within_decl text d) (flat_map (within_decl text) ds) none)))
 
+  -- the types that a type declares
+  abbrev pub IsInnerAlike : TypeDef → Type 0
+  IsInnerAlike d = Each (λ x. Each (AreAlike x) (type_defs (inner_decls d.value))) (type_defs (inner_decls d.value))
+
+  inner_alike : (def : Def) (of : TypeExpr) → within_type text (Some def.name) of ≡ [] → IsInnerAlike (record { def = def; value = of })
+  inner_alike def (type.Named q) none = tt
+  inner_alike def (type.Array' p lengths shape row) none = tt
+  inner_alike def (type.Record' p base shape row) none = tt
+  inner_alike def (type.Pointer' p shape row) none = tt
+  inner_alike def (type.Proc p flag formals) none = tt
+  inner_alike def (type.Object' p base shape row body end) none =
+      let a = twice text (declared_names (items-the_row-Decl _ row)) in
+      scope_alike [] (items-the_row-Decl _ row) (none_left a (within_decls text row) (none_left (a ++ within_decls text row) (object_end text (Some def.name) end) none))
+
+  inner_row : {n : _} (row : Row_of-TypeDef n) → within_types text row ≡ [] → Each IsInnerAlike (items-the_row-TypeDef n row)
+  inner_row end_of-TypeDef none = tt
+  inner_row (more_of-TypeDef def of ds) none = (
+    inner_alike def of (none_left (within_type text (Some def.name) of) (within_types text ds) none),
+    inner_row ds (none_right (within_type text (Some def.name) of) (within_types text ds) none),
+  )
+
+  inner_in : (d : Decl) → within_decl text d ≡ [] → Each IsInnerAlike (types_in d)
+  inner_in (decl.Consts p cs) none = tt
+  inner_in (decl.Types' p shape row) none = inner_row row none
+  inner_in (decl.Vars' p shape row) none = tt
+  inner_in (decl.Proc' p i def formals shape row body end) none = tt
+
+  inner_all_alike : (ds : List Decl) → flat_map (within_decl text) ds ≡ [] → Each IsInnerAlike (type_defs ds)
+  inner_all_alike [] none = tt
+  inner_all_alike (d ∷ ds) none =
+      joined IsInnerAlike (types_in d) (type_defs ds) (inner_in d (none_left (within_decl text d) (flat_map (within_decl text) ds) none))
+      (inner_all_alike ds (none_right (within_decl text d) (flat_map (within_decl text) ds) none))
+
   -- of a module whose names are declared once
+  within_none : (m : Module) → name_breaches text m ≡ [] → flat_map (within_decl text) m.decls ≡ []
+  within_none m none =
+      let a = declared_again text [] m.name in
+      let b = twice text (module_names m) in
+      let c = flat_map (within_decl text) m.decls in
+      none_right (a ++ b) c (none_left ((a ++ b) ++ c) (other_end text m.name m.end) none)
+
   pub module_alike : (m : Module) → name_breaches text m ≡ [] → Each (λ d. Each (AreAlike d) (type_defs m.decls)) (type_defs m.decls)
   module_alike m none =
       let a = declared_again text [] m.name in
@@ -359,15 +399,11 @@ module _ (text : List ℕ) where
       one_type (map (λ i. i.name) m.imports) m.decls
       (differ_after (module_names m) [] (none_right a b (none_left (a ++ b) c (none_left ((a ++ b) ++ c) (other_end text m.name m.end) none))))
 
+  pub inner_types_alike : (m : Module) → name_breaches text m ≡ [] → Each IsInnerAlike (type_defs m.decls)
+  inner_types_alike m none = inner_all_alike m.decls (within_none m none)
+
   pub procedures_alike : (m : Module) → name_breaches text m ≡ [] → Each (λ (p : Procedure). Each (λ d. Each (AreAlike d) (type_defs p.decls)) (type_defs p.decls)) (all_procedures m.decls)
   procedures_alike m none =
       implied AreOnce (λ (p : Procedure). Each (λ d. Each (AreAlike d) (type_defs p.decls)) (type_defs p.decls)) (λ p once. scope_alike (formal_names p.formals) p.decls once)
       (all_procedures m.decls)
-      (joined AreOnce (procedures m.decls) (flat_map methods_in (type_defs m.decls)) (once_all m.decls within) (once_methods m.decls within))
-    where
-      within : flat_map (within_decl text) m.decls ≡ []
-      within =
-          let a = declared_again text [] m.name in
-          let b = twice text (module_names m) in
-          let c = flat_map (within_decl text) m.decls in
-          none_right (a ++ b) c (none_left ((a ++ b) ++ c) (other_end text m.name m.end) none)
+      (joined AreOnce (procedures m.decls) (flat_map methods_in (type_defs m.decls)) (once_all m.decls (within_none m none)) (once_methods m.decls (within_none m none)))

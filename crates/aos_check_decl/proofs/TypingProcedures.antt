@@ -1,5 +1,5 @@
 -- Headings of procedures that break no rule, and what the procedures declare.
-use Rattle.std.proofs.Common.{◌≡◌, ℕ, zero, suc, ◌+◌, ◌-◌, ◌<◌, ◌≤◌, nat_eq, List, [], ◌∷◌, ◌++◌, length, map, Bool, true, false, ◌&&◌, Option, Some, None, is_some, option_map, slice_get, refl, sym, ap, ◌∙◌, subst, arith, length-append}
+use Rattle.std.proofs.Common.{◌≡◌, ℕ, zero, suc, ◌+◌, ◌-◌, ◌<◌, ◌≤◌, ◌==◌, nat_eq, eqb-true, List, [], ◌∷◌, ◌++◌, length, map, Bool, true, false, ◌&&◌, Option, Some, None, is_some, option_map, slice_get, refl, sym, ap, ◌∙◌, subst, arith, length-append}
 use Rattle.std.specs.List.{flat_map}
 use Rattle.std.proofs.lemmas.Option.{none-some, same_Some}
 use Rattle.std.proofs.lemmas.Bool.{cases_lt, and_parts}
@@ -20,7 +20,7 @@ use Rattle.std.specs.Option.{option_or, is_none}
 use Rattle.aos_symbols.specs.declared.home.ObjectScope.{ObjectScope}
 use Rattle.aos_tree.specs.declared.decl.TypeDef.{TypeDef}
 use Rattle.aos_symbols.specs.Home.{Home, object_of}
-use Rattle.aos_symbols.specs.Declarations.{Procedure, procedures, methods_in, all_procedures, type_defs, single_variables, formal_names}
+use Rattle.aos_symbols.specs.Declarations.{Procedure, procedures, inner_decls, methods_in, all_procedures, type_defs, single_variables, formal_names}
 use Rattle.aos_symbols.specs.Scope.{Scope}
 use Rattle.aos_symbols.specs.Env as env
 use Rattle.aos_symbols.proofs.Each.{Each, joined, implied}
@@ -29,10 +29,10 @@ use Rattle.aos_check_decl.specs.Methods.{definition_breaches, with_all_slots}
 use Rattle.aos_check_decl.specs.Headings as judge
 use Rattle.aos_check_decl.specs.Headings.{HeadingMet}
 use Rattle.aos_check_decl.proofs.TypingLists.{get_below, get_behind}
-use Rattle.aos_check_decl.proofs.TypingScopes.{behind, variables_at, IsOutside}
+use Rattle.aos_check_decl.proofs.TypingScopes.{behind, variables_at, IsOutside, more_elsewhere}
 use Rattle.aos_check_decl.proofs.TypingTypes.{Telling, IsSearched, IsFit, fit_beyond, IsHead, head_sound}
 pub use Rattle.aos_check_decl.proofs.TypingTypes.{HasResult}
-use Rattle.aos_check_decl.proofs.TypingHeadings.{HasSlot, IsGrown, IsBehind, grown_on, grown_same, one_variable, declarations_sound, IsOut}
+use Rattle.aos_check_decl.proofs.TypingHeadings.{HasSlot, IsGrown, IsBehind, grown_on, behind_on, grown_same, one_variable, declarations_sound, inner_sound, IsOut}
 
 abbrev pub types_of : List Parameter → List (Option TypeId)
 types_of ps = map (λ (a : Parameter). a.of) ps
@@ -72,6 +72,82 @@ module _ (c : Telling) (path : List Open) (searched : Each (IsSearched c) path) 
     pub fit : IsFit c path e'
     pub goes : GoesTo e.types e'.types
     pub long : length e'.types + length e.places ≡ length e.types + length e'.places
+
+  -- The types that object types declare, in their scopes.
+
+  no_length : (xs : List (Option TypeId)) → length xs ≡ 0 → xs ≡ []
+  no_length [] none = refl
+  no_length (x ∷ xs) none = absurd (omega (arith, none))
+
+  is_inside : (k : ℕ) → 0 < k → (k == 0) ≡ false
+  is_inside k low = by (k == 0) refl
+    where
+      by : (b : Bool) → (k == 0) ≡ b → (k == 0) ≡ false
+      by true is = let e = eqb-true k 0 is in absurd (omega (arith, e, low))
+      by false is = is
+
+  types_within_sound : env.innermost path ≡ 0 → (k : ℕ) → 0 < k → k ≤ c.inner → (ds : List Decl) → Each (HasSlot c (inside k)) (type_defs ds) → (e : Env) → IsFit c path e →
+      Holds (IsGrown c path searched [] e) (judge.types_within e k ds)
+  types_within_sound own k low high ds slots e fit =
+      let f = env.within e k in
+      let f_fit : IsFit c (inside k) f = record {
+        number_is = fit.number_is;
+        before_is = fit.before_is;
+        name_is = fit.name_is;
+        text_is = fit.text_is;
+        first_is = fit.first_is;
+        names_are = fit.names_are;
+        path_is = (λ i. record { home = fit.number_is i; scope = k } ∷ fit.path_is i);
+        narrowed_is = fit.narrowed_is;
+        good = fit.good;
+        table = fit.table;
+        agrees = fit.agrees;
+        objects_is = fit.objects_is;
+        filled = fit.filled;
+      } in
+      holds_bind (IsBehind c (inside k) (inside_searched k) 0 f) (IsGrown c path searched [] e) (walk judge.inner_declared f ds) (λ x. kept (env.back_at e.path x))
+      (inner_sound c (inside k) (inside_searched k) (is_inside k low) ds slots f f_fit)
+      (λ x two none. back x (subst (λ more. IsGrown c (inside k) (inside_searched k) more f x) (no_length two.more two.count) two.grown))
+    where
+      inner : IsOutside e.here.first k → ⊥
+      inner (inl own) = omega (arith, own, low)
+      inner (inr behind) = let first = fit.first_is in omega (arith, behind, first, high)
+
+      back : (x : Env) → IsGrown c (inside k) (inside_searched k) [] (env.within e k) x → IsGrown c path searched [] e (env.back_at e.path x)
+      back x grown = record {
+        here = more_elsewhere (env.innermost path) k e.here x.here grown.here (inl own) inner;
+        fit = record {
+          number_is = grown.fit.number_is;
+          before_is = grown.fit.before_is;
+          name_is = grown.fit.name_is;
+          text_is = grown.fit.text_is;
+          first_is = grown.fit.first_is;
+          names_are = grown.fit.names_are;
+          path_is = fit.path_is;
+          narrowed_is = grown.fit.narrowed_is;
+          good = grown.fit.good;
+          table = grown.fit.table;
+          agrees = grown.fit.agrees;
+          objects_is = grown.fit.objects_is;
+          filled = grown.fit.filled;
+        };
+        goes = grown.goes;
+        long = grown.long;
+      }
+
+  -- the numbers of all types that they declare are of definitions
+  abbrev pub AreInnerSlotted : ℕ → List TypeDef → Type 0
+  AreInnerSlotted k [] = Unit {0}
+  AreInnerSlotted k (d ∷ ds) = Each (HasSlot c (inside k)) (type_defs (inner_decls d.value)) × AreInnerSlotted (suc k) ds
+
+  inner_from_sound : env.innermost path ≡ 0 → (ds : List TypeDef) (k : ℕ) → 0 < k → k + length ds ≤ suc c.inner → AreInnerSlotted k ds → (e : Env) → IsFit c path e →
+      Holds (IsGrown c path searched [] e) (judge.inner_from e k ds)
+  inner_from_sound own [] k low high slots e fit = λ h. grown_same c path searched e fit
+  inner_from_sound own (d ∷ ds) k low high slots e fit =
+      holds_bind (IsGrown c path searched [] e) (IsGrown c path searched [] e) (judge.types_within e k (inner_decls d.value)) (λ f. judge.inner_from f (suc k) ds)
+      (types_within_sound own k low (omega (arith, high)) (inner_decls d.value) slots.0 e fit)
+      (λ f one h. grown_on c path searched [] [] e f (judge.inner_from f (suc k) ds).answer one
+      (inner_from_sound own ds (suc k) (omega arith) (omega (arith, high)) slots.1 f one.fit h))
 
   -- behind all that it declares
   ended : (k : ℕ) (own : c.inner < k) (initializer : Option Pos) (formals : Option Formals) (ds : List Decl) (e : Env) → IsFit c path e → (h : HeadingMet) → IsHead c path searched e formals h →
@@ -599,18 +675,26 @@ module _ (c : Telling) (path : List Open) (searched : Each (IsSearched c) path) 
         }
 
   pub headings_sound : env.innermost path ≡ 0 → (ds : List Decl) → c.inner ≡ length (type_defs ds) → Each (HasSlot c path) (type_defs ds) →
-      AreSlottedAll c path searched (suc (length (type_defs ds))) (all_procedures ds) → (e : Env) → IsFit c path e → Holds (IsHeaded ds e) (judge.headings e ds)
-  headings_sound own_scope ds inner slots inner_slots e fit =
+      AreInnerSlotted c path searched 1 (type_defs ds) → AreSlottedAll c path searched (suc (length (type_defs ds))) (all_procedures ds) →
+      (e : Env) → IsFit c path e → Holds (IsHeaded ds e) (judge.headings e ds)
+  headings_sound own_scope ds inner slots type_slots inner_slots e fit =
       let first = suc (length (type_defs ds)) in
+      let n = length (single_variables ds) in
       let ps = procedures ds in
       let qs = flat_map methods_in (type_defs ds) in
       let behind_procedures = λ (f : Env). bind (judge.methods_from f (first + length ps) (type_defs ds)) (λ g. judge.overriding g (type_defs ds)) in
+      let behind_types = λ (f : Env). bind (judge.procedures_from false f first ps) behind_procedures in
       let own : c.inner < first = omega (arith, inner) in
-      holds_bind (IsBehind c path searched (length (single_variables ds)) e) (IsHeaded ds e) (walk judge.declared e ds) (λ f. bind (judge.procedures_from false f first ps) behind_procedures)
+      let same : n + 0 ≡ n = omega arith in
+      holds_bind (IsBehind c path searched n e) (IsHeaded ds e) (walk judge.declared e ds) (λ f. bind (judge.inner_from f 1 (type_defs ds)) behind_types)
       (declarations_sound c path searched (inl own_scope) ds slots e fit)
-      (λ f one h. holds_bind (AreMade c path searched first ps f) (IsHeaded ds e) (judge.procedures_from false f first ps) behind_procedures
+      (λ w start h. holds_bind (IsGrown c path searched [] w) (IsHeaded ds e) (judge.inner_from w 1 (type_defs ds)) behind_types
+      (inner_from_sound c path searched own_scope (type_defs ds) 1 (omega arith) (omega (arith, inner)) type_slots w start.grown.fit)
+      (λ f grown h. let one = subst (λ n. IsBehind c path searched n e f) same
+      (behind_on c path searched n 0 e w f start (record { more = []; count = refl; known = tt; grown = grown })) in
+      holds_bind (AreMade c path searched first ps f) (IsHeaded ds e) (judge.procedures_from false f first ps) behind_procedures
       (procedures_sound c path searched false ps first own (slots_front c path searched first ps qs inner_slots path searched) f one.grown.fit)
       (λ x two h. holds_bind (AreMade c path searched (first + length ps) qs x) (IsHeaded ds e) (judge.methods_from x (first + length ps) (type_defs ds)) (λ g. judge.overriding g (type_defs ds))
       (methods_sound c path searched (type_defs ds) (first + length ps) (omega (arith, own)) (slots_back c path searched first ps qs inner_slots) x two.fit)
       (λ g three none. headed own_scope ds inner e f g one (both_made c path searched first own ps qs f x g two three) none fit)
-      h) h)
+      h) h) h)

@@ -1,6 +1,5 @@
 -- The number that a definition's name stands for, where names are declared once: it is that of the definition itself.
-use Rattle.std.proofs.Common.{◌≡◌, ℕ, suc, ◌+◌, ◌==◌, ◌||◌, List, [], ◌∷◌, ◌++◌, length, map, true, false, Option, Some, is_some, option_map, option_and_then, slice_get, if◌then◌else◌, refl, sym, ap, ◌∙◌, subst, arith, eq-eqb}
-use Rattle.std.specs.List.{flat_map}
+use Rattle.std.proofs.Common.{◌≡◌, ℕ, suc, ◌+◌, ◌<◌, ◌==◌, ◌||◌, List, [], ◌∷◌, ◌++◌, length, map, true, false, Option, Some, is_some, option_map, option_and_then, slice_get, if◌then◌else◌, refl, sym, ap, ◌∙◌, subst, arith, eq-eqb}
 use Rattle.std.specs.Option.{option_or}
 use Rattle.std.proofs.lemmas.Option.{none-some}
 use Rattle.aos_tree.specs.declared.name.Name.{Name}
@@ -15,20 +14,22 @@ use Rattle.aos_symbols.specs.declared.env.Lookup.TheVariants.{NotExported, Found
 use Rattle.aos_symbols.specs.declared.env.Env.{Env}
 use Rattle.aos_symbols.specs.Spelling.{word}
 use Rattle.aos_entries.specs.declared.entries.Sort.TheVariants as sort
-use Rattle.aos_symbols.specs.Declarations.{constant_defs, type_defs, all_type_defs, single_variables, formal_names, Procedure, all_procedures}
+use Rattle.aos_symbols.specs.Declarations.{constant_defs, type_defs, all_type_defs, inner_types, local_types, inner_parts, types_of, single_variables, formal_names, inner_decls, Procedure, all_procedures}
 use Rattle.aos_symbols.specs.Scope.{Named, Scope, empty, find, has, with_names}
 use Rattle.aos_symbols.specs.Home.{Home}
-use Rattle.aos_entries.specs.Entries.{number_at, unmarked, numbered, types_from, import_entry, other_entries, procedure_scope, procedure_scopes, scopes}
+use Rattle.aos_entries.specs.Entries.{number_at, unmarked, numbered, types_from, import_entry, other_entries, inner_scope, inner_scopes, procedure_scope, procedure_scopes, scopes}
+use Rattle.aos_entries.proofs.Entered.{inner_long}
 use Rattle.aos_symbols.specs.Env as env
 use Rattle.aos_symbols.proofs.Each.{Each, front, back, implied}
 use Rattle.aos_symbols.proofs.Found.{found_is, each_found, some_found}
 use Rattle.aos_check_decl.specs.Headings.{slot_meant, slot_in}
+use Rattle.aos_check_decl.proofs.TypingLists.{get_below}
 use Rattle.aos_check_decl.proofs.TypingScopes.{names_of, names_at, scope_at}
 use Rattle.aos_check_decl.proofs.TypingTypes.{Telling, IsSearched}
 use Rattle.aos_check_decl.proofs.TypingHeadings.{is_name, HasSlot}
-use Rattle.aos_check_decl.proofs.TypingProcedures.{inside, AreSlotted}
-use Rattle.aos_check_decl.proofs.TypingEntries.{own_names, procedure_names, IsNoType, own_all, procedure_all, behind_types}
-use Rattle.aos_check_decl.proofs.TypingOnce.{AreAlike}
+use Rattle.aos_check_decl.proofs.TypingProcedures.{inside, AreInnerSlotted, AreSlotted}
+use Rattle.aos_check_decl.proofs.TypingEntries.{own_names, inner_names, procedure_names, first_local, IsNoType, own_all, inner_all, procedure_all, behind_types, types_within}
+use Rattle.aos_check_decl.proofs.TypingOnce.{AreAlike, IsInnerAlike}
 
 -- a name of the innermost scope is found there
 pub slot_found : (e : Env) (o : Open) (os : List Open) → e.path ≡ o ∷ os → o.home ≡ e.number → (s : Scope) → slice_get e.here.scopes o.scope ≡ Some s →
@@ -131,14 +132,35 @@ module _ (c : Telling) where
           (listed (with_names empty names) 0 ds (back found imports types (front found (imports ++ types) (other_entries c.text m.decls) (each_found names empty))))
           (implied (λ d. Each (AreAlike c.text d) ds) (λ d. is_name d.value ≡ false → Each (IsSlotOf (c.IsNumber d) (word c.text d.def.name)) names)
           (λ d same not_name. own_all c.text (IsSlotOf (c.IsNumber d) (word c.text d.def.name)) (slot_other (c.IsNumber d) (word c.text d.def.name)) homes numbers m
-          (types_slots d not_name 0 ds same (numbers_front 0 ds (flat_map (λ (p : Procedure). type_defs p.decls) (all_procedures m.decls)) are))) ds alike)
+          (types_slots d not_name 0 ds same (numbers_front 0 ds (types_of (inner_parts m.decls)) are))) ds alike)
 
-    -- The scopes of procedures, of which the first has the number k and the first type the place `first`.
-
-    abbrev types_in_all : List Procedure → List TypeDef
-    types_in_all ps = flat_map (λ (p : Procedure). type_defs p.decls) ps
+    -- The scopes of types and those of procedures, of which the first has the number k and the first type the place `first`.
 
     module _ (path : List Open) (searched : Each (IsSearched c) path) where
+      one_inner : (k first : ℕ) (d : TypeDef) → slice_get c.scopes k ≡ Some (inner_scope c.text numbers first (inner_decls d.value)) →
+          IsInnerAlike c.text d → AreNumbers first (type_defs (inner_decls d.value)) → Each (HasSlot c (inside c path searched k)) (type_defs (inner_decls d.value))
+      one_inner k first d there alike are =
+          let inner = inner_decls d.value in
+          let ds = type_defs inner in
+          let names = inner_names c.text numbers first inner in
+          let found = λ (n : Named). (let p : Type 0 = has (with_names empty names) n.0 ≡ true in p) in
+          scope_slots (record { home = c.number; scope = k }) path names refl (ap (option_map names_of) there) ds
+          (listed (with_names empty names) first ds (front found (types_from c.text numbers first ds) (other_entries c.text inner) (each_found names empty)))
+          (implied (λ d. Each (AreAlike c.text d) ds) (λ d. is_name d.value ≡ false → Each (IsSlotOf (c.IsNumber d) (word c.text d.def.name)) names)
+          (λ d same not_name. inner_all c.text (IsSlotOf (c.IsNumber d) (word c.text d.def.name)) (slot_other (c.IsNumber d) (word c.text d.def.name)) numbers first inner
+          (types_slots d not_name first ds same are)) ds alike)
+
+      inner_slotted : (ds : List TypeDef) (k first : ℕ) → ((j : ℕ) → j < length ds → slice_get c.scopes (k + j) ≡ slice_get (inner_scopes c.text numbers first ds) j) →
+          Each (IsInnerAlike c.text) ds → AreNumbers first (inner_types ds) → AreInnerSlotted c path searched k ds
+      inner_slotted [] k first there alike are = tt
+      inner_slotted (d ∷ ds) k first there alike are = (
+        one_inner k first d (ap (slice_get c.scopes) (let same : k ≡ k + 0 = omega arith in same) ∙ there 0 (let low : 0 < suc (length ds) = omega arith in low)) alike.0
+            (numbers_front first (type_defs (inner_decls d.value)) (inner_types ds) are),
+        inner_slotted ds (suc k) (first + length (type_defs (inner_decls d.value)))
+            (λ j low. ap (slice_get c.scopes) (let same : suc k + j ≡ k + suc j = omega arith in same) ∙ there (suc j) (let more : suc j < suc (length ds) = omega (arith, low) in more)) alike.1
+            (numbers_back first (type_defs (inner_decls d.value)) (inner_types ds) are),
+      )
+
       one_slotted : (k first : ℕ) (p : Procedure) → slice_get c.scopes k ≡ Some (procedure_scope c.text numbers first p.formals p.decls) →
           Each (λ d. Each (AreAlike c.text d) (type_defs p.decls)) (type_defs p.decls) → AreNumbers first (type_defs p.decls) → Each (HasSlot c (inside c path searched k)) (type_defs p.decls)
       one_slotted k first p there alike are =
@@ -155,19 +177,38 @@ module _ (c : Telling) where
           (types_slots d not_name first ds same are)) ds alike)
 
       pub all_slotted : (ps : List Procedure) (k first : ℕ) → ((j : ℕ) → slice_get c.scopes (k + j) ≡ slice_get (procedure_scopes c.text numbers first ps) j) →
-          Each (λ (p : Procedure). Each (λ d. Each (AreAlike c.text d) (type_defs p.decls)) (type_defs p.decls)) ps → AreNumbers first (types_in_all ps) → AreSlotted c path searched k ps
+          Each (λ (p : Procedure). Each (λ d. Each (AreAlike c.text d) (type_defs p.decls)) (type_defs p.decls)) ps → AreNumbers first (local_types ps) → AreSlotted c path searched k ps
       all_slotted [] k first there alike are = tt
       all_slotted (p ∷ ps) k first there alike are = (
-        one_slotted k first p (ap (slice_get c.scopes) (let same : k ≡ k + 0 = omega arith in same) ∙ there 0) alike.0 (numbers_front first (type_defs p.decls) (types_in_all ps) are),
+        one_slotted k first p (ap (slice_get c.scopes) (let same : k ≡ k + 0 = omega arith in same) ∙ there 0) alike.0 (numbers_front first (type_defs p.decls) (local_types ps) are),
         all_slotted ps (suc k) (first + length (type_defs p.decls)) (λ j. ap (slice_get c.scopes) (let same : suc k + j ≡ k + suc j = omega arith in same) ∙ there (suc j)) alike.1
-            (numbers_back first (type_defs p.decls) (types_in_all ps) are),
+            (numbers_back first (type_defs p.decls) (local_types ps) are),
       )
+
+    -- of the types that are defined within a module's declarations
+    numbers_within : (m : Module) → AreNumbers 0 (all_type_defs m.decls) → AreNumbers (length (type_defs m.decls)) (inner_types (type_defs m.decls) ++ local_types (all_procedures m.decls))
+    numbers_within m are =
+        let own = type_defs m.decls in
+        subst (AreNumbers (length own)) (types_within m.decls)
+        (subst (λ k. AreNumbers k (types_of (inner_parts m.decls))) (let same : 0 + length own ≡ length own = omega arith in same) (numbers_back 0 own (types_of (inner_parts m.decls)) are))
+
+    pub inner_slots : (homes : List Home) (m : Module) → c.scopes ≡ scopes c.text homes numbers m → Each (IsInnerAlike c.text) (type_defs m.decls) → AreNumbers 0 (all_type_defs m.decls) →
+        (path : List Open) (searched : Each (IsSearched c) path) → AreInnerSlotted c path searched 1 (type_defs m.decls)
+    inner_slots homes m scopes_are alike are path searched =
+        let own = type_defs m.decls in
+        let is = inner_scopes c.text numbers (length own) own in
+        let ps = procedure_scopes c.text numbers (first_local m) (all_procedures m.decls) in
+        let long = inner_long c.text numbers (length own) own in
+        inner_slotted path searched own 1 (length own)
+        (λ j low. (let number : 1 + j ≡ suc j = omega arith in
+        ap (λ ss. slice_get ss (1 + j)) scopes_are ∙ ap (slice_get (scopes c.text homes numbers m)) number ∙ get_below is ps j (omega (arith, low, long))))
+        alike (numbers_front (length own) (inner_types own) (local_types (all_procedures m.decls)) (numbers_within m are))
 
     pub procedures_slots : (homes : List Home) (m : Module) → c.scopes ≡ scopes c.text homes numbers m →
         Each (λ (p : Procedure). Each (λ d. Each (AreAlike c.text d) (type_defs p.decls)) (type_defs p.decls)) (all_procedures m.decls) → AreNumbers 0 (all_type_defs m.decls) →
         (path : List Open) (searched : Each (IsSearched c) path) → AreSlotted c path searched (suc (length (type_defs m.decls))) (all_procedures m.decls)
     procedures_slots homes m scopes_are alike are path searched =
-        let n = length (type_defs m.decls) in
-        all_slotted path searched (all_procedures m.decls) (suc n) n
-        (λ j. ap (λ ss. slice_get ss (suc n + j)) scopes_are ∙ behind_types c.text homes numbers m j) alike
-        (subst (λ k. AreNumbers k (types_in_all (all_procedures m.decls))) (let same : 0 + n ≡ n = omega arith in same) (numbers_back 0 (type_defs m.decls) (types_in_all (all_procedures m.decls)) are))
+        let own = type_defs m.decls in
+        all_slotted path searched (all_procedures m.decls) (suc (length own)) (first_local m)
+        (λ j. ap (λ ss. slice_get ss (suc (length own) + j)) scopes_are ∙ behind_types c.text homes numbers m j) alike
+        (numbers_back (length own) (inner_types own) (local_types (all_procedures m.decls)) (numbers_within m are))

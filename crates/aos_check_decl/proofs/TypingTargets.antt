@@ -1,10 +1,11 @@
 -- What the definitions of a module's types lead to, where they break no rule: none of them leads to nothing.
 use Rattle.std.proofs.Common.{◌≡◌, ℕ, zero, suc, ◌+◌, ◌<◌, ◌≤◌, List, [], ◌∷◌, ◌++◌, length, map, true, Option, Some, None, slice_get, refl, sym, ap, ◌∙◌, subst, arith, append_assoc, append-nil}
-use Rattle.std.specs.List.{flat_map, range_with_len}
+use Rattle.std.specs.List.{range_with_len}
 use Rattle.std.proofs.lemmas.List.FromFn.{get_or-map-range_with_len}
 use Rattle.std.proofs.lemmas.Option.{none-some, same_Some, unwrap_or-slice_get}
 use mathlib.Core.Logic.{◌⊎◌, inl, inr}
 use Rattle.aos_tree.specs.declared.name.Qualident.{Qualident}
+use Rattle.aos_tree.specs.declared.decl.Decl.{Decl}
 use Rattle.aos_tree.specs.declared.decl.TypeDef.{TypeDef}
 use Rattle.aos_tree.specs.declared.decl.TypeExpr.{TypeExpr}
 use Rattle.aos_tree.specs.declared.decl.TypeExpr.TheVariants as type
@@ -16,7 +17,7 @@ use Rattle.aos_symbols.specs.declared.env.Env.{Env}
 use Rattle.aos_symbols.specs.declared.breach.Breach.{Breach}
 use Rattle.aos_symbols.specs.Breaches.{first as first_of}
 use Rattle.aos_symbols.specs.Judged.{kept, walk}
-use Rattle.aos_symbols.specs.Declarations.{Procedure, all_procedures, type_defs, all_type_defs}
+use Rattle.aos_symbols.specs.Declarations.{type_defs, inner_parts, types_of, all_type_defs}
 use Rattle.aos_symbols.specs.declared.home.ObjectScope.{ObjectScope}
 use Rattle.aos_symbols.specs.Home.{Home, object_of}
 use Rattle.aos_entries.specs.Entries.{number_at, scopes}
@@ -27,10 +28,10 @@ use Rattle.aos_symbols.proofs.Told.{IsTold, basic, of_any, IsKnown}
 use Rattle.aos_check_decl.specs.declared.aliases.Target.{Target}
 use Rattle.aos_check_decl.specs.declared.aliases.Target.TheVariants.{Own, Of, Nothing}
 use Rattle.aos_check_decl.specs.Types.{named_type}
-use Rattle.aos_check_decl.specs.Aliases.{target_of, later, led_by, with_target, local_targets, targets}
+use Rattle.aos_check_decl.specs.Aliases.{target_of, later, led_by, with_target, inner_targets, targets}
 use Rattle.aos_check_decl.specs.Pass.{own_numbers, entered}
 use Rattle.aos_check_decl.proofs.TypingNames.{IsBasicNumber, IsSearchedIn, AreOthersNamed, all_named_in, named_sound}
-use Rattle.aos_check_decl.proofs.TypingEntries.{scopes_typed, IsPlain}
+use Rattle.aos_check_decl.proofs.TypingEntries.{scopes_typed}
 use Rattle.aos_check_decl.proofs.TypingHeadings.{is_name}
 
 -- the number at a place of a list that is made by numbers
@@ -82,19 +83,15 @@ module _ (types : List TypeRow) (n : ℕ) where
   led_at (x ∷ ds) (u ∷ ts) are zero t is = (x, refl, subst (IsLed x.value) (same_Some u t is) are.0)
   led_at (x ∷ ds) (u ∷ ts) are (suc k) t is = led_at ds ts are.1 k t is
 
--- What is known of the modules before, of which there are so many, and of a module whose object types declare no types.
-pub record IsGiven (number : ℕ) (before : List Home) (types : List TypeRow) (m : Module) : Type 0 where
+-- What is known of the modules before, of which there are so many.
+pub record IsGiven (number : ℕ) (before : List Home) (types : List TypeRow) : Type 0 where
   pub here : length before ≡ number
   pub named : AreOthersNamed before (IsKnown types)
   pub objects : (k : ℕ) (h : Home) (t : TypeId) (o : ObjectScope) → slice_get before k ≡ Some h → object_of h t ≡ Some o → (o.home ≡ k) × (o.scope < h.first)
-  pub plain : Each IsPlain (type_defs m.decls)
 
-module _ (number : ℕ) (before : List Home) (types : List TypeRow) (text : List ℕ) (m : Module) (given : IsGiven number before types m) where
+module _ (number : ℕ) (before : List Home) (types : List TypeRow) (text : List ℕ) (m : Module) (given : IsGiven number before types) where
   abbrev count : ℕ
   count = length (all_type_defs m.decls)
-
-  abbrev inner : ℕ
-  inner = length (type_defs m.decls)
 
   abbrev own : List (Option TypeId)
   own = own_numbers (length types) count
@@ -118,7 +115,7 @@ module _ (number : ℕ) (before : List Home) (types : List TypeRow) (text : List
   meant_in : (path : List Open) → Each (IsSearchedIn number before) path → (q : Qualident) → Holds Means (named_type (env.back_at path first) q)
   meant_in path searched q =
       named_sound (env.back_at path first) (IsSearchedIn number before) Means
-      (all_named_in number before (scopes text before own m) Means (scopes_typed text before own m given.plain Means own_meant)
+      (all_named_in number before (scopes text before own m) Means (scopes_typed text before own m Means own_meant)
       (λ j h k s w x of at outer there found is. known_meant of (given.named j h k s w x of at outer there found is)) (env.back_at path first) refl refl (λ j. refl))
       (λ t low. inl (basic_told types t low)) searched (λ j. inl refl) q
 
@@ -151,20 +148,20 @@ module _ (number : ℕ) (before : List Home) (types : List TypeRow) (text : List
       (λ t is h. led_more types count done ts d t are is))
       (λ us more. some_led path searched ds (done ++ d ∷ []) us more))
 
-  locals_led : (ps : List Procedure) (k : ℕ) → inner < k → (done : List TypeDef) (ts : List Target) → AreLed types count done ts →
-      Holds (AreLed types count (done ++ flat_map (λ (p : Procedure). type_defs p.decls) ps)) (local_targets first k ts ps)
-  locals_led [] k behind done ts are = λ h. subst (λ ds. AreLed types count ds ts) (sym (append-nil done)) are
-  locals_led (p ∷ ps) k behind done ts are =
-      let ds = type_defs p.decls in
-      let rest = flat_map (λ (p : Procedure). type_defs p.decls) ps in
-      subst (λ all. Holds (AreLed types count all) (local_targets first k ts (p ∷ ps))) (append_assoc done ds rest)
-      (holds_bind (AreLed types count (done ++ ds)) (AreLed types count ((done ++ ds) ++ rest)) (walk (with_target (env.within first k)) ts ds) (λ us. local_targets first (suc k) us ps)
+  parts_led : (dss : List (List Decl)) (k : ℕ) (done : List TypeDef) (ts : List Target) → AreLed types count done ts →
+      Holds (AreLed types count (done ++ types_of dss)) (inner_targets first k ts dss)
+  parts_led [] k done ts are = λ h. subst (λ ds. AreLed types count ds ts) (sym (append-nil done)) are
+  parts_led (part ∷ dss) k done ts are =
+      let ds = type_defs part in
+      let rest = types_of dss in
+      subst (λ all. Holds (AreLed types count all) (inner_targets first k ts (part ∷ dss))) (append_assoc done ds rest)
+      (holds_bind (AreLed types count (done ++ ds)) (AreLed types count ((done ++ ds) ++ rest)) (walk (with_target (env.within first k)) ts ds) (λ us. inner_targets first (suc k) us dss)
       (some_led (record { home = number; scope = k } ∷ env.own number ∷ []) (inr (inl refl), (inl refl, tt)) ds done ts are)
-      (λ us more. locals_led ps (suc k) (omega (arith, behind)) (done ++ ds) us more))
+      (λ us more. parts_led dss (suc k) (done ++ ds) us more))
 
   pub targets_sound : Holds (AreLed types count (all_type_defs m.decls)) (targets first m.decls)
   targets_sound =
       holds_bind (AreLed types count (type_defs m.decls)) (AreLed types count (all_type_defs m.decls)) (walk (with_target first) [] (type_defs m.decls))
-      (λ ts. local_targets first (suc inner) ts (all_procedures m.decls))
+      (λ ts. inner_targets first 1 ts (inner_parts m.decls))
       (some_led (env.own number ∷ []) (inl refl, tt) (type_defs m.decls) [] [] tt)
-      (λ ts are. locals_led (all_procedures m.decls) (suc inner) (omega arith) (type_defs m.decls) ts are)
+      (λ ts are. parts_led (inner_parts m.decls) 1 (type_defs m.decls) ts are)

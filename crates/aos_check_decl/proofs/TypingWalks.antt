@@ -18,7 +18,7 @@ use Rattle.aos_types.specs.Count.{named_in, AreBelow}
 use Rattle.aos_symbols.specs.declared.env.Claim.{Claim}
 use Rattle.aos_symbols.specs.declared.env.Claim.TheVariants as claim
 use Rattle.aos_symbols.specs.Spelling.{word}
-use Rattle.aos_symbols.specs.Declarations.{type_defs, all_procedures, local_types, all_type_defs, single_variables, inner_decls}
+use Rattle.aos_symbols.specs.Declarations.{type_defs, inner_parts, types_of, all_type_defs, single_variables, inner_decls}
 use Rattle.aos_symbols.specs.Scope.{Scope}
 use Rattle.aos_symbols.specs.Home.{Home}
 use Rattle.aos_symbols.specs.declared.home.ObjectScope.{ObjectScope}
@@ -55,7 +55,7 @@ told_below types ten t (of_any any) = omega (arith, ten, any)
 told_below types ten t (defined r high there closed) = slice_get_within types t.0 r there
 
 module _ (number : ℕ) (before : List Home) (types : List TypeRow) (text : List ℕ) (m : Module) (ts : List Target)
-    (given : IsGiven number before types m)
+    (given : IsGiven number before types)
     (constants : (j : ℕ) (h : Home) (k : ℕ) (s : Scope) → slice_get before j ≡ Some h → slice_get h.scopes k ≡ Some s → AreGood s.constants)
     (ten : 10 ≤ length types) (led : AreLed types (length (all_type_defs m.decls)) (all_type_defs m.decls) ts) where
   abbrev pub first : List TypeRow
@@ -288,7 +288,7 @@ module _ (number : ℕ) (before : List Home) (types : List TypeRow) (text : List
     pub same : one.place ≡ place
 
   pub own_first : (k : ℕ) (d : TypeDef) → slice_get (type_defs m.decls) k ≡ Some d → slice_get (all_type_defs m.decls) k ≡ Some d
-  own_first k d is = get_front (type_defs m.decls) (local_types (all_procedures m.decls)) k d is
+  own_first k d is = get_front (type_defs m.decls) (types_of (inner_parts m.decls)) k d is
 
   pub object_number : (t : TypeId) (o : ObjectScope) → lookup (λ k. nat_eq t.0 k) all_objects ≡ Some o → HasPlace t o
   object_number t o at =
@@ -380,7 +380,7 @@ module _ (number : ℕ) (before : List Home) (types : List TypeRow) (text : List
     filled_push = λ us ss r f. tt;
     filled_scopes = λ us ss ss' same f. tt;
     filled_placed = λ us ss ss' t o base fs vs goes slot at own others all many f. tt;
-    own = scopes_typed text before standing m given.plain (IsBelow first) number_below;
+    own = scopes_typed text before standing m (IsBelow first) number_below;
     others = λ j h k s w x of there outer own found means t e.
         let known = subst (IsKnown types) e (given.named j h k s w x of there outer own found means) in
         let l = told_below types ten t known in
@@ -533,7 +533,7 @@ module _ (number : ℕ) (before : List Home) (types : List TypeRow) (text : List
       filled_scopes = objects_scopes (fields_at (type_defs m.decls)) all_objects (length (type_defs m.decls)) apart;
       filled_placed = λ us ss ss' t o base fs vs goes slot at own others all many f.
           (let l = goes.long in objects_placed (fields_at (type_defs m.decls)) all_objects (length (type_defs m.decls)) apart us ss ss' t o base fs vs (omega (arith, slot, l)) at own others all many f);
-      own = scopes_typed text before standing m given.plain (IsKnown first) number_known;
+      own = scopes_typed text before standing m (IsKnown first) number_known;
       others = λ j h k s w x of there outer own found means. known_on types first (told_behind types (first_rows (length types) ts)) of (given.named j h k s w x of there outer own found means);
       constants = constants;
     }

@@ -52,8 +52,8 @@ use Rattle.aos_check_decl.proofs.TypingTargets.{AreLed, IsGiven}
 use Rattle.aos_check_decl.proofs.TypingAliases.{IsProper, IsSound, rows_at, first_row_at, told_first, ends}
 use Rattle.aos_check_decl.proofs.TypingTables.{AllBelow, all_within}
 use Rattle.aos_check_decl.proofs.TypingLimits.{type_kept, asked_kept, flag_is, none_circular, result_scalar}
-use Rattle.aos_check_decl.proofs.TypingOnce.{module_alike, procedures_alike}
-use Rattle.aos_check_decl.proofs.TypingSlots.{own_slots, procedures_slots}
+use Rattle.aos_check_decl.proofs.TypingOnce.{module_alike, inner_types_alike, procedures_alike}
+use Rattle.aos_check_decl.proofs.TypingSlots.{own_slots, inner_slots, procedures_slots}
 use Rattle.aos_check_decl.proofs.TypingWalks.{told_below, GoesTo, IsKept, HasSlot, first, standing, count, table_long, sound, meant_below, place_meant, outline, told, all_numbers, told_numbers, object_number}
 
 -- what is known of the types before
@@ -67,7 +67,7 @@ pub record AreOld (types : List TypeRow) : Type 0 where
   pub opens : OpensStand types
 
 module _ (number : ℕ) (before : List Home) (types : List TypeRow) (text : List ℕ) (m : Module) (ts : List Target)
-    (given : IsGiven number before types m)
+    (given : IsGiven number before types)
     (constants : (j : ℕ) (h : Home) (k : ℕ) (s : Scope) → slice_get before j ≡ Some h → slice_get h.scopes k ≡ Some s → AreGood s.constants)
     (old : AreOld types) (led : AreLed types (length (all_type_defs m.decls)) (all_type_defs m.decls) ts) (once : name_breaches text m ≡ []) where
   abbrev pub table : List TypeRow
@@ -180,6 +180,7 @@ module _ (number : ℕ) (before : List Home) (types : List TypeRow) (text : List
         let all = all_numbers number before types text m ts given constants old.ten led in
         headings_sound first_walk path first_searched refl m.decls refl
         (own_slots first_walk own before m refl (module_alike text m once) all)
+        (inner_slots first_walk own before m refl (inner_types_alike text m once) all path first_searched)
         (procedures_slots first_walk own before m refl (procedures_alike text m once) all) begun fit_first none
 
     goes : IsFurther table ended.types
@@ -272,6 +273,7 @@ module _ (number : ℕ) (before : List Home) (types : List TypeRow) (text : List
       headed =
           let all = told_numbers number before types text m ts given constants old.ten led all_end in
           headings_sound second_walk path second_searched refl m.decls refl (own_slots second_walk own before m refl (module_alike text m once) all)
+          (inner_slots second_walk own before m refl (inner_types_alike text m once) all path second_searched)
           (procedures_slots second_walk own before m refl (procedures_alike text m once) all) begun (record {
             number_is = refl;
             before_is = refl;

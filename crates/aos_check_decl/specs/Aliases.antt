@@ -13,7 +13,7 @@ use Rattle.aos_symbols.specs.declared.env.Env.{Env}
 use Rattle.aos_symbols.specs.declared.breach.Breach.{Breach}
 use Rattle.aos_symbols.specs.Breaches.{first, not_built}
 use Rattle.aos_symbols.specs.Judged.{Judged, judged, kept, bind, walk}
-use Rattle.aos_symbols.specs.Declarations.{Procedure, all_procedures, type_defs}
+use Rattle.aos_symbols.specs.Declarations.{type_defs, inner_parts}
 use Rattle.aos_symbols.specs.Env as env
 use Rattle.aos_check_decl.specs.declared.aliases.Target.{Target}
 use Rattle.aos_check_decl.specs.declared.aliases.Target.TheVariants.{Own, Of, Nothing}
@@ -45,16 +45,15 @@ led_by e (type.Object' p base shape row body end) = kept Own
 abbrev pub with_target : Env → List Target → TypeDef → Judged (List Target)
 with_target e ts d = bind (led_by e d.value) (λ t. kept (ts ++ t ∷ []))
 
--- of the types of procedures and methods, whose scopes have the numbers from k on
-abbrev pub local_targets : Env → ℕ → List Target → List Procedure → Judged (List Target)
-local_targets e k ts [] = kept ts
-local_targets e k ts (p ∷ ps) =
-    bind (walk (with_target (env.within e k)) ts (type_defs p.decls)) (λ us. local_targets e (suc k) us ps)
+-- of the types that are defined within a module's declarations, in scopes that have the numbers from k on
+abbrev pub inner_targets : Env → ℕ → List Target → List (List Decl) → Judged (List Target)
+inner_targets e k ts [] = kept ts
+inner_targets e k ts (ds ∷ dss) =
+    bind (walk (with_target (env.within e k)) ts (type_defs ds)) (λ us. inner_targets e (suc k) us dss)
 
 -- of all types that a module's declarations define
 abbrev pub targets : Env → List Decl → Judged (List Target)
-targets e ds =
-    bind (walk (with_target e) [] (type_defs ds)) (λ ts. local_targets e (suc (length (type_defs ds))) ts (all_procedures ds))
+targets e ds = bind (walk (with_target e) [] (type_defs ds)) (λ ts. inner_targets e 1 ts (inner_parts ds))
 
 module _ (first : ℕ) (ts : List Target) where
   -- the target of a type of the module, of which the first has the number `first`

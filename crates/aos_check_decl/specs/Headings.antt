@@ -1,5 +1,5 @@
--- The second pass: constants, types and headings, and the environment behind them. First come the module's own declarations, then
--- those of its procedures, and then those of its types' methods.
+-- The second pass: constants, types and headings, and the environment behind them. First come the module's own declarations, then the
+-- types that its object types declare, then the declarations of its procedures, and then those of its types' methods.
 use Rattle.std.specs.Prelude.{ℕ, suc, List, [], ◌∷◌, ◌+◌, length, Bool, true, false, ◌&&◌, Option, Some, None, is_some, slice_set}
 use Rattle.std.specs.Option.{is_none}
 use Rattle.aos_base.specs.declared.text.Pos.{Pos}
@@ -18,7 +18,7 @@ use Rattle.aos_types.specs.declared.signature.Signature.{Signature}
 use Rattle.aos_symbols.specs.declared.env.Env.{Env}
 use Rattle.aos_symbols.specs.Breaches.{breach_unless}
 use Rattle.aos_symbols.specs.Judged.{Judged, judged, kept, bind, walk}
-use Rattle.aos_symbols.specs.Declarations.{Procedure, procedures, methods_in, type_defs}
+use Rattle.aos_symbols.specs.Declarations.{Procedure, procedures, inner_decls, methods_in, type_defs}
 use Rattle.aos_symbols.specs.Home.{add_signature}
 use Rattle.aos_symbols.specs.Env as env
 pub use Rattle.aos_check_decl.specs.Variables.{with_constant, constant_def, with_variable, with_variables}
@@ -59,6 +59,23 @@ declared e (decl.Consts p cs) = walk constant_def e cs
 declared e (decl.Types' p shape row) = walk type_def e (items-the_row-TypeDef _ row)
 declared e (decl.Vars' p shape row) = walk variable_def e (items-the_row-VarDef _ row)
 declared e (decl.Proc' p i def formals shape row body end) = kept e
+
+-- Types within object types: the other declarations there are met with the object type.
+
+abbrev pub inner_declared : Env → Decl → Judged Env
+inner_declared e (decl.Types' p shape row) = walk type_def e (items-the_row-TypeDef _ row)
+inner_declared e (decl.Consts p cs) = kept e
+inner_declared e (decl.Vars' p shape row) = kept e
+inner_declared e (decl.Proc' p i def formals shape row body end) = kept e
+
+-- in the scope with this number
+abbrev pub types_within : Env → ℕ → List Decl → Judged Env
+types_within e k ds = bind (walk inner_declared (env.within e k) ds) (λ f. kept (env.back_at e.path f))
+
+-- in those of definitions in turn, from this number on
+abbrev pub inner_from : Env → ℕ → List TypeDef → Judged Env
+inner_from e k [] = kept e
+inner_from e k (d ∷ ds) = bind (types_within e k (inner_decls d.value)) (λ e. inner_from e (suc k) ds)
 
 -- Headings.
 
@@ -115,5 +132,6 @@ abbrev pub headings : Env → List Decl → Judged Env
 headings e ds =
     let first = suc (length (type_defs ds)) in
     bind (walk declared e ds) (λ e.
+    bind (inner_from e 1 (type_defs ds)) (λ e.
     bind (procedures_from false e first (procedures ds)) (λ e.
-    bind (methods_from e (first + length (procedures ds)) (type_defs ds)) (λ e. overriding e (type_defs ds))))
+    bind (methods_from e (first + length (procedures ds)) (type_defs ds)) (λ e. overriding e (type_defs ds)))))

@@ -26,7 +26,7 @@ use Rattle.aos_symbols.specs.declared.env.Claim.{Claim}
 use Rattle.aos_symbols.specs.declared.env.Claim.TheVariants as claim
 use Rattle.aos_symbols.specs.declared.env.Env.{Env}
 use Rattle.aos_symbols.specs.declared.home.ObjectScope.{ObjectScope}
-use Rattle.aos_symbols.specs.Breaches.{breach, not_built}
+use Rattle.aos_symbols.specs.Breaches.{breach}
 use Rattle.aos_symbols.specs.Judged.{Judged, judged, kept, bind, walk}
 use Rattle.aos_symbols.specs.Scope.{Scope, empty, with_name, with_variable}
 use Rattle.aos_symbols.specs.Declarations.{single_variables, procedure_defs}
@@ -183,8 +183,8 @@ pointer_to slot at x m = to m.of
     to None = m
     to (Some t) = placed slot at (row.Pointer t) (claiming (target_claims x t) m.env)
 
--- Object types: at module level alone; built are those that a declaration names, without types in them. Their constants and fields stand in a scope of their own; their methods come later. A field whose type breaks a
--- rule has no type, and the row leaves it out.
+-- Object types: at module level alone, as the type of a definition. Their constants and fields stand in a scope of their own; the types that
+-- they declare and their methods come later. A field whose type breaks a rule has no type, and the row leaves it out.
 
 -- what is met of an object type: the environment, the types in its row, and those of its fields
 pub record MembersMet : Type 0 where
@@ -201,9 +201,6 @@ with_members f n m = members_met m.env (f.types ++ fields_of n m.of) (f.variable
 
 abbrev pub constant_members : MembersMet → List ConstDef → Judged MembersMet
 constant_members f cs = bind (walk constant_def f.env cs) (λ e. kept (members_met e f.types f.variables))
-
-abbrev pub refused_members : Pos → MembersMet → Judged MembersMet
-refused_members at f = judged (not_built at) f
 
 -- the names of its fields and of its methods, of which its base has none
 abbrev pub own_fields : List Decl → List Name
@@ -263,7 +260,7 @@ abbrev mutual
 
   pub member_in : MembersMet → Decl → Judged MembersMet
   member_in f (decl.Consts p cs) = constant_members f cs
-  member_in f (decl.Types' p shape row) = refused_members p f
+  member_in f (decl.Types' p shape row) = kept f
   member_in f (decl.Vars' p shape row) = variables_in f row
   member_in f (decl.Proc' p i def formals shape row body end) = kept f
 

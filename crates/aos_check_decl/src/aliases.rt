@@ -3,7 +3,7 @@
 ghost use Rattle.std.specs.Prelude.{◌≡◌, ◌+◌, ◌≤◌, ◌^◌, ◌++◌, length, map, OnOk, IfOk};
 ghost use Rattle.std.specs.List.{range_with_len};
 ghost use Rattle.aos_symbols.specs.Breaches.{first as first_of, first_after};
-ghost use Rattle.aos_symbols.specs.Declarations.{seen_procedures, type_defs, types_in};
+ghost use Rattle.aos_symbols.specs.Declarations.{seen_parts, type_defs, types_in};
 ghost use Rattle.aos_symbols.specs.Judged.{walk};
 ghost use Rattle.aos_symbols.specs.Env as env_of;
 ghost use Rattle.aos_check_decl.specs.Told.{Told, Tells};
@@ -11,12 +11,12 @@ ghost use Rattle.aos_check_decl.specs.Aliases as judge;
 ghost use Rattle.aos_check_decl.specs.Ahead as far;
 ghost use Rattle.aos_check_decl.specs.Types as types;
 
-use crate::procedures::{count_types, next};
+use crate::procedures::next;
 use aos_base::NoMemory;
-use aos_entries::all_procedures;
+use aos_entries::inner_parts;
 use aos_rules::named_type;
 use aos_symbols::{Breach, Env, NOT_BUILT, note};
-use aos_tree::{Decl, Proc, Qualident, TypeDef, TypeExpr};
+use aos_tree::{Decl, Qualident, TypeDef, TypeExpr};
 use aos_types::{TypeId, TypeRow, Types};
 use std::alloc::{AllocError, Global};
 
@@ -107,7 +107,7 @@ fn add_targets_in(
     Ok(())
 }
 
-/// What the definitions of a procedure lead to, whose scope has this number, behind those before them.
+/// What the definitions in a scope with this number lead to, behind those before them.
 fn add_targets_within(
     alloc: Global,
     found: &mut Option<Breach>,
@@ -127,28 +127,27 @@ fn add_targets_within(
     Ok(())
 }
 
-/// What the definitions of procedures lead to, behind those before them.
-fn add_targets_of_procedures(
+/// What the definitions within a module's declarations lead to, in scopes that have the numbers from 1 on, behind those before them.
+fn add_targets_of_parts(
     alloc: Global,
     found: &mut Option<Breach>,
     env: &mut Env<'_>,
-    first: u32,
     targets: &mut Vec<Target>,
-    procs: &[&Proc],
+    parts: &[&[Decl]],
 ) -> Result<(), NoMemory>
     ensures told { Tells result found.old found.new (λ _. targets.new.items)
-        (judge.local_targets env.old first targets.old.items (seen_procedures procs.now)) }
+        (judge.inner_targets env.old 1 targets.old.items (seen_parts parts.now)) }
     ensures env { OnOk result (env.new ≡ env.old) }
 {
-    let mut scope = first;
-    for proc in procs {
-        add_targets_within(alloc, found, env, scope, targets, proc.decls.as_slice())?;
+    let mut scope = 1;
+    for part in parts {
+        add_targets_within(alloc, found, env, scope, targets, part)?;
         scope = next(scope)?;
     }
     Ok(())
 }
 
-/// What the definitions of all declarations of a module lead to, its own first, and then those of its procedures and methods.
+/// What the definitions of all declarations of a module lead to, its own first, and then those within them.
 #[tactic(auto, using(aos_symbols::proofs::Keeping::after_more))]
 pub(crate) fn targets_of(
     alloc: Global,
@@ -160,13 +159,10 @@ pub(crate) fn targets_of(
         (judge.targets env.old decls.now) }
     ensures env { OnOk result (env.new ≡ env.old) }
 {
-    let Some(first) = count_types(decls)?.checked_add(1) else {
-        return Err(NoMemory);
-    };
     let mut targets = Vec::new(alloc);
     add_targets_in(found, env, &mut targets, decls)?;
-    let procs = all_procedures(alloc, decls)?;
-    add_targets_of_procedures(alloc, found, env, first, &mut targets, &procs)?;
+    let parts = inner_parts(alloc, decls)?;
+    add_targets_of_parts(alloc, found, env, &mut targets, &parts)?;
     Ok(targets)
 }
 

@@ -176,3 +176,36 @@ pub(crate) fn declare_all(
     }
     Ok(())
 }
+
+/// A declaration of an object type: what isn't met with the object type itself.
+#[tactic(auto, using(crate::proofs::Rows::inner_types))]
+fn declare_inner(
+    alloc: Global,
+    found: &mut Option<Breach>,
+    env: &mut Env<'_>,
+    decl: &Decl,
+) -> Result<(), NoMemory>
+    ensures { Tells result found.old found.new (λ _. env.new)
+        (judge.inner_declared env.old decl.now) }
+{
+    match decl {
+        Decl::Types(_, defs) => type_defs(alloc, found, env, defs.as_slice()),
+        _ => Ok(()),
+    }
+}
+
+/// The types among the declarations of an object type.
+pub(crate) fn declare_types(
+    alloc: Global,
+    found: &mut Option<Breach>,
+    env: &mut Env<'_>,
+    decls: &[Decl],
+) -> Result<(), NoMemory>
+    ensures { Tells result found.old found.new (λ _. env.new)
+        (walk judge.inner_declared env.old decls.now) }
+{
+    for decl in decls {
+        declare_inner(alloc, found, env, decl)?;
+    }
+    Ok(())
+}

@@ -7,14 +7,14 @@ ghost use Rattle.aos_types.specs.Chain.{NoneContainsItself};
 ghost use Rattle.aos_types.specs.Limit.{is_past, is_first_past};
 ghost use Rattle.aos_types.specs.Table.{row_of};
 ghost use Rattle.aos_symbols.specs.Breaches.{breach_unless, first_after};
-ghost use Rattle.aos_symbols.specs.Declarations.{all_procedures, local_types, seen_procedures, single_variables, type_defs};
+ghost use Rattle.aos_symbols.specs.Declarations.{seen_parts, seen_procedures, single_variables, type_defs, types_of};
 ghost use Rattle.aos_check_decl.specs.Told.{Tells};
 ghost use Rattle.aos_check_decl.specs.Limits as judge;
 
 use crate::claims::{drop_bases, note_claims};
 use crate::procedures::next;
 use aos_base::{NoMemory, Pos};
-use aos_entries::all_procedures;
+use aos_entries::{all_procedures, inner_parts};
 use aos_symbols::{
     Breach, CONTAINS_ITSELF, Claim, Env, Home, Scope, TOO_MANY_SCALARS, WRONG_TYPE, note,
 };
@@ -79,30 +79,25 @@ fn add_defined_by(written: &mut Vec<Written>, decls: &[Decl]) -> Result<(), Allo
     Ok(())
 }
 
-/// Puts where the types of procedures are defined behind these.
-fn add_defined_within(written: &mut Vec<Written>, procs: &[&Proc]) -> Result<(), AllocError>
+/// Puts where the types of several declarations are defined behind these.
+fn add_defined_within(written: &mut Vec<Written>, parts: &[&[Decl]]) -> Result<(), AllocError>
     ensures { OnOk result (written.new.items ≡ written.old.items ++
-        map judge.defined_at (local_types (seen_procedures procs.now))) }
+        map judge.defined_at (types_of (seen_parts parts.now))) }
 {
-    for proc in procs {
-        add_defined_by(written, proc.decls.as_slice())?;
+    for part in parts {
+        add_defined_by(written, part)?;
     }
     Ok(())
 }
 
 /// Where all types of a module stand, in the order of their numbers.
-fn written_in(
-    alloc: Global,
-    env: &Env<'_>,
-    decls: &[Decl],
-    procs: &[&Proc],
-) -> Result<Vec<Written>, AllocError>
-    requires { seen_procedures procs.now ≡ all_procedures decls.now }
+fn written_in(alloc: Global, env: &Env<'_>, decls: &[Decl]) -> Result<Vec<Written>, AllocError>
     ensures { IfOk result (λ ws. ws.items ≡ judge.written env.now decls.now) }
 {
     let mut written = Vec::new(alloc);
     add_defined_by(&mut written, decls)?;
-    add_defined_within(&mut written, procs)?;
+    let parts = inner_parts(alloc, decls)?;
+    add_defined_within(&mut written, &parts)?;
     for at in env.places.as_slice() {
         written.push(Written {
             named: *at,
@@ -426,7 +421,7 @@ fn cut_off(
 {
     let flags = env.types.cut_circles(alloc)?;
     let procs = all_procedures(alloc, decls)?;
-    let written = written_in(alloc, env, decls, &procs)?;
+    let written = written_in(alloc, env, decls)?;
     note_types(found, &env.types, &flags, first, &written)?;
     note_results(found, env, &flags, &procs)?;
     note_variables(alloc, found, env, decls)?;

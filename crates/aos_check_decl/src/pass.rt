@@ -11,20 +11,20 @@ use crate::aliases::{Target, add_rows, numbers_of, targets_of};
 use crate::limits::limits;
 use crate::procedures::{count_types, headings};
 use aos_base::NoMemory;
-use aos_entries::{all_procedures, home_of};
+use aos_entries::{home_of, inner_parts};
 use aos_symbols::{Breach, Env, Home, Open};
 use aos_tree::{Decl, Items, Module};
 use aos_types::{TypeId, Types};
 use std::alloc::{AllocError, Global};
 
-/// How many types a module's declarations define: its own, and those of its procedures and methods.
+/// How many types a module's declarations define: its own, and those that are defined within these.
 fn count_all_types(alloc: Global, decls: &[Decl]) -> Result<u32, NoMemory>
     ensures { IfOk result (λ n. n ≡ length (all_type_defs decls.now)) }
 {
     let mut count = count_types(decls)?;
-    let procs = all_procedures(alloc, decls)?;
-    for proc in &procs {
-        let Some(more) = count.checked_add(count_types(proc.decls.as_slice())?) else {
+    let parts = inner_parts(alloc, decls)?;
+    for part in &parts {
+        let Some(more) = count.checked_add(count_types(part)?) else {
             return Err(NoMemory);
         };
         count = more;

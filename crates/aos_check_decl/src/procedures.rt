@@ -7,7 +7,7 @@ ghost use Rattle.aos_symbols.specs.Declarations.{procedures, seen_types, type_de
 ghost use Rattle.aos_check_decl.specs.Told.{Tells};
 ghost use Rattle.aos_check_decl.specs.Headings as judge;
 
-use crate::declarations::{add_variable, declare_all};
+use crate::declarations::{add_variable, declare_all, declare_types};
 use crate::formals::{formals_in, result_in};
 use crate::methods::{defined_type, overriding};
 use aos_base::{NoMemory, Pos};
@@ -140,6 +140,43 @@ fn procedures_in(
     Ok(())
 }
 
+/// The types that an object type declares, whose scope has this number.
+#[tactic(auto, using(aos_symbols::proofs::Keeping::after_more))]
+fn types_within(
+    alloc: Global,
+    found: &mut Option<Breach>,
+    env: &mut Env<'_>,
+    scope: u32,
+    decls: &[Decl],
+) -> Result<(), NoMemory>
+    ensures { Tells result found.old found.new (λ _. env.new)
+        (judge.types_within env.old scope decls.now) }
+{
+    let outer = env.enter(alloc, scope)?;
+    declare_types(alloc, found, env, decls)?;
+    env.path = outer;
+    Ok(())
+}
+
+/// The types that object types declare in turn.
+#[tactic(auto, using(aos_symbols::proofs::Keeping::after_more))]
+fn inner_types(
+    alloc: Global,
+    found: &mut Option<Breach>,
+    env: &mut Env<'_>,
+    defs: &[&TypeDef],
+) -> Result<(), NoMemory>
+    ensures { Tells result found.old found.new (λ _. env.new)
+        (judge.inner_from env.old 1 (seen_types defs.now)) }
+{
+    let mut scope = 1;
+    for def in defs {
+        types_within(alloc, found, env, scope, inner_decls(&def.value))?;
+        scope = next(scope)?;
+    }
+    Ok(())
+}
+
 /// How many types a module's own declarations define.
 pub(crate) fn count_types(decls: &[Decl]) -> Result<u32, NoMemory>
     ensures { IfOk result (λ n. n ≡ length (type_defs decls.now)) }
@@ -247,10 +284,11 @@ pub(crate) fn headings(
     ensures { Tells result found.old found.new (λ _. env.new) (judge.headings env.old decls.now) }
 {
     declare_all(alloc, found, env, decls)?;
+    let defs = type_definitions(alloc, decls)?;
+    inner_types(alloc, found, env, &defs)?;
     let first = next(count_types(decls)?)?;
     procedures_in(alloc, found, env, false, first, decls)?;
     let first = behind_procedures(first, decls)?;
-    let defs = type_definitions(alloc, decls)?;
     methods_of(alloc, found, env, first, &defs)?;
     overriding(alloc, found, env, &defs)
 }

@@ -24,7 +24,7 @@ use aos_typed::Literal;
 use aos_types::{Items, MOST_SCALARS, TypeId, TypeRow};
 use std::alloc::{AllocError, Global};
 
-/// How many types can be told apart by their numbers, of which one is kept for procedures that are named.
+/// The most types that a table has, so that the number behind theirs is one of 32 bits.
 const MOST_TYPES: usize = 4_294_967_295;
 
 /// A rule that a type breaks; nothing of it is known.
@@ -423,7 +423,7 @@ fn variables_in<'a>(
     Ok(())
 }
 
-/// A declaration of an object type, whose methods come later.
+/// A declaration of an object type, whose types and methods come later.
 #[cycle(types)]
 #[tactic(auto, using(aos_symbols::proofs::Keeping::after_more))]
 fn member_in<'a>(
@@ -440,10 +440,7 @@ fn member_in<'a>(
 {
     match decl {
         Decl::Consts(_, defs) => constant_defs(alloc, found, env, defs.as_slice()),
-        Decl::Types(at, _) => {
-            note(found, NOT_BUILT, *at);
-            Ok(())
-        },
+        Decl::Types(_, _) => Ok(()),
         Decl::Vars(_, defs) => variables_in(alloc, found, env, types, variables, defs),
         Decl::Proc(_) => Ok(()),
     }

@@ -32,7 +32,7 @@ use Rattle.aos_designators.specs.Designators as desig
 use Rattle.aos_check_expr.specs.Expressions as judge
 use Rattle.aos_check_expr.specs.Expressions.{Callee, Calls, Invokes, Converts, Neither}
 use Rattle.aos_check_expr.proofs.Parts.{argument_part, arguments_part, limit_part}
-use Rattle.aos_check_expr.proofs.Spots.{IsWhole, GoodConstants, IsProcedure, MayFind, Part, Valued, Spotted, refused_part, spotted, named_spot, guarded_part}
+use Rattle.aos_check_expr.proofs.Spots.{IsWhole, GoodConstants, IsProcedure, MayFind, Part, Valued, Spotted, refused_part, refused_value_part, spotted, named_spot, guarded_part}
 use Rattle.aos_check_expr.proofs.Worded.{len_alone_part, len_in_part}
 use Rattle.aos_check_expr.proofs.Called.{IsCalling}
 use Rattle.aos_check_expr.proofs.Passed.{invoked_part}
@@ -123,19 +123,19 @@ module _ (p : Inside) (e : Env) where
 
   -- LEN of an array, and of one of its dimensions
   length_of : (at : Pos) (js : List (Judged Answer)) → Parts js → (xs : List Expr) → IsFine (judge.len_of e at js xs)
-  length_of at [] parts xs = refused_part p e 34 at
-  length_of at (j ∷ []) parts [] = refused_part p e 34 at
+  length_of at [] parts xs = refused_value_part p e 34 at
+  length_of at (j ∷ []) parts [] = refused_value_part p e 34 at
   length_of at (j ∷ []) parts (x ∷ []) =
       holds_bind (Part p e) (Valued p e) j (λ a. judge.len_alone e (out-Expr x).pos a) parts.0 (λ a g. len_alone_part p e (out-Expr x).pos a g)
-  length_of at (j ∷ []) parts (x ∷ y ∷ xs) = refused_part p e 34 at
-  length_of at (j ∷ k ∷ []) parts [] = refused_part p e 34 at
-  length_of at (j ∷ k ∷ []) parts (x ∷ []) = refused_part p e 34 at
+  length_of at (j ∷ []) parts (x ∷ y ∷ xs) = refused_value_part p e 34 at
+  length_of at (j ∷ k ∷ []) parts [] = refused_value_part p e 34 at
+  length_of at (j ∷ k ∷ []) parts (x ∷ []) = refused_value_part p e 34 at
   length_of at (j ∷ k ∷ []) parts (x ∷ y ∷ []) =
       holds_bind (Part p e) (Valued p e) j (λ a. bind k (λ d. judge.len_in e (out-Expr x).pos (out-Expr y).pos a d)) parts.0
       (λ a g. holds_bind (Part p e) (Valued p e) k (λ d. judge.len_in e (out-Expr x).pos (out-Expr y).pos a d) parts.1.0
       (λ d h. len_in_part p e (out-Expr x).pos (out-Expr y).pos a d g h))
-  length_of at (j ∷ k ∷ []) parts (x ∷ y ∷ z ∷ xs) = refused_part p e 34 at
-  length_of at (j ∷ k ∷ l ∷ js) parts xs = refused_part p e 34 at
+  length_of at (j ∷ k ∷ []) parts (x ∷ y ∷ z ∷ xs) = refused_value_part p e 34 at
+  length_of at (j ∷ k ∷ l ∷ js) parts xs = refused_value_part p e 34 at
 
   -- what can't be called
   module _ (good : GoodConstants e) where

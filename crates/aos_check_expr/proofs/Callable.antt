@@ -1,6 +1,6 @@
 -- Procedure types in an environment of bodies, values of them, and procedures that are named, which fit a procedure type that has the same
 -- formals.
-use Rattle.std.proofs.Common.{◌≡◌, ℕ, ◌+◌, ◌-◌, ◌≤◌, ◌==◌, List, [], ◌∷◌, length, map, Bool, true, false, ◌&&◌, ◌||◌, ◌⊎◌, inl, inr, not, Option, Some, None, option_map, if◌then◌else◌, refl, sym, ap, ◌∙◌, subst, eqb-true, le-ltb, arith}
+use Rattle.std.proofs.Common.{◌≡◌, ℕ, ◌+◌, ◌-◌, ◌≤◌, ◌==◌, List, [], ◌∷◌, length, map, Bool, true, false, ◌&&◌, ◌||◌, ◌⊎◌, inl, inr, not, Option, Some, None, is_some, option_map, if◌then◌else◌, refl, sym, ap, ◌∙◌, subst, eqb-true, le-ltb, arith}
 use Rattle.std.specs.List.{list_all, zip}
 use Rattle.std.proofs.lemmas.Bool.{and_parts}
 use Rattle.std.proofs.lemmas.Option.{none-some, same_Some}
@@ -18,13 +18,13 @@ use Rattle.aos_typed.specs.declared.tree.TType.TheVariants as type
 use Rattle.aos_typed.specs.Formals.{HasFormals, pattern_of}
 use Rattle.aos_typed.specs.Numbers.{id_of}
 use Rattle.aos_typed.specs.Program.{Expr, Lit, Read, Parameter, Procedure}
-use Rattle.aos_typed.specs.WellTyped.{FitsProcedure, target_in, is_reference as is_reference_type, is_procedural as is_procedural_type, is_value as is_value_type, is_basic as is_basic_type}
+use Rattle.aos_typed.specs.WellTyped.{FitsProcedure, target, target_in, is_reference as is_reference_type, is_procedural as is_procedural_type, is_value as is_value_type, is_basic as is_basic_type}
 use Rattle.aos_types.specs.declared.signature.Gives.{Gives}
 use Rattle.aos_types.specs.declared.signature.Gives.TheVariants as gives
 use Rattle.aos_types.specs.declared.signature.Signature.{Signature}
 use Rattle.aos_symbols.specs.declared.env.Env.{Env}
 use Rattle.aos_symbols.specs.Env as env
-use Rattle.aos_symbols.specs.Env.{nil, procedure}
+use Rattle.aos_symbols.specs.Env.{nil}
 use Rattle.aos_symbols.proofs.Each.{Each}
 use Rattle.aos_symbols.proofs.Told.{IsTold, basic as basic_told, of_any, defined, IsFormalType, IsResultType}
 use Rattle.aos_operators.specs.declared.known.Class.{Class}
@@ -39,7 +39,7 @@ use Rattle.aos_operators.proofs.Sound.{IsScalar, IsClosedPlace, IsOpenPlace, IsW
 use Rattle.aos_rules.specs.Signatures.{formal, given_by, row_signature, type_signature}
 use Rattle.aos_rules.specs.Assignable as assignable
 use Rattle.aos_designators.specs.Designators as desig
-use Rattle.aos_check_expr.proofs.Whole.{IsWhole, IsParameterType, AreParameters, IsResultOf, IsSigned, parameter_type, told_element, opened_row}
+use Rattle.aos_check_expr.proofs.Whole.{IsWhole, IsParameterType, AreParameters, IsResultOf, IsSigned, parameter_type, told_element, opened_row, many_types, no_row}
 use Rattle.aos_check_expr.proofs.Naming.{IsNaming}
 use Rattle.aos_check_expr.proofs.Agreeing.{agree, agree_itself, results}
 use Rattle.aos_check_expr.proofs.Objects.{either_is, row_high, high_row, high_any, high_target}
@@ -242,30 +242,38 @@ module _ (p : Inside) (e : Env) (whole : IsWhole p e) where
       by (inr (inr (inl t))) = let n : s.of.0 ≡ 9 = ap (λ (u : TypeId). u.0) t in let h = high in absurd (omega (arith, h, n))
       by (inr (inr (inr (inl o)))) = absurd (not_both (sym o.1 ∙ procedural_no_reference s.of fs r there))
       by (inr (inr (inr (inr (low, inl c))))) = c
-      by (inr (inr (inr (inr (low, inr n))))) = absurd (none-some (row.Procedure fs r) (sym whole.unnamed ∙ ap (row_of e.types) (sym n.0) ∙ there))
+      by (inr (inr (inr (inr (low, inr n))))) = absurd (none-some (row.Procedure fs r) (sym (no_row p e whole s.of n.0) ∙ there))
 
   pub callable_own : (a : Answer) (s : IsSound p a) (fs : List (Bool × TypeId)) (r : Option TypeId) → IsProcedureType s.of fs r → IsOf p a.typed (type_as s.of)
   callable_own a s fs r there = (callable_held a s fs r there).1 (type_as s.of) (procedural_itself s.of fs r there)
 
-  -- and what is of the type of procedures that are named is one
-  pub named_held : (a : Answer) (s : IsSound p a) → s.of ≡ procedure → IsNamed p a.typed
+  -- and what has the number of procedures that are named is one
+  pub named_held : (a : Answer) (s : IsSound p a) → s.of ≡ env.procedure e → IsNamed p a.typed
   named_held a s is = by s.typed
     where
-      no_row : row_of p.program.types procedure ≡ None
-      no_row = ap (λ rows. row_of rows procedure) whole.rows ∙ whole.unnamed
+      number : s.of.0 ≡ length e.types
+      number = ap (λ (u : TypeId). u.0) is
+
+      high : 10 ≤ s.of.0
+      high = let n = number in let many = many_types p e whole in omega (arith, n, many)
+
+      own : row_of e.types s.of ≡ None
+      own = no_row p e whole s.of (number ∙ ap length (sym whole.rows))
 
       none : row_of p.program.types s.of ≡ None
-      none = ap (row_of p.program.types) is ∙ no_row
+      none = ap (λ rows. row_of rows s.of) whole.rows ∙ own
 
-      no_reference : is_reference_type p.program.types (type_as procedure) ≡ false
-      no_reference = rw no_row refl
+      no_reference : is_reference_type p.program.types (type_as s.of) ≡ false
+      no_reference =
+          ap (λ b. b || is_some (target p.program.types (type_as s.of))) (high_any p e whole s.of high)
+          ∙ ap (λ o. is_some o) (high_target p e whole s.of high ∙ ap (target_in e.types s.of) own)
 
       by : IsScalar p s.of a.typed ⊎ (IsWholeRead p s.of a.typed ⊎ IsOther p s.of a.typed) → IsNamed p a.typed
-      by (inl scalar) = absurd (not_both (sym scalar.0 ∙ ap is_basic is))
+      by (inl scalar) = let h = high in absurd (not_both (sym scalar.0 ∙ le-ltb s.of.0 7 (omega (arith, h))))
       by (inr (inl (low, place, at, inl c))) = absurd (c.3 none)
       by (inr (inl (low, place, at, inr o))) = absurd (not_both (sym o.2 ∙ ap is_open none))
-      by (inr (inr (inl t))) = let n : ◌≡◌ {A = ℕ} 9 4294967295 = ap (λ (u : TypeId). u.0) (sym t ∙ is) in absurd (omega (arith, n))
-      by (inr (inr (inr (inl o)))) = absurd (not_both (sym o.1 ∙ ap (λ t. is_reference_type p.program.types (type_as t)) is ∙ no_reference))
+      by (inr (inr (inl t))) = let n : s.of.0 ≡ 9 = ap (λ (u : TypeId). u.0) t in let h = high in absurd (omega (arith, h, n))
+      by (inr (inr (inr (inl o)))) = absurd (not_both (sym o.1 ∙ no_reference))
       by (inr (inr (inr (inr (low, inl c))))) = absurd (not_both (sym c.0 ∙ ap is_procedure none))
       by (inr (inr (inr (inr (low, inr n))))) = n.1
 

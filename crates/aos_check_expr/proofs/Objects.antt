@@ -24,7 +24,7 @@ use Rattle.aos_operators.specs.Known.{Answer, is, is_basic, is_of_any, type_as}
 use Rattle.aos_operators.proofs.Types.{not_both, same_type, basic_cases, integer_cases, as_named, id_above}
 use Rattle.aos_operators.proofs.Sound.{IsScalar, IsClosedPlace, IsOpenPlace, IsWholeRead, IsOther, IsObject, IsCallable, IsNamedAs, IsRoutine, TakesObject, IsSound}
 use Rattle.aos_designators.specs.Designators as desig
-use Rattle.aos_check_expr.proofs.Whole.{IsWhole, IsWritten}
+use Rattle.aos_check_expr.proofs.Whole.{IsWhole, IsWritten, no_row}
 
 pub either_is : (a b : Bool) → (a || b) ≡ true → (a ≡ true) ⊎ (b ≡ true)
 either_is true b e = inl refl
@@ -245,7 +245,7 @@ module _ (p : Inside) (e : Env) (whole : IsWhole p e) where
     where
       by : IsCallable p t x ⊎ IsNamedAs p t x → is_procedure (Some r) ≡ true
       by (inl c) = ap is_procedure (sym there) ∙ ap (λ rows. is_procedure (row_of rows t)) (sym whole.rows) ∙ c.0
-      by (inr n) = absurd (none-some r (sym whole.unnamed ∙ ap (row_of e.types) (sym n.0) ∙ there))
+      by (inr n) = absurd (none-some r (sym (no_row p e whole t n.0) ∙ there))
 
   pub routine_no_reference : (t : TypeId) (x : Expr) → IsRoutine p t x → IsReference t → ⊥
   routine_no_reference t x o (inl is) = not_both (sym (routine_row t x o (row.Basic basic.Nil) (ap (row_of e.types) is ∙ whole.basic 7 (omega arith))))

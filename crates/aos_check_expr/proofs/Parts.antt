@@ -33,7 +33,7 @@ use Rattle.aos_operators.specs.Known.{Answer, is_number, is_lost, lost, answered
 use Rattle.aos_operators.specs.Operations as op
 use Rattle.aos_operators.proofs.Stored.{IsStored, IsMade, not_stored, made_of_one, made_of, made_kept}
 use Rattle.aos_operators.proofs.Good.{IsGood, IsSet, MayBe, IsKnownClass, number_good, set_type, set_good, set_given, single_good, joint_good, class_of_one_known, class_of_known}
-use Rattle.aos_operators.proofs.Sound.{IsSound, IsPlain, basic_some, literal_none, literal_typed, plain_sound, sound_number, IsStep, IsOperation, TestsOne, TestsTwo, stepped_plain, joined_plain, signed_step, signed_tests, opposite_step, opposite_tests, added_operation, added_tests, multiplied_operation, multiplied_tests, related_operation, related_tests, shifted_operation, shifted_tests}
+use Rattle.aos_operators.proofs.Sound.{not_both, IsSound, IsPlain, basic_some, literal_none, literal_typed, plain_sound, sound_number, IsStep, IsOperation, TestsOne, TestsTwo, stepped_plain, joined_plain, signed_step, signed_tests, opposite_step, opposite_tests, added_operation, added_tests, multiplied_operation, multiplied_tests, related_operation, related_tests, shifted_operation, shifted_tests}
 use Rattle.aos_check_expr.specs.Expressions as judge
 use Rattle.aos_check_expr.proofs.Whole.{IsWhole}
 use Rattle.aos_check_expr.proofs.Naming.{IsNaming, naming_made}
@@ -58,7 +58,7 @@ pub record IsValue (p : Inside) (e : Env) (a : Answer) : Type 0 where
 pub record AreElements (p : Inside) (e : Env) (a : Answer) : Type 0 where
   pub class : IsKnownClass IsSet a.known.class
   pub made : IsMade a.known.class
-  pub known : a.known.of ≡ Some set
+  pub known : not (is_lost a.known.class) ≡ true → a.known.of ≡ Some set
   pub typed : IsWhole p e → IsOf p a.typed type.Set
 
 -- the class of an answer
@@ -141,11 +141,12 @@ module _ (p : Inside) (e : Env) where
   step_part f right tests first own a test x free =
       let s = f a.known.of in
       let k : s.is_kept ≡ true = test (none_left own (lost (op.stepped s a).known.class first) free) in
+      let v = test_is (not (is_lost (op.stepped s a).known.class)) 20 first (none_right own (lost (op.stepped s a).known.class first) free) in
       record {
         class = stepped_class IsGood s a (single_good s.single) k x.class;
-        valued = test_is (not (is_lost (op.stepped s a).known.class)) 20 first (none_right own (lost (op.stepped s a).known.class first) free);
+        valued = v;
         made = stepped_made s a;
-        plain = λ w. stepped_plain p f right tests a (x.sound w) x.class k;
+        plain = λ w. stepped_plain p f right tests a (x.sound w) x.class k v;
       }
 
   operation_part : (f : Option TypeId → Option TypeId → Operation) → IsOperation p f → TestsTwo f → (first : Pos) (own : List Breach) (a b : Answer) →
@@ -153,11 +154,12 @@ module _ (p : Inside) (e : Env) where
   operation_part f right tests first own a b test x y free =
       let o = f a.known.of b.known.of in
       let k : o.is_kept ≡ true = test (none_left own (lost (op.joined o a b).known.class first) free) in
+      let v = test_is (not (is_lost (op.joined o a b).known.class)) 20 first (none_right own (lost (op.joined o a b).known.class first) free) in
       record {
         class = joined_class IsGood o a b (joint_good o.joint) k x.class y.class;
-        valued = test_is (not (is_lost (op.joined o a b).known.class)) 20 first (none_right own (lost (op.joined o a b).known.class first) free);
+        valued = v;
         made = joined_made o a b;
-        plain = λ w. joined_plain p f right tests a b (x.sound w) (y.sound w) x.class y.class k;
+        plain = λ w. joined_plain p f right tests a b (x.sound w) (y.sound w) x.class y.class k v;
       }
 
   pub added_part : (first at : Pos) (o : AddOp) (a b : Answer) → Part a → Part b → Holds Part (judge.added first at o a b)
@@ -249,16 +251,16 @@ module _ (p : Inside) (e : Env) where
   Elements = AreElements p e
 
   set_answered : (c : Class) (x : Expr) → IsKnownClass IsSet c → IsMade c → (IsWhole p e → IsOf p x type.Set) → Elements (answered c (Some set) x)
-  set_answered (Constant (Some v)) x g m h = record { class = g; made = m; known = ap (λ t. Some t) (set_type v g); typed = λ w. inl g }
-  set_answered (Constant None) x g m h = record { class = g; made = m; known = refl; typed = h }
+  set_answered (Constant (Some v)) x g m h = record { class = g; made = m; known = λ l. ap (λ t. Some t) (set_type v g); typed = λ w. inl g }
+  set_answered (Constant None) x g m h = record { class = g; made = m; known = λ l. absurd (not_both (sym l)); typed = h }
   set_answered Unknown x g m h = absurd g
   set_answered Variable x g m h = absurd m
   set_answered ReadOnly x g m h = absurd m
   set_answered (Procedure k n) x g m h = absurd m
-  set_answered Computed x g m h = record { class = g; made = m; known = refl; typed = h }
+  set_answered Computed x g m h = record { class = g; made = m; known = λ l. refl; typed = h }
 
   pub no_elements : Elements op.no_elements
-  no_elements = record { class = omega arith; made = tt; known = refl; typed = λ w. inl (omega arith) }
+  no_elements = record { class = omega arith; made = tt; known = λ l. refl; typed = λ w. inl (omega arith) }
 
   -- one element, and those from one to another
   element_of : (x : Answer) → Part x → (op.one_element x.known.of).is_kept ≡ true → Elements (op.stepped (op.one_element x.known.of) x)
@@ -292,8 +294,11 @@ module _ (p : Inside) (e : Env) where
   pub whole_part : (at : Pos) (a : Answer) → Elements a → Holds Part (judge.whole_set at a)
   whole_part at a h free = record {
     class = known_class_on IsSet IsGood set_good a.known.class h.class;
-    valued = test_is (not (is_lost a.known.class)) 20 at free;
+    valued = v;
     read = λ s. absurd (not_stored a.known.class h.made s);
-    sound = λ w. record { of = set; known = h.known; none = basic_some p set refl; typed = inl (refl, h.typed w) };
+    sound = λ w. record { of = set; known = h.known v; none = basic_some p set refl; typed = inl (refl, h.typed w) };
     named = λ w. naming_made p e a.known.class a.typed h.made;
   }
+    where
+      v : not (is_lost a.known.class) ≡ true
+      v = test_is (not (is_lost a.known.class)) 20 at free

@@ -35,8 +35,8 @@ use Rattle.aos_symbols.proofs.Told.{basic as basic_told, of_any, defined}
 use Rattle.aos_symbols.proofs.Holds.{Holds, holds_bind, broken, test_is, none_left, none_right}
 use Rattle.aos_operators.specs.declared.known.Class.{Class}
 use Rattle.aos_operators.specs.declared.known.Class.TheVariants.{Unknown, Constant, Variable, ReadOnly, Computed, Procedure as ClassOf}
-use Rattle.aos_operators.specs.Known.{Answer, is_basic, is_integer, is_long_text, is, passes, fits_type, object_number, type_as, type_of, as_procedure}
-use Rattle.aos_operators.proofs.Inside.{Inside, IsPlaceOf, AreRows, AreArguments, IsCalled, IsOf, IsNamed}
+use Rattle.aos_operators.specs.Known.{Answer, is_basic, is_integer, is_long_text, is, passes, fits_type, object_number, type_as, type_of, as_procedure, refused_value}
+use Rattle.aos_operators.proofs.Inside.{Inside, IsPlaceOf, AreRows, AreVariables, AreArguments, IsCalled, IsOf, IsNamed}
 use Rattle.aos_operators.proofs.Types.{same_type, id_above, as_named, as_basic, fits_includes, wider, includes_itself, integer_basic}
 use Rattle.aos_operators.proofs.Good.{IsGood, IsKnownClass}
 use Rattle.aos_operators.proofs.Stored.{IsStored}
@@ -58,7 +58,7 @@ use Rattle.aos_check_expr.proofs.Pointed.{comes_record, comes_whole}
 use Rattle.aos_check_expr.proofs.Compatible.{by_table, object_fits, whole_fits}
 use Rattle.aos_check_expr.proofs.Callable.{no_element, parameter_id, procedure_row, procedural_row, procedural_typed, procedural_value, callable_own, assignable_compatible, procedural_fits}
 use Rattle.aos_check_expr.proofs.Spots.{IsWhole, IsParameterType, elements_told, elements_id, AreParameters, IsResultOf, IsSigned, told_element, opened_row, Part, Valued, refused_value_part}
-use Rattle.aos_check_expr.proofs.Worded.{string_rows_are, string_kept, lengths_read, has_in, array_row, no_text, no_object, no_routine, characters_row, char_row}
+use Rattle.aos_check_expr.proofs.Worded.{string_rows_are, string_kept, lengths_read, variables_held, has_in, array_row, no_text, no_object, no_routine, characters_row, char_row}
 
 some_not : (n : ℕ) → Some n ≡ None → ⊥
 some_not n e = none-some n (sym e)
@@ -93,6 +93,16 @@ basic_fit u t low fit = by (is_integer u) refl fit
     by : (b : Bool) → is_integer u ≡ b → (if b && is_integer t then nat_le u.0 t.0 else is u t) ≡ true → is_basic u ≡ true
     by true i fit = integer_basic u i
     by false i fit = subst (λ v. is_basic v ≡ true) (sym (same_type u t fit)) low
+
+-- what may be written is no string constant
+no_string : (e : Env) (d : Bool) (c : Class) → judge.variable_rule d c ≡ None → arrays.string_in e c ≡ None
+no_string e false c none = absurd (some_not 32 none)
+no_string e true Unknown none = refl
+no_string e true Variable none = refl
+no_string e true ReadOnly none = absurd (some_not 33 none)
+no_string e true (Constant v) none = absurd (some_not 32 none)
+no_string e true Computed none = absurd (some_not 32 none)
+no_string e true (ClassOf m n) none = absurd (some_not 32 none)
 
 module _ (p : Inside) (e : Env) (whole : IsWhole p e) where
   -- of a parameter, by its type
@@ -275,6 +285,31 @@ module _ (p : Inside) (e : Env) (whole : IsWhole p e) where
         by None at = rw at (λ none.
             subst (λ of. HaveLengths (arrays.array_rows e (open_dimensions e.types t) of (place_in v.typed))) (sym sound.known)
             (lengths_read p e whole (open_dimensions e.types t) sound.of v.typed sound.typed))
+
+    -- what is no string constant may be written
+    variables_given : (d : Bool) (v : Answer) → Part p e v → judge.open_rule e t v.known ≡ None → judge.variable_rule d v.known.class ≡ None →
+        AreVariables p (arrays.rows_in e (open_dimensions e.types t) v)
+    variables_given d v x none written = by (no_string e d v.known.class written) none
+      where
+        sound : IsSound p v
+        sound = x.sound whole
+
+        typed : (u : TypeId) → judge.agrees e t u ≡ true → IsScalar p u v.typed ⊎ (IsWholeRead p u v.typed ⊎ IsOther p u v.typed) →
+            AreVariables p (arrays.array_rows e (open_dimensions e.types t) (Some u) (place_in v.typed))
+        typed u does (inl s) = absurd (not_both (sym s.0 ∙ (array_row p e whole u (agreeing t u does).0).1))
+        typed u does (inr (inl w)) =
+            subst (λ y. AreVariables p (arrays.array_rows e (open_dimensions e.types t) (Some u) (place_in y))) (sym w.2) (variables_held p e whole (open_dimensions e.types t) u w.1 w.3)
+        typed u does (inr (inr (inl q))) = absurd (no_text p e whole u q (array_row p e whole u (agreeing t u does).0))
+        typed u does (inr (inr (inr (inl o)))) = absurd (no_object p e whole u v.typed (array_row p e whole u (agreeing t u does).0) o)
+        typed u does (inr (inr (inr (inr r)))) = absurd (no_routine p e whole u v.typed (array_row p e whole u (agreeing t u does).0) r)
+
+        array : judge.array_rule e t v.known.of ≡ None → AreVariables p (arrays.array_rows e (open_dimensions e.types t) v.known.of (place_in v.typed))
+        array none =
+            subst (λ of. AreVariables p (arrays.array_rows e (open_dimensions e.types t) of (place_in v.typed))) (sym sound.known)
+            (typed sound.of (unless_none 35 (judge.agrees e t sound.of) (subst (λ of. judge.array_rule e t of ≡ None) sound.known none)) sound.typed)
+
+        by : arrays.string_in e v.known.class ≡ None → judge.open_rule e t v.known ≡ None → AreVariables p (arrays.rows_in e (open_dimensions e.types t) v)
+        by at = rw at array
 
   -- Arguments, one for each parameter.
 
@@ -588,7 +623,9 @@ module _ (p : Inside) (e : Env) (whole : IsWhole p e) where
       by : (opening : Bool) → is_opened e t ≡ opening → (b : Bool) → a.by_reference ≡ b → judge.or_else (writes b) (types opening b) ≡ None → IsGivenFor a (at opening b)
       by true opening b same none = λ more rest is.
           let own = is_opening a t of kind opening (open_dimensions e.types t) (type_as (open_element e.types t)) refl (elements_id e whole.opens t opening) in
-          (a, rest, open_dimensions e.types t, type_as (open_element e.types t), refl, own, rows_given t opening v x (or_none (writes b) (types true b) none).1, lengths_given t opening v x (or_none (writes b) (types true b) none).1, is)
+          let two = or_none (writes b) (types true b) none in
+          let may = λ (by_reference : a.by_reference ≡ true). variables_given t opening d v x two.1 (subst (λ c. writes c ≡ None) (sym same ∙ by_reference) two.0) in
+          (a, rest, open_dimensions e.types t, type_as (open_element e.types t), refl, own, rows_given t opening v x two.1, lengths_given t opening v x two.1, is, may)
       by false isnt true same none =
           let two = or_none (writes true) (types false true) none in
           variable_passed a t of same kind isnt d v x two.0 (unless_none 35 (judge.is_referable e t v.known.of) two.1)
@@ -721,7 +758,9 @@ module _ (p : Inside) (e : Env) where
   invoked_part first c h called js parts xs same = by (signature_of e h) refl
     where
       by_result : (s : Signature) → signature_of e h ≡ Some s → (g : Gives) → s.gives ≡ g → Holds (Valued p e) (calls.value_of_procedure e first c s js xs)
-      by_result s is gives.Nothing at = rw at (refused_value_part p e 36 first)
+      by_result s is gives.Nothing at =
+          rw at (holds_bind (λ (h : Handing). Unit {0}) (Valued p e) (calls.arguments_for e first s.parameters js xs) (λ h. refused_value 36 first) (λ none. tt)
+          (λ h any. refused_value_part p e 36 first))
       by_result s is (gives.Value of) at = rw at (function_part first c s of (λ whole. called whole s is) at js parts xs same)
 
       by : (o : Option Signature) → signature_of e h ≡ o → Holds (Valued p e) (calls.invoked e first c h js xs)

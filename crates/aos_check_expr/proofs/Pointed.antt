@@ -240,7 +240,7 @@ module _ (p : Inside) (e : Env) (whole : IsWhole p e) where
               ap (λ rows. open_element rows (first_same e.types u)) whole.rows ∙ alike.1 ∙ sym (elements_id e whole.opens u is),
             ),
           )
-          tt
+          tt tt
 
   -- Bases of records are records, and those of object types are object types.
 
@@ -591,7 +591,7 @@ module _ (p : Inside) (e : Env) (whole : IsWhole p e) where
         extension_named of t of_record is,
         as_named t (let high = new.0 in omega (arith, high)),
       ) new.1
-  guard_record of t place (opened v r same at opening rows lengths) passed of_record is =
+  guard_record of t place (opened v r same at opening rows lengths variables) passed of_record is =
       absurd (no_both (row_of e.types of) (and_parts (not (is_basic of)) _ of_record).1
       (ap (λ u. is_open (row_of e.types u)) (same_Some of v same) ∙ ap is_open (opened_row e v opening).2))
     where

@@ -24,7 +24,7 @@ use Rattle.aos_operators.specs.Forms.{added, is_test, signed, opposite, whole_se
 use Rattle.aos_rules.specs.Relations.{tested, related_by}
 use Rattle.aos_designators.specs.Designators.{plain, read}
 use Rattle.aos_designators.specs.Methods.{Part, Begun, spot_of_part, selected, as_part}
-use Rattle.aos_check_expr.specs.Expressions.{expr, relation, relation_if, simple, addition, additions, term, product, products, factor, elements, element, designator, selectors, selector, indices, index, indexed, arguments, bracketed, qualident_in}
+use Rattle.aos_check_expr.specs.Expressions.{expr, relation, relation_if, simple, addition, additions, term, product, products, factor, parenthesized, elements, element, designator, selectors, selector, indices, index, indexed, arguments, bracketed, qualident_in}
 
 -- a list of two
 pub two_items : {X : Type 0} (xs : List X) (x y d d' : X) → 2 ≤ length xs → length xs < 3 → x ≡ get_or xs 0 d → y ≡ get_or xs 1 d' → xs ≡ x ∷ y ∷ []
@@ -110,7 +110,7 @@ module _ (e : Env) where
       (selectors_row _ d.name.pos (Begun (plain e d.name)) (hidden-the_row-Selector-0 d.selectors)
       ∙ ap (λ xs. walk (selector e d.name.pos) (Begun (plain e d.name)) xs) (items_hidden-the_row-Selector-0 d.selectors))
 
-  pub factor_paren : (x : Factor) (p : Pos) (y : Expr) → x ≡ f.Paren p y → factor e x ≡ expr e y
+  pub factor_paren : (x : Factor) (p : Pos) (y : Expr) → x ≡ f.Paren p y → factor e x ≡ parenthesized e p y
   unfolding hidden-the_row-Expr-2 shape-the_row-Expr-2 hidden
   factor_paren x p y is = ap (λ y. factor e y) is
 

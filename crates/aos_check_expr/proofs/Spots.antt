@@ -1,5 +1,5 @@
 -- Designators that break no rule: variables of their types, and sound values.
-use Rattle.std.proofs.Common.{◌≡◌, ℕ, suc, ◌==◌, List, [], ◌∷◌, Bool, true, false, ◌&&◌, ◌||◌, ◌⊎◌, inl, inr, not, Option, Some, None, is_some, slice_get, option_and_then, fold, if◌then◌else◌, refl, sym, ap, ap₂, ◌∙◌, subst, eqb-true, eq-eqb, lt-ltb, arith}
+use Rattle.std.proofs.Common.{◌≡◌, ℕ, suc, ◌==◌, List, [], ◌∷◌, length, Bool, true, false, ◌&&◌, ◌||◌, ◌⊎◌, inl, inr, not, Option, Some, None, is_some, slice_get, option_and_then, fold, if◌then◌else◌, refl, sym, ap, ap₂, ◌∙◌, subst, eqb-true, eq-eqb, lt-ltb, le-ltb, arith}
 use Rattle.std.proofs.lemmas.Option.{none-some, same_Some, option_and_then_some}
 use Rattle.std.proofs.lemmas.Bool.{and_parts}
 use Rattle.aos_base.specs.declared.number.Width.TheVariants.{W64}
@@ -55,6 +55,7 @@ use Rattle.aos_designators.specs.declared.methods.Heading.TheVariants as heading
 use Rattle.aos_designators.specs.Designators as desig
 use Rattle.aos_designators.specs.Methods.{Bound}
 use Rattle.aos_check_expr.specs.Expressions as judge
+use Rattle.aos_check_expr.proofs.Whole.{many_types}
 pub use Rattle.aos_check_expr.proofs.Whole.{IsTyped, closed, opened, GoodConstants, IsParameterType, AreParameters, IsResultOf, IsSigned, IsFieldScope, IsSearched, has_fields, AreOpensTold, parameter_type, opens_told, told_element, IsWhole, NarrowsWell, text_row, no_array, array_open, no_open, opened_row, told_closed, row_opened, elements_told, elements_id}
 use Rattle.aos_check_expr.proofs.Called.{IsCalling, IsBound, if_some, through_calling}
 use Rattle.aos_check_expr.proofs.Objects.{basic_value, sound_object, of_own_type, parts_no_reference, record_no_reference, routine_no_parts, IsPartsRow}
@@ -270,6 +271,9 @@ module _ (p : Inside) (e : Env) where
   pub refused_part : (rule : ℕ) (at : Pos) → Holds Valued (desig.refused rule at)
   refused_part rule at = broken Valued _ [] _
 
+  pub refused_variable_part : (rule : ℕ) (at : Pos) → Holds Valued (desig.refused_variable rule at)
+  refused_variable_part rule at = broken Valued _ [] _
+
   pub refused_value_part : (rule : ℕ) (at : Pos) → Holds Valued (desig.refused_value rule at)
   refused_value_part rule at = broken Valued _ [] _
 
@@ -331,7 +335,7 @@ module _ (p : Inside) (e : Env) where
 
       shut : is_open (row_of p.program.types t) ≡ false
       shut = ap (λ rows. is_open (row_of rows t)) whole.rows ∙ sym (ap (λ b. not b && is_open (row_of e.types t)) other) ∙ isnt (desig.is_opened e t) refl
-  held_place whole place t other (opened v r same at opening rows lengths) =
+  held_place whole place t other (opened v r same at opening rows lengths variables) =
       let u = opened_row e v opening in
       let is = sym (same_Some t v same) in
       subst (λ t. IsClosedPlace p t place ⊎ IsOpenPlace p t place) is
@@ -341,12 +345,13 @@ module _ (p : Inside) (e : Env) where
         ap (λ rows. is_open (row_of rows v)) whole.rows ∙ ap is_open u.2,
         subst (λ types. AreRows p r (open_dimensions types v) (type_as (open_element types v))) (sym whole.rows) rows,
         lengths,
+        variables,
       ))
 
   -- one of a basic type is no open array
   low_typed : (place : Place) (t : TypeId) → is_basic t ≡ true → IsTyped p e place (Some t) → IsPlaceOf p place (type_as t)
   low_typed place t low (closed typed known) = typed
-  low_typed place t low (opened v r same at opening rows lengths) = absurd (not_both (sym low ∙ ap is_basic (same_Some t v same) ∙ (opened_row e v opening).1))
+  low_typed place t low (opened v r same at opening rows lengths variables) = absurd (not_both (sym low ∙ ap is_basic (same_Some t v same) ∙ (opened_row e v opening).1))
 
   place_read : IsWhole p e → (place : Place) (t : TypeId) → IsTyped p e place (Some t) → IsScalarOrWhole t (Read (type_as t) place)
   place_read whole place t h = by (is_basic t) refl
@@ -358,7 +363,7 @@ module _ (p : Inside) (e : Env) where
   -- nor of NIL's type
   place_some : IsWhole p e → (place : Place) (t : TypeId) → IsTyped p e place (Some t) → t ≡ nil → ⊥
   place_some whole place t (closed typed known) is = told_no_nil e.types t known is
-  place_some whole place t (opened v r same at opening rows lengths) is =
+  place_some whole place t (opened v r same at opening rows lengths variables) is =
       let u = opened_row e v opening in
       let above = whole.opens.above v u.0 u.2 in
       let n : v.0 ≡ 7 = ap (λ (w : TypeId). w.0) (sym (same_Some t v same) ∙ is) in
@@ -367,7 +372,7 @@ module _ (p : Inside) (e : Env) where
   stands_sound : IsWhole p e → (place : Place) (of : Option TypeId) → IsTyped p e place of →
       (t : TypeId) × (of ≡ Some t) × (t ≡ nil → ⊥) × IsScalarOrWhole t (Read (type_of of) place)
   stands_sound whole place None (closed typed known) = absurd known
-  stands_sound whole place None (opened t r same at opening rows lengths) = absurd (none-some t same)
+  stands_sound whole place None (opened t r same at opening rows lengths variables) = absurd (none-some t same)
   stands_sound whole place (Some t) h = (t, refl, place_some whole place t h, place_read whole place t h)
 
   pub read_sound : IsWhole p e → (k : Known) (x : Held) → IsSoundHeld p e k x → IsSound p (record { known = k; typed = read_from k.of x })
@@ -380,7 +385,7 @@ module _ (p : Inside) (e : Env) where
     where
       by : (of : Option TypeId) → of ≡ None → IsTyped p e place of → ⊥
       by None is (closed typed known) = known
-      by None is (opened t r same at opening rows lengths) = none-some t same
+      by None is (opened t r same at opening rows lengths variables) = none-some t same
       by (Some t) is s = none-some t (sym is)
   no_type k (Value x) is s = none-some s.0.of (sym is ∙ s.0.known)
 
@@ -491,14 +496,14 @@ module _ (p : Inside) (e : Env) where
   guard_part at a x t = by (desig.may_test e (desig.is_passed (desig.place_of a.held)) a.known.of (Some t)) refl
     where
       by : (b : Bool) → desig.may_test e (desig.is_passed (desig.place_of a.held)) a.known.of (Some t) ≡ b →
-          Holds Spotted (if b then kept (desig.guarded_spot e t a) else desig.spotted a.at (desig.refused 41 at))
+          Holds Spotted (if b then kept (desig.guarded_spot e t a) else desig.spotted a.at (desig.refused_variable 41 at))
       by true is = λ none. guarded_fine a x t (λ whole. is)
-      by false is = spotted a.at (desig.refused 41 at) (refused_part 41 at)
+      by false is = spotted a.at (desig.refused_variable 41 at) (refused_variable_part 41 at)
 
   bracketed_of : (of : Option TypeId) (c : Class) (h : Held) (own : Pos) → Spotted (spot of c h own) → (first at : Pos) (t : Option (Option TypeId)) →
       Holds Spotted (desig.guarded e first at (spot of c h own) t)
   bracketed_of None c h own x first at t = λ none. unknown_fine (spot None c h own) x refl own
-  bracketed_of (Some of) c h own x first at None = spotted own (desig.refused 36 first) (refused_part 36 first)
+  bracketed_of (Some of) c h own x first at None = spotted own (desig.refused_variable 36 first) (refused_variable_part 36 first)
   bracketed_of (Some of) c h own x first at (Some None) = spotted own (desig.refused 99 at) (refused_part 99 at)
   bracketed_of (Some of) c h own x first at (Some (Some t)) = guard_part at (spot (Some of) c h own) x t
 
@@ -524,12 +529,13 @@ module _ (p : Inside) (e : Env) where
         valued = refl;
         stored = λ w. w;
         sound = λ whole.
-            let y = well whole in (
+            let y = well whole in
+            let many = many_types p e whole in (
               record {
-                of = env.procedure;
+                of = env.procedure e;
                 known = refl;
-                none = λ same. let n : ◌≡◌ {A = ℕ} 4294967295 7 = ap (λ (t : TypeId). t.0) same in absurd (omega (arith, n));
-                typed = inr (inr (inr (refl, inr (refl, (y s is).2))));
+                none = λ same. let n : length e.types ≡ 7 = ap (λ (t : TypeId). t.0) same in absurd (omega (arith, n, many));
+                typed = inr (inr (inr (le-ltb (length e.types) 7 (omega (arith, many)), inr (ap length (sym whole.rows), (y s is).2))));
               },
               λ s is. (let z = y s is in (z.0, z.1, z.3)),
             );
@@ -678,7 +684,7 @@ module _ (p : Inside) (e : Env) where
   }
 
   lacking_fine : (t : TypeId) (at : Pos) → Holds Spotted (desig.lacking e t at)
-  lacking_fine t at = spotted at (desig.refused (if desig.is_built e t then 42 else 99) at) (refused_part (if desig.is_built e t then 42 else 99) at)
+  lacking_fine t at = spotted at (desig.refused_variable (if desig.is_built e t then 42 else 99) at) (refused_variable_part (if desig.is_built e t then 42 else 99) at)
 
   -- What pointers lead to.
 
@@ -778,7 +784,7 @@ module _ (p : Inside) (e : Env) where
       let of_record : is_record (row_of p.program.types (id_of (type_as t))) ≡ true =
       ap (λ i. is_record (row_of p.program.types i)) (id_as e.types t known) ∙ ap (λ rows. is_record (row_of rows t)) whole.rows ∙ r in
       subst (λ o. IsTyped p e (FieldOf place (type_as t) f.number) o) (sym g.1) (closed (inl (typed, of_record), there) g.3)
-  field_typed whole t n f is r place (opened u q same at opening rows lengths) =
+  field_typed whole t n f is r place (opened u q same at opening rows lengths variables) =
       absurd (no_open_record (row_of e.types t) r (ap (λ v. is_open (row_of e.types v)) (same_Some t u same) ∙ ap is_open (opened_row e u opening).2))
     where
       no_open_record : (o : Option TypeRow) → is_record o ≡ true → is_open o ≡ true → ⊥
@@ -797,9 +803,9 @@ module _ (p : Inside) (e : Env) where
   field_in t a x known q n = by (desig.has_fields e t) refl
     where
       seen : (f : Field) (b : Bool) → Spotted (desig.field_spot e t f n.pos a) →
-          Holds Spotted (if b then kept (desig.field_spot e t f n.pos a) else desig.spotted n.pos (desig.refused 15 n.pos))
+          Holds Spotted (if b then kept (desig.field_spot e t f n.pos a) else desig.spotted n.pos (desig.refused_variable 15 n.pos))
       seen f true s = λ none. s
-      seen f false s = spotted n.pos (desig.refused 15 n.pos) (refused_part 15 n.pos)
+      seen f false s = spotted n.pos (desig.refused_variable 15 n.pos) (refused_variable_part 15 n.pos)
 
       low : (b : Bool) → not b ≡ true → b ≡ false
       low true h = absurd (not_both (sym h))
@@ -841,14 +847,14 @@ module _ (p : Inside) (e : Env) where
       ap (λ i. row_of p.program.types i) (id_as e.types t known) ∙ ap (λ rows. row_of rows t) whole.rows
       ∙ r ∙ ap (λ v. Some (row.Array m v)) (sym (id_as e.types u told)) in
       closed (type_as t, typed, there, sound_number p i s k, refl) told
-  element_typed whole t u m i r s k place (opened v q same at opening rows lengths) =
+  element_typed whole t u m i r s k place (opened v q same at opening rows lengths variables) =
       absurd (array_open m u (sym (ap (λ w. is_open w) (subst (λ v. env.row_of e (Some v) ≡ Some (row.Array m u)) (same_Some t v same) r)) ∙ (and_parts (not (is_basic v)) _ opening).1))
 
   -- an element of an open array, which is an open array or has a type that is told
   row_typed : IsWhole p e → (t u : TypeId) (i : Answer) → is_basic t ≡ false → env.row_of e (Some t) ≡ Some (row.Open u) → IsSound p i → is_number i.known.of ≡ true →
       IsPartOf (Some t) (Some u) (λ place. Of (Row (desig.rows_of place) (type_as (open_element e.types t)) i.typed))
   row_typed whole t u i low r s k place (closed typed known) = absurd (told_closed e whole.opens t known (row_opened e t u low r))
-  row_typed whole t u i low r s k place (opened v q same at opening rows lengths) =
+  row_typed whole t u i low r s k place (opened v q same at opening rows lengths variables) =
       subst (λ place. IsTyped p e (Of (Row (desig.rows_of place) E i.typed)) (Some u)) (sym at) (by (whole.opens.elements t u r))
     where
       E : TType
@@ -869,8 +875,8 @@ module _ (p : Inside) (e : Env) where
       by (inl told) =
           let none = told_element e whole.opens u told in
           let is : type_as u ≡ E = ap type_as (sym (closed_element e.types u none)) ∙ elements in
-          closed (subst (λ T. AreRows p q 1 T) (sym is) (subst (λ n. AreRows p q (suc n) E) (closed_dimensions e.types u none) deep), index, is) told
-      by (inr more) = opened u (Row q E i.typed) refl refl more (subst (λ T. AreRows p q (suc (open_dimensions e.types u)) T) (sym elements) deep, index, elements) lengths
+          closed ((subst (λ T. AreRows p q 1 T) (sym is) (subst (λ n. AreRows p q (suc n) E) (closed_dimensions e.types u none) deep), index, is), variables) told
+      by (inr more) = opened u (Row q E i.typed) refl refl more (subst (λ T. AreRows p q (suc (open_dimensions e.types u)) T) (sym elements) deep, index, elements) lengths variables
 
   element_in : (t : TypeId) (c : Class) (held : Held) (at : Pos) → Spotted (record { known = record { of = Some t; class = c }; held = held; at = at }) → (q : Pos) (i : Answer) → Part i →
       Holds Spotted (desig.element_of e q (record { known = record { of = Some t; class = c }; held = held; at = at }) i)
@@ -880,17 +886,17 @@ module _ (p : Inside) (e : Env) where
       a = record { known = record { of = Some t; class = c }; held = held; at = at }
 
       tested : is_basic t ≡ false → (m : ℕ) (u : TypeId) → env.row_of e (Some t) ≡ Some (row.Array m u) → (b : Bool) → is_number i.known.of ≡ b →
-          Holds Spotted (if b then kept (desig.element_spot m u i a) else desig.spotted q (desig.refused 42 q))
+          Holds Spotted (if b then kept (desig.element_spot m u i a) else desig.spotted q (desig.refused_variable 42 q))
       tested other m u r true k =
           λ none. part_fine true (Some u) (λ place. Index place m (type_as u) i.typed) at a x t refl (other, λ whole. (row.Array m u, r, tt)) (λ whole. element_typed whole t u m i r (y.sound whole) k)
-      tested other m u r false k = spotted q (desig.refused 42 q) (refused_part 42 q)
+      tested other m u r false k = spotted q (desig.refused_variable 42 q) (refused_variable_part 42 q)
 
       row_tested : is_basic t ≡ false → (u : TypeId) → env.row_of e (Some t) ≡ Some (row.Open u) → (b : Bool) → is_number i.known.of ≡ b →
-          Holds Spotted (if b then kept (desig.row_spot (open_element e.types t) u i a) else desig.spotted q (desig.refused 42 q))
+          Holds Spotted (if b then kept (desig.row_spot (open_element e.types t) u i a) else desig.spotted q (desig.refused_variable 42 q))
       row_tested other u r true k =
           λ none. part_fine true (Some u) (λ place. Of (Row (desig.rows_of place) (type_as (open_element e.types t)) i.typed)) at a x t refl (other, λ whole. (row.Open u, r, tt))
           (λ whole. row_typed whole t u i other r (y.sound whole) k)
-      row_tested other u r false k = spotted q (desig.refused 42 q) (refused_part 42 q)
+      row_tested other u r false k = spotted q (desig.refused_variable 42 q) (refused_variable_part 42 q)
 
       in_row : is_basic t ≡ false → (r : Option TypeRow) → env.row_of e (Some t) ≡ r → Holds Spotted (desig.element_in_row e q a i t r)
       in_row other (Some (row.Array m u)) r = tested other m u r (is_number i.known.of) refl

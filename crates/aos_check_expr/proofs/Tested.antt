@@ -16,13 +16,13 @@ use Rattle.aos_typed.specs.Program.{Place, Expr, Lit, Is, IsRecord}
 use Rattle.aos_typed.specs.declared.tree.Literal.TheVariants as literal
 use Rattle.aos_typed.specs.WellTyped.{is_reference as is_reference_type, is_procedural as is_procedural_type}
 use Rattle.aos_symbols.specs.declared.env.Env.{Env}
-use Rattle.aos_symbols.specs.Env.{boolean, nil, procedure}
+use Rattle.aos_symbols.specs.Env as env
+use Rattle.aos_symbols.specs.Env.{boolean, nil}
 use Rattle.aos_symbols.proofs.Holds.{Holds, holds_bind, none_left, none_right, test_is, broken}
 use Rattle.aos_operators.proofs.Inside.{Inside, IsPlaceOf, IsOf, IsNamed}
-use Rattle.aos_operators.specs.declared.known.Class.{Class}
-use Rattle.aos_operators.specs.declared.known.Class.TheVariants.{Unknown, Computed}
+use Rattle.aos_operators.specs.declared.known.Class.TheVariants.{Computed}
 use Rattle.aos_operators.specs.declared.operations.Operation.{Operation}
-use Rattle.aos_operators.specs.Known.{Answer, is, is_basic, is_of_any, is_lost, is_nil, value_class, type_as, answered, as_procedure, object_number}
+use Rattle.aos_operators.specs.Known.{Answer, is, is_basic, is_of_any, is_lost, is_nil, type_as, answered, as_procedure, object_number}
 use Rattle.aos_operators.specs.Operations as op
 use Rattle.aos_operators.proofs.Types.{not_both, same_type}
 use Rattle.aos_operators.proofs.Good.{IsGood, IsKnownClass, joint_good, class_of_known}
@@ -106,11 +106,12 @@ module _ (p : Inside) (e : Env) where
       let class = class_of_known IsGood q.joint (joint_good q.joint) a.known.class b.known.class g h in
       let made = made_of q.joint a.known.class b.known.class in
       let own : IsMade (answered c (Some boolean) typed).known.class = class_answered IsMade c (Some boolean) typed made in
+      let v = subst (λ z. not (is_lost z.known.class) ≡ true) (joined_is kept) (test_is (not (is_lost (op.joined q a b).known.class)) 20 first (none_right _ _ none)) in
       subst (Part p e) (sym (joined_is kept)) (record {
         class = class_answered (IsKnownClass IsGood) c (Some boolean) typed class;
-        valued = subst (λ z. not (is_lost z.known.class) ≡ true) (joined_is kept) (test_is (not (is_lost (op.joined q a b).known.class)) 20 first (none_right _ _ none));
+        valued = v;
         read = λ s. absurd (not_stored (answered c (Some boolean) typed).known.class own s);
-        sound = λ w. plain_sound p (answered c (Some boolean) typed) (answered_plain p c boolean typed class made refl (right w kept));
+        sound = λ w. plain_sound p (answered c (Some boolean) typed) (answered_plain p c boolean typed v class made refl (right w kept));
         named = λ w. naming_made p e (answered c (Some boolean) typed).known.class (answered c (Some boolean) typed).typed own;
       })
     where
@@ -138,17 +139,17 @@ module _ (p : Inside) (e : Env) where
       procedural : desig.is_procedural e s.of ≡ true → HasProcedure a.typed
       procedural is = let r = procedural_row p e whole s.of is in inl (type_as s.of, callable_own p e whole a s r.0 r.1 r.2, procedural_typed p e whole s.of r.0 r.1 r.2)
 
-      known : (is procedure s.of ≡ true) ⊎ (desig.is_procedural e s.of ≡ true) → HasProcedure a.typed
-      known (inl q) = inr (named_held p e whole a s (sym (same_type procedure s.of q)))
+      known : (is (env.procedure e) s.of ≡ true) ⊎ (desig.is_procedural e s.of ≡ true) → HasProcedure a.typed
+      known (inl q) = inr (named_held p e whole a s (sym (same_type (env.procedure e) s.of q)))
       known (inr q) = procedural q
 
-      some : is_nil a.known.class ≡ false → (is nil s.of ≡ true) ⊎ ((is procedure s.of || desig.is_procedural e s.of) ≡ true) → HasProcedure a.typed
+      some : is_nil a.known.class ≡ false → (is nil s.of ≡ true) ⊎ ((is (env.procedure e) s.of || desig.is_procedural e s.of) ≡ true) → HasProcedure a.typed
       some other (inl n) = absurd (not_both (sym (s.none (sym (same_type nil s.of n))) ∙ other))
-      some other (inr q) = known (either_is (is procedure s.of) (desig.is_procedural e s.of) q)
+      some other (inr q) = known (either_is (is (env.procedure e) s.of) (desig.is_procedural e s.of) q)
 
       by : (b : Bool) → is_nil a.known.class ≡ b → HasProcedure (if b then Lit literal.NoProcedure else a.typed)
       by true none = inr refl
-      by false other = some other (either_is (is nil s.of) (is procedure s.of || desig.is_procedural e s.of) may)
+      by false other = some other (either_is (is nil s.of) (is (env.procedure e) s.of || desig.is_procedural e s.of) may)
 
   matched : (r : Relation) (b : Bool) (x y : Expr) → HasProcedure x → HasProcedure y → IsOf p (op.joint_typed (op.matched r b).joint x y) type.Boolean
   matched rel.NotEqual b x y h k = ((h, k, refl), refl)
@@ -193,10 +194,6 @@ module _ (p : Inside) (e : Env) where
       by : (o : Option TypeId) → is_some o ≡ true → (u : TypeId) × (o ≡ Some u)
       by (Some u) is = (u, refl)
       by None is = absurd (not_both (sym is))
-
-  computed : (c : Class) → IsKnownClass IsGood c → value_class c ≡ Computed
-  computed Unknown known = absurd known
-  computed c known = refl
 
   -- a record that a VAR parameter stands for, in an expression that reads it
   record_tested : IsWhole p e → (a : Answer) (s : IsSound p a) (u : TypeId) → desig.is_record_type e s.of ≡ true → desig.is_extension e s.of u ≡ true → desig.is_passed (desig.place_in a.typed) ≡ true →
@@ -264,10 +261,10 @@ module _ (p : Inside) (e : Env) where
       with_type u none =
           let takes = judge.may_test e a (Some u) in
           let may : takes ≡ true = test_is takes 41 at none in
-          rw (may, computed a.known.class x.class) (record {
+          rw may (record {
             class = tt;
             valued = refl;
             read = λ w. absurd w;
-            sound = λ w. plain_sound p (answered Computed (Some boolean) (judge.test_typed e a (Some u))) (answered_plain p Computed boolean (judge.test_typed e a (Some u)) tt tt refl (test_typed w a (x.sound w) u may));
+            sound = λ w. plain_sound p (answered Computed (Some boolean) (judge.test_typed e a (Some u))) (answered_plain p Computed boolean (judge.test_typed e a (Some u)) refl tt tt refl (test_typed w a (x.sound w) u may));
             named = λ w. tt;
           })

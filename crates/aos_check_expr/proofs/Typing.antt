@@ -49,7 +49,7 @@ use Rattle.aos_check_expr.specs.Expressions as judge
 use Rattle.aos_check_expr.proofs.Parts.{Elements, as_part, constant_part, added_part, multiplied_part, related_part, signed_part, opposite_part, number_part, character_part, string_part, no_elements, with_element_part, with_span_part, whole_part}
 use Rattle.aos_check_expr.proofs.Selves.{object_type_row}
 use Rattle.aos_check_expr.proofs.Called.{IsCalling, IsBound, if_some, and_then_some, dispatched_calling, own_calling, raised_calling}
-use Rattle.aos_check_expr.proofs.Spots.{MayFind, IsStoredHeld, Part, Spotted, refused_part, refused_value_part, spotted, object_held, guarded_part, plain_head, behind_head, procedure_part, called_named, variable_named, bound_value, named_spot, field_part, element_part, followed_part, read_part}
+use Rattle.aos_check_expr.proofs.Spots.{MayFind, IsStoredHeld, Part, Spotted, refused_variable_part, refused_value_part, spotted, object_held, guarded_part, plain_head, behind_head, procedure_part, called_named, variable_named, bound_value, named_spot, field_part, element_part, followed_part, read_part}
 use Rattle.aos_check_expr.proofs.Passed.{invoked_part}
 use Rattle.aos_check_expr.proofs.Tested.{objects_part, procedures_part, tested_part}
 use Rattle.aos_check_expr.proofs.CallParts.{Parts, called_part}
@@ -107,16 +107,16 @@ module _ (p : Inside) (e : Env) (good : GoodConstants e) where
   spot_fine (judge.Waits b) x = unbound_fine b x
 
   selected_name_fine : (q : Pos) (h : Head) → MayFind p e h.found → IsFineSpot (judge.selected_name e q h)
-  selected_name_fine q h may = by (judge.is_method h.found)
+  selected_name_fine q h may = by (judge.is_callable h.found)
     where
-      by : (b : Bool) → IsFineSpot (if b then desig.spotted h.first (desig.refused 42 q) else desig.named e h)
-      by true = spotted p e h.first (desig.refused 42 q) (refused_part p e 42 q)
+      by : (b : Bool) → IsFineSpot (if b then desig.spotted h.first (desig.refused_variable 42 q) else desig.named e h)
+      by true = spotted p e h.first (desig.refused_variable 42 q) (refused_variable_part p e 42 q)
       by false = named_spot p e good h may
 
   selected_fine : (q : Pos) (a : judge.Part) → Parted a → IsFineSpot (judge.selected e q a)
   selected_fine q (judge.Begun h) may = selected_name_fine q h may
   selected_fine q (judge.Meant a) x = λ none. x
-  selected_fine q (judge.Waits b) x = spotted p e b.first (desig.refused 42 q) (refused_part p e 42 q)
+  selected_fine q (judge.Waits b) x = spotted p e b.first (desig.refused_variable 42 q) (refused_variable_part p e 42 q)
 
   -- a method of an object, or a field
   pointed_spot_fine : (first : Pos) (a : Spot) → Spotted p e a → (q : Pos) (n : Name) → IsFinePart (judge.pointed_spot e first a q n)
@@ -131,9 +131,9 @@ module _ (p : Inside) (e : Env) (good : GoodConstants e) where
           dispatched_calling p e whole t (read_from a.known.of a.held) m n (object_held p e whole a x t known two.0) (object_type_row p e whole t two.0).1 two.1
 
       seen : (t : TypeId) (m : Method) → IsBound p e (judge.dispatched first (read_from a.known.of a.held) t m) → (b : Bool) →
-          IsFinePart (if b then kept (judge.Waits (judge.dispatched first (read_from a.known.of a.held) t m)) else judge.as_part (desig.spotted n.pos (desig.refused 15 n.pos)))
+          IsFinePart (if b then kept (judge.Waits (judge.dispatched first (read_from a.known.of a.held) t m)) else judge.as_part (desig.spotted n.pos (desig.refused_variable 15 n.pos)))
       seen t m bound true = λ none. bound
-      seen t m bound false = part_of (desig.spotted n.pos (desig.refused 15 n.pos)) (spotted p e n.pos (desig.refused 15 n.pos) (refused_part p e 15 n.pos))
+      seen t m bound false = part_of (desig.spotted n.pos (desig.refused_variable 15 n.pos)) (spotted p e n.pos (desig.refused_variable 15 n.pos) (refused_variable_part p e 15 n.pos))
 
       by : (of : Option TypeId) → a.known.of ≡ of → (o : Option Method) → judge.method_of e a.known.of n ≡ o → IsFinePart (judge.pointed_as e first a q n of o)
       by None known None found = plain
@@ -160,7 +160,7 @@ module _ (p : Inside) (e : Env) (good : GoodConstants e) where
   raised_fine h q = by (judge.upper_here e h) refl
     where
       by : (o : Option judge.Bound) → judge.upper_here e h ≡ o → IsFinePart (judge.raised_to o h.first q)
-      by None found = part_of (desig.spotted h.first (desig.refused 46 q)) (spotted p e h.first (desig.refused 46 q) (refused_part p e 46 q))
+      by None found = part_of (desig.spotted h.first (desig.refused_variable 46 q)) (spotted p e h.first (desig.refused_variable 46 q) (refused_variable_part p e 46 q))
       by (Some b) found = λ none whole. raised_calling p e whole h b found
 
   followed_part_fine : (a : judge.Part) → Parted a → (q : Pos) → IsFinePart (judge.followed_part e a q)
@@ -270,7 +270,7 @@ module _ (p : Inside) (e : Env) (good : GoodConstants e) where
     factor_fine (f.Set' q shape row) =
         holds_bind (Elements p e) (Part p e) (judge.elements e q op.no_elements row) (λ a. judge.whole_set q a)
         (elements_fine q op.no_elements (no_elements p e) row) (λ a h. whole_part p e q a h)
-    factor_fine (f.Paren' q shape row) = held_fine row
+    factor_fine (f.Paren' q shape row) = after (judge.held e row) (λ a. judge.enclosed q a) (held_fine row) (λ a h none. h)
     factor_fine (f.Not' q shape row) = after (judge.held_factor e row) (λ a. judge.opposite q a) (held_factor_fine row) (λ a h. opposite_part p e q a h)
 
     held_fine : {m : _} (r : Row_of-Expr m) → IsFine (judge.held e r)

@@ -58,7 +58,7 @@ use Rattle.aos_operators.specs.declared.operations.Joint.{Joint}
 use Rattle.aos_operators.specs.declared.operations.Joint.TheVariants as joint
 use Rattle.aos_operators.specs.declared.operations.Step.{Step}
 use Rattle.aos_operators.specs.declared.operations.Operation.{Operation}
-use Rattle.aos_operators.specs.Known.{Answer, Spot, Held, Stands, Value, read_from, type_as, typed_as, is_basic, is_nil, is_number, value_class, as_procedure}
+use Rattle.aos_operators.specs.Known.{Answer, Spot, Held, Stands, Value, read_from, type_as, typed_as, is_basic, is_nil, is_number, as_procedure}
 use Rattle.aos_operators.specs.Operations as op
 use Rattle.aos_rules.specs.declared.functions.Taking.TheVariants as taking
 use Rattle.aos_rules.specs.Arguments.{Given}
@@ -359,7 +359,7 @@ module _ (e : Env) where
   len_calm : (a : Answer) (d : ℕ) → Calm a → Calm (judge.len_answer e a d)
   len_calm a d calm =
       let r = desig.rows_of (desig.place_in a.typed) in
-      typed_calm (op.kept_class (judge.is_array e a.known.of) (value_class a.known.class)) (judge.len_typed e a.known.of r d)
+      typed_calm Computed (judge.len_typed e a.known.of r d)
       (len_typed_calm a.known.of r d (rows_calm (desig.place_in a.typed) (place_in_calm a.typed calm)))
 
   test_calm : (of : Option TypeId) (c : Class) (x : Expr) (t : Option TypeId) → HasNoCalls x → HasNoCalls (judge.test_typed e (record { known = record { of = of; class = c }; typed = x }) t)
@@ -371,7 +371,7 @@ module _ (e : Env) where
   tested_calm at a None calm = tt
   tested_calm at a (Some q) calm =
       let t = (judge.known_type e q).answer in
-      typed_calm (op.kept_class (judge.may_test e a t) (value_class a.known.class)) (judge.test_typed e a t) (test_calm a.known.of a.known.class a.typed t calm)
+      typed_calm Computed (judge.test_typed e a t) (test_calm a.known.of a.known.class a.typed t calm)
 
   operand_calm : (a : Answer) → Calm a → HasNoCalls (as_procedure a)
   operand_calm a calm = either HasNoCalls (is_nil a.known.class) _ _ tt calm
@@ -470,7 +470,7 @@ module _ (e : Env) (within : e.is_condition ≡ true) where
   result_calm first c gives.Nothing ps js xs = tt
   result_calm first c (gives.Value of) ps js xs =
       let h = (judge.arguments_for e first ps js xs).answer in
-      typed_calm (op.kept_class h.are_kept Computed) (judge.function_typed e.is_condition c h.given) (called_nothing h.given)
+      typed_calm (judge.function_class h.are_kept) (judge.function_typed e.is_condition c h.given) (called_nothing h.given)
     where
       called_nothing : (given : List Given) → HasNoCalls (judge.function_typed e.is_condition c given)
       called_nothing given = rw within tt
@@ -545,7 +545,7 @@ module _ (e : Env) (within : e.is_condition ≡ true) where
   spot_calm (judge.Waits b) calm = unbound_calm b.callee b.heading b.first calm
 
   selected_name_calm : (p : Pos) (h : Head) → IsCalm (judge.selected_name e p h).answer
-  selected_name_calm p h = either IsCalmSpot (judge.is_method h.found) _ _ tt (named_calm e h)
+  selected_name_calm p h = either IsCalmSpot (judge.is_callable h.found) _ _ tt (named_calm e h)
 
   selected_calm : (p : Pos) (a : judge.Part) → IsCalmPart a → IsCalm (judge.selected e p a).answer
   selected_calm p (judge.Begun h) calm = selected_name_calm p h

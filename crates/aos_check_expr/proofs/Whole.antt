@@ -1,6 +1,6 @@
 -- Environments of bodies, in which each variable has its type: what is known of its table of types.
 use Rattle.std.proofs.Common.{◌≡◌, ℕ, ◌+◌, ◌≤◌, ◌<◌, List, [], ◌∷◌, length, Bool, true, false, ◌==◌, ◌&&◌, ◌⊎◌, inl, inr, not, Option, Some, None, is_some, option_map, slice_get, refl, sym, ap, ◌∙◌, le-ltb, arith}
-use Rattle.std.proofs.lemmas.Option.{none-some, same_Some, slice_get_within}
+use Rattle.std.proofs.lemmas.Option.{none-some, same_Some, slice_get_within, slice_get_past}
 use Rattle.std.proofs.lemmas.Bool.{and_parts}
 use Rattle.aos_base.specs.declared.text.Pos.{Pos}
 use Rattle.aos_tree.specs.declared.name.Name.{Name}
@@ -39,7 +39,7 @@ use Rattle.aos_symbols.specs.Env as env
 use Rattle.aos_symbols.specs.Env.{nil, text}
 use Rattle.aos_symbols.proofs.Each.{Each}
 use Rattle.aos_symbols.proofs.Told.{IsTold, basic as basic_told, of_any, defined, IsKnown, PartsAreTold}
-use Rattle.aos_operators.proofs.Inside.{Inside, IsPlaceOf, AreRows}
+use Rattle.aos_operators.proofs.Inside.{Inside, IsPlaceOf, AreRows, AreVariables}
 use Rattle.aos_operators.specs.Known.{Spot, is_basic, object_number, type_as, type_of}
 use Rattle.aos_operators.proofs.Good.{HasGood}
 use Rattle.aos_operators.proofs.Types.{not_both, id_as}
@@ -50,7 +50,7 @@ use Rattle.aos_check_expr.proofs.Opens.{OpensFall, OpensStand, IsVariableNumber,
 pub data IsTyped (p : Inside) (e : Env) (place : Place) (of : Option TypeId) : Type 0 where
   closed : IsPlaceOf p place (type_of of) → IsKnown e.types of → IsTyped p e place of
   opened : (t : TypeId) (r : Rows) → of ≡ Some t → place ≡ Of r → desig.is_opened e t ≡ true →
-      AreRows p r (open_dimensions e.types t) (type_as (open_element e.types t)) → HaveLengths r → IsTyped p e place of
+      AreRows p r (open_dimensions e.types t) (type_as (open_element e.types t)) → HaveLengths r → AreVariables p r → IsTyped p e place of
 
 -- a row that modules write
 abbrev pub IsWritten : TypeRow → Type 0
@@ -186,11 +186,18 @@ pub record IsWhole (p : Inside) (e : Env) : Type 0 where
       (s : Signature) → env.signature e m.home m.number ≡ Some s → (q : Procedure) × (method_in p.program (object_number t) m.slot ≡ Some q) × (q.result ≡ None) × IsSigned e s q
   pub patterns : (t : TypeId) (formals : List (Bool × TypeId)) (r : Option TypeId) → row_of e.types t ≡ Some (row.Procedure formals r) →
       (q : Procedure) × (pattern_of p.program (type.Named (object_number t)) ≡ Some q) × IsPattern q formals r
-  pub unnamed : row_of e.types env.procedure ≡ None
   pub signatures : (m k : ℕ) (s : Scope) (w : List ℕ) (x : Entry) → env.scope e (env.own m) ≡ Some s → find s w ≡ Some x → x.means ≡ means.Procedure k →
       (g : Signature) → env.signature e m k ≡ Some g → (q : Procedure) × (procedure_in p.program m k ≡ Some q) × IsSigned e g q
   pub strings : (m : ℕ) (h : Home) → env.home e m ≡ Some h →
       (x : Module) × (slice_get p.program.modules m ≡ Some x) × (length x.variables ≡ env.variable_count e m) × (x.texts ≡ texts_of h)
+
+-- the predeclared types are there
+pub many_types : (p : Inside) (e : Env) → IsWhole p e → 10 ≤ length e.types
+many_types p e whole = let many = whole.objects in omega (arith, many)
+
+-- what a procedure that is named has in the place of a type's number has no row
+pub no_row : (p : Inside) (e : Env) → IsWhole p e → (t : TypeId) → t.0 ≡ length p.program.types → row_of e.types t ≡ None
+no_row p e whole t is = let long = ap length whole.rows in slice_get_past e.types t.0 (omega (arith, is, long))
 
 -- the type of string constants has no parts
 pub text_row : (p : Inside) (e : Env) → IsWhole p e → (t : TypeId) (r : TypeRow) → t ≡ text → env.row_of e (Some t) ≡ Some r → row.Basic (basic.Text 0) ≡ r

@@ -25,7 +25,7 @@ use Rattle.aos_typed.specs.Numbers.{id_of}
 use Rattle.aos_typed.specs.declared.tree.TType.{TType}
 use Rattle.aos_typed.specs.Open.{open_dimensions, open_element}
 use Rattle.aos_typed.specs.Program.{Place, ModuleVar, Local, Passed, Field, Index, Of, Rows, Known as KnownRows, Longer, Expr, CompareTexts, Len, LenBehind, Deref, Typed, Guarded}
-use Rattle.aos_typed.specs.WellTyped.{HaveLengths, IsLength as IsArrayLength, dimension, IsConstantText}
+use Rattle.aos_typed.specs.WellTyped.{HaveLengths, IsLength as IsArrayLength, dimension, IsConstantText, IsNoConstant}
 use Rattle.aos_symbols.specs.declared.env.Env.{Env}
 use Rattle.aos_symbols.specs.Home.{Home, character, between_quotes, string_number, string_in}
 use Rattle.aos_symbols.specs.Env as env
@@ -34,12 +34,12 @@ use Rattle.aos_symbols.proofs.Each.{Each, all_of}
 use Rattle.aos_symbols.proofs.Found.{some_found}
 use Rattle.aos_symbols.proofs.Told.{IsLength}
 use Rattle.aos_symbols.proofs.Holds.{Holds, none_left, none_right, test_is}
-use Rattle.aos_operators.proofs.Inside.{Inside, IsPlaceOf, AreRows, IsOf}
+use Rattle.aos_operators.proofs.Inside.{Inside, IsPlaceOf, AreRows, AreVariables, IsOf}
 use Rattle.aos_operators.specs.declared.known.Class.{Class}
-use Rattle.aos_operators.specs.declared.known.Class.TheVariants.{Unknown, Constant, Computed}
+use Rattle.aos_operators.specs.declared.known.Class.TheVariants.{Unknown, Constant}
 use Rattle.aos_operators.specs.declared.known.Known.{Known}
 use Rattle.aos_operators.specs.declared.operations.Joint.TheVariants as joint
-use Rattle.aos_operators.specs.Known.{Answer, is_basic, is_lost, value_class, type_as}
+use Rattle.aos_operators.specs.Known.{Answer, is_basic, is_lost, type_as}
 use Rattle.aos_operators.specs.Operations as op
 use Rattle.aos_operators.proofs.Types.{same_type}
 use Rattle.aos_operators.proofs.Good.{IsGood, MayBe, IsKnownClass, natural_below, joint_good, class_of_known}
@@ -245,6 +245,41 @@ module _ (p : Inside) (e : Env) (whole : IsWhole p e) where
       by None c typed is = absurd (not_both (sym is))
       by (Some t) c typed is = rows_read t c place (held_place p e whole place t (characters_row t c is).0.1 typed) is
 
+  -- What may be written: a place of a type is no string constant, and no rows of an array there are one's.
+
+  abbrev IsWritable : Place → Type 0
+  IsWritable place = IsNoConstant p.program place × AreVariables p (rows_of place)
+
+  placed_writable : (place : Place) (t : TType) → IsPlaceOf p place t → IsWritable place
+  placed_writable (ModuleVar m k) t typed = ((t, typed), (t, typed))
+  placed_writable (Of r) t typed = (tt, typed.1)
+  placed_writable (Local k) t typed = (tt, tt)
+  placed_writable (Passed k) t typed = (tt, tt)
+  placed_writable (Field q u k) t typed = (tt, tt)
+  placed_writable (Index q n u i) t typed = (tt, tt)
+  placed_writable (Deref x u) t typed = (tt, tt)
+  placed_writable (Typed q k) t typed = (tt, tt)
+  placed_writable (Guarded q k) t typed = (tt, tt)
+
+  held_writable : (t : TypeId) (place : Place) → IsClosedPlace p t place ⊎ IsOpenPlace p t place → IsWritable place
+  held_writable t place (inl c) = placed_writable place (type_as t) c.0
+  held_writable t place (inr o) = subst IsWritable (sym o.1) (tt, o.5)
+
+  pub variables_held : (n : ℕ) (t : TypeId) (place : Place) → IsClosedPlace p t place ⊎ IsOpenPlace p t place → AreVariables p (judge.array_rows e n (Some t) place)
+  variables_held n t place held = by (is_opened e t)
+    where
+      by : (b : Bool) → AreVariables p (if b then judge.open_rows e n t place else KnownRows place (judge.lengths_from e.types n (row_of e.types t)))
+      by true = (held_writable t place held).1
+      by false = (held_writable t place held).0
+
+  -- an array of characters that is a variable
+  pub room_writable : (n : ℕ) (place : Place) (k : Known) → IsTyped p e place k.of → judge.is_characters e k ≡ true → AreVariables p (judge.array_rows e n k.of place)
+  room_writable n place k = by k.of k.class
+    where
+      by : (of : Option TypeId) (c : Class) → IsTyped p e place of → judge.is_characters e (record { of = of; class = c }) ≡ true → AreVariables p (judge.array_rows e n of place)
+      by None c typed is = absurd (not_both (sym is))
+      by (Some t) c typed is = variables_held n t place (held_place p e whole place t (characters_row t c is).0.1 typed)
+
   -- String constants.
 
   string_is : (t : TextConstant) → env.has_string e t ≡ true → IsConstantText p.program (ModuleVar t.home (env.string_place e t)) (suc (length (env.characters e t)))
@@ -356,7 +391,7 @@ module _ (p : Inside) (e : Env) (whole : IsWhole p e) where
       known place typed = (0, type_as t, (refl, inl (type_as t, typed, refl)), λ d below. absurd (none d below))
 
       by : (place : Place) → IsPlaceOf p place (type_as t) → HasRows t (rows_of place)
-      by (Of r) typed = (0, type_as t, typed, λ d below. absurd (none d below))
+      by (Of r) typed = (0, type_as t, typed.0, λ d below. absurd (none d below))
       by (ModuleVar m k) typed = known (ModuleVar m k) typed
       by (Local k) typed = known (Local k) typed
       by (Passed k) typed = known (Passed k) typed
@@ -446,26 +481,23 @@ module _ (p : Inside) (e : Env) where
       let may = both_may o a.known b.known are in
       let compared = CompareTexts r (judge.text_rows e a) (judge.text_rows e b) in
       let made : IsMade whole.known.class = class_answered IsMade c (Some boolean) compared (texts_made r a.known.class b.known.class) in
+      let v = test_is (not (is_lost whole.known.class)) 20 first none in
       record {
         class = class_answered (IsKnownClass IsGood) c (Some boolean) compared known;
-        valued = test_is (not (is_lost whole.known.class)) 20 first none;
+        valued = v;
         read = λ s. absurd (not_stored whole.known.class made s);
         sound = λ w. plain_sound p whole
-            (answered_plain p c boolean compared known (texts_made r a.known.class b.known.class) refl (text_rows_are p e w a (x.sound w) may.0, text_rows_are p e w b (y.sound w) may.1, refl));
+            (answered_plain p c boolean compared v known (texts_made r a.known.class b.known.class) refl (text_rows_are p e w a (x.sound w) may.0, text_rows_are p e w b (y.sound w) may.1, refl));
         named = λ w. naming_made p e whole.known.class whole.typed made;
       }
 
   -- LEN.
 
-  len_computed : (c : Class) → IsKnownClass IsGood c → value_class c ≡ Computed
-  len_computed Unknown known = absurd known
-  len_computed c known = refl
-
   abbrev HasLength : Answer → ℕ → Type 0
   HasLength a d = (t : TypeId) → a.known.of ≡ Some t → judge.has_dimension e t d ≡ true
 
   len_valued : (a : Answer) (d : ℕ) → Part p e a → judge.is_array e a.known.of ≡ true → (IsWhole p e → HasLength a d) → Valued p e (judge.len_answer e a d)
-  len_valued a d x array has = rw (array, len_computed a.known.class x.class) (record {
+  len_valued a d x array has = rw array (record {
     class = tt;
     valued = refl;
     made = tt;

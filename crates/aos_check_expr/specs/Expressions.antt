@@ -44,7 +44,7 @@ use Rattle.aos_operators.specs.declared.known.Class.TheVariants.{Unknown, Consta
 use Rattle.aos_operators.specs.declared.operations.Step.{Step}
 use Rattle.aos_operators.specs.Known.{Answer, Spot, is_boolean, is_integer, constant_answer}
 use Rattle.aos_operators.specs.Operations as op
-pub use Rattle.aos_operators.specs.Forms.{not_yet, number, character, string, added, multiplied, is_test, signed, opposite, with_element, with_span, whole_set}
+pub use Rattle.aos_operators.specs.Forms.{not_yet, number, character, string, added, multiplied, is_test, signed, opposite, with_element, with_span, whole_set, enclosed}
 use Rattle.aos_rules.specs.declared.functions.Taking.TheVariants as taking
 use Rattle.aos_rules.specs.Signatures.{type_signature}
 pub use Rattle.aos_rules.specs.Arrays.{is_array, length_of, lengths_from, open_rows, array_rows, length_behind, len_typed, len_answer, number_in, has_dimension, is_dimension, len_alone, len_in, is_characters, string_in, is_text, is_only_text, may_be_text, are_texts, string_rows, rows_in, text_rows, has_room, text_for}
@@ -52,12 +52,12 @@ pub use Rattle.aos_rules.specs.Arguments.{Handing, nothing_handed}
 use Rattle.aos_rules.specs.Arguments.{handed}
 pub use Rattle.aos_rules.specs.TypeNames.{named_type, known_type}
 pub use Rattle.aos_rules.specs.Relations.{test_typed, may_test, tested_with, tested, compares_texts, relation_in, constants_related, texts_class, texts_related, may_be_pointer, may_be_object, are_comparable, is_the_reference, compares_objects, is_the_procedure, may_be_procedure, compares_procedures, procedure_operand, procedures_related, operation_of, related_by}
-pub use Rattle.aos_rules.specs.Functions.{limit_in, limit_value, limit_of, one_argument, two_arguments, step_in, function_typed, function_answer, function_breaches, function_told}
+pub use Rattle.aos_rules.specs.Functions.{limit_in, limit_value, limit_of, one_argument, two_arguments, step_in, function_typed, function_class, function_answer, function_breaches, function_told}
 use Rattle.aos_designators.specs.declared.designators.Head.{Head}
 use Rattle.aos_designators.specs.declared.methods.Heading.{Heading}
 use Rattle.aos_designators.specs.declared.methods.Heading.TheVariants as heading
 use Rattle.aos_designators.specs.Designators as desig
-pub use Rattle.aos_designators.specs.Methods.{Bound, Part, Begun, Meant, Waits, as_part, dispatched, is_method, method_on, own_method, upper_method, declares, upper_of, upper_here, raised_to, raised, value_called, unbound, named_or_bound, spot_of_part, selected_name, selected, method_found, method_in, method_of, pointed_as, pointed_spot, pointed_name, pointed, followed_spot, followed_part, through, bound_value, bound_head, bound_or, bound_part}
+pub use Rattle.aos_designators.specs.Methods.{Bound, Part, Begun, Meant, Waits, as_part, dispatched, is_method, is_callable, method_on, own_method, upper_method, declares, upper_of, upper_here, raised_to, raised, value_called, unbound, named_or_bound, spot_of_part, selected_name, selected, method_found, method_in, method_of, pointed_as, pointed_spot, pointed_name, pointed, followed_spot, followed_part, through, bound_value, bound_head, bound_or, bound_part}
 
 -- An expression that is a designator.
 
@@ -192,7 +192,7 @@ abbrev pub len_of : Env → Pos → List (Judged Answer) → List Expr → Judge
 len_of e at (j ∷ []) (x ∷ []) = bind j (λ a. len_alone e (out-Expr x).pos a)
 len_of e at (j ∷ k ∷ []) (x ∷ y ∷ []) =
     bind j (λ a. bind k (λ d. len_in e (out-Expr x).pos (out-Expr y).pos a d))
-len_of e at js xs = desig.refused 34 at
+len_of e at js xs = desig.refused_value 34 at
 
 -- The arguments of a call: those for these parameters, behind those before them.
 abbrev pub handed_from : Env → Handing → List Parameter → List (Judged Answer) → List Expr → Judged Handing
@@ -204,13 +204,13 @@ abbrev pub arguments_for : Env → Pos → List Parameter → List (Judged Answe
 arguments_for e first ps js xs =
     if length ps == length xs then handed_from e (nothing_handed true) ps js xs else judged (breach 34 first) (nothing_handed false)
 
--- A procedure's value: that of a function, whose result is a scalar.
+-- A procedure's value: that of a function, whose result is a scalar. A procedure that gives none is asked for its arguments first.
 
 abbrev pub function_value : Env → (first : Pos) → TypedCallee → List Parameter → Option TypeId → List (Judged Answer) → List Expr → Judged Answer
 function_value e first c ps of js xs = bind (arguments_for e first ps js xs) (function_told e first c of)
 
 abbrev pub value_given : Env → (first : Pos) → TypedCallee → Gives → List Parameter → List (Judged Answer) → List Expr → Judged Answer
-value_given e first c gives.Nothing ps js xs = desig.refused_value 36 first
+value_given e first c gives.Nothing ps js xs = bind (arguments_for e first ps js xs) (λ h. desig.refused_value 36 first)
 value_given e first c (gives.Value of) ps js xs = function_value e first c ps of js xs
 
 abbrev pub value_of_procedure : Env → (first : Pos) → TypedCallee → Signature → List (Judged Answer) → List Expr → Judged Answer
@@ -325,7 +325,7 @@ module _ (e : Env) where
     factor (f.Text t) = string (env.text_constant e t.start) t.pos
     factor (f.Nil p) = kept (constant_answer literal.Nil)
     factor (f.Set' p shape row) = bind (elements p op.no_elements row) (λ a. whole_set p a)
-    factor (f.Paren' p shape row) = held row
+    factor (f.Paren' p shape row) = bind (held row) (λ a. enclosed p a)
     factor (f.Not' p shape row) = bind (held_factor row) (λ a. opposite p a)
 
     -- the one expression, and the one factor, behind a bracket or `~`
@@ -368,6 +368,9 @@ module _ (e : Env) where
   -- the same parts, read as lists
   abbrev pub product : Pos → Answer → Product → Judged Answer
   product first a p = bind (factor p.right) (λ b. multiplied first p.pos p.op a b)
+
+  abbrev pub parenthesized : Pos → Expr → Judged Answer
+  parenthesized at x = bind (expr x) (λ a. enclosed at a)
 
   abbrev pub relation_if : Pos → Answer → Option TreeRelation → Judged Answer
   relation_if first a None = kept a

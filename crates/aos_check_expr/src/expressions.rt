@@ -19,8 +19,8 @@ use aos_designators::{
 };
 use aos_made::MadeCallee;
 use aos_operators::forms::{
-    added, byte_of, character, is_test, multiplied, number, opposite, signed, string, whole_set,
-    with_element, with_span,
+    added, byte_of, character, enclosed, is_test, multiplied, number, opposite, signed, string,
+    whole_set, with_element, with_span,
 };
 use aos_operators::{
     Answer, Spot, constant_answer, is_integer, operations, refused, refused_value, spot_of,
@@ -219,12 +219,31 @@ fn factor(
             let set = elements(alloc, found, env, *at, all.as_slice())?;
             Ok(whole_set(found, *at, set))
         }
-        Factor::Paren(_, inner) => expr(alloc, found, env, inner.get()),
+        Factor::Paren(at, inner) => parenthesized(alloc, found, env, *at, inner.get()),
         Factor::Not(at, inner) => {
             let inner = factor(alloc, found, env, inner.get())?;
             opposite(alloc, found, *at, inner)
         }
     }
+}
+
+/// An expression in parentheses, of which the first stands here.
+#[cycle(exprs)]
+#[tactic(auto, using(aos_symbols::proofs::Keeping::after_more))]
+fn parenthesized(
+    alloc: Global,
+    found: &mut Option<Breach>,
+    env: &Env<'_>,
+    at: Pos,
+    part: &Expr,
+) -> Result<Answer, AllocError>
+    ensures noted { OnOk result (found.new ≡ first_after found.old
+        (judge.parenthesized env.now at part.now).breaches) }
+    ensures answer { IfOk result (λ r. seen_answer r ≡
+        (judge.parenthesized env.now at part.now).answer) }
+{
+    let inner = expr(alloc, found, env, part)?;
+    Ok(enclosed(found, at, inner))
 }
 
 /// The elements of a set that begins here.
@@ -596,12 +615,12 @@ fn invoked(
     let Some(signature) = signature_at(alloc, env, bound.heading)? else {
         return Ok(refused_value(found, NOT_CONSTANT, first));
     };
-    let Gives::Value(of) = signature.gives else {
-        return Ok(refused_value(found, WRONG_CALL, first));
-    };
     let parameters = signature.parameters.as_slice();
     let handing = arguments_for(alloc, found, env, first, parameters, arguments)?;
-    function_value(alloc, found, env, first, bound.callee, of, handing)
+    match signature.gives {
+        Gives::Nothing => Ok(refused_value(found, WRONG_CALL, first)),
+        Gives::Value(of) => function_value(alloc, found, env, first, bound.callee, of, handing),
+    }
 }
 
 /// The arguments of a call that begins here: there is one for each parameter.
@@ -755,6 +774,6 @@ fn measured(
                 dimension,
             )
         }
-        _ => Ok(refused(found, ARGUMENT_COUNT, first)),
+        _ => Ok(refused_value(found, ARGUMENT_COUNT, first)),
     }
 }

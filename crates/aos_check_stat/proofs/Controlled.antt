@@ -26,10 +26,11 @@ use Rattle.aos_symbols.specs.declared.env.Lookup.{Lookup}
 use Rattle.aos_symbols.specs.declared.env.Lookup.TheVariants.{Unknown as NoName, NotExported, Found}
 use Rattle.aos_symbols.specs.declared.scope.Meaning.{Meaning}
 use Rattle.aos_symbols.specs.declared.scope.Meaning.TheVariants as means
-use Rattle.aos_symbols.specs.Breaches.{breach, breach_unless}
+use Rattle.aos_symbols.specs.declared.breach.Breach.{Breach}
+use Rattle.aos_symbols.specs.Breaches.{breach, breach_unless, first_after}
 use Rattle.aos_symbols.specs.Judged.{Judged, judged, kept, bind, walk}
 use Rattle.aos_symbols.specs.Env as env
-use Rattle.aos_symbols.proofs.Holds.{Holds, holds_bind, holds_walk, none_left, none_right, test_is, broken}
+use Rattle.aos_symbols.proofs.Holds.{Holds, holds_bind, holds_walk, none_left, none_right, none_first, test_is, broken}
 use Rattle.aos_operators.specs.declared.known.Class.{Class}
 use Rattle.aos_operators.specs.declared.known.Class.TheVariants.{Constant}
 use Rattle.aos_operators.specs.Known.{Answer, is_number, is_char, fits, type_as, type_of_literal, width_of}
@@ -43,7 +44,7 @@ use Rattle.aos_check_expr.specs.Expressions.{constant_class, expr}
 use Rattle.aos_check_expr.proofs.Passed.{basic_fit}
 use Rattle.aos_check_expr.proofs.Spots.{IsTyped, closed, opened, plain_head}
 use Rattle.aos_check_expr.proofs.Typing.{IsWhole, expr_sound, constant_good}
-use Rattle.aos_check_stat.specs.Bodies.{Control, Labels, lost, control, control_found, control_meant, fitting, is_step, step_in, step_of, is_selector, selector, is_label, range_of, label_value, label_range, with_label, label_in}
+use Rattle.aos_check_stat.specs.Bodies.{Control, Labels, lost, control, control_found, control_meant, control_rule, fitting, is_step, step_breaches, step_in, step_of, is_selector, selector, is_label, range_of, label_value, label_range, with_label, label_in}
 use Rattle.aos_check_stat.proofs.Apart.{Behind, none_behind, one_behind, apart_push}
 use Rattle.aos_check_call.proofs.Places.{some_breach, fits_basic}
 use Rattle.aos_check_call.proofs.Changed.{one_within}
@@ -77,7 +78,7 @@ module _ (p : Inside) (e : Env) (whole : IsWhole p e) where
               (b ≡ true) × (is_variable place ≡ true)
           kept_control c place true h = (refl, test_is (is_variable place) 99 n.pos (none_right (desig.written c n.pos) (breach_unless (is_variable place) 99 n.pos) h))
           kept_control c place false h = absurd (some_breach (none_right (desig.written c n.pos) (breach 48 n.pos) h))
-      meant x found m is = lost_sound 48
+      meant x found m is = lost_sound (control_rule e m)
 
       by : (l : Lookup) → env.lookup e n ≡ l → Holds IsControl (control_found e n.pos l)
       by NoName found = lost_sound 14
@@ -88,7 +89,7 @@ module _ (p : Inside) (e : Env) (whole : IsWhole p e) where
   pub fitting_sound : (place : Place) (of : Option TypeId) → IsTyped p e place of → is_number of ≡ true → (rule : ℕ) (at : Pos) (x : TreeExpr) →
       Holds (λ n. IsOf p n (type.Integer (width_of of))) (fitting e of rule at x)
   fitting_sound place None (closed typed known) is rule at x = absurd known
-  fitting_sound place None (opened t q same also opening rows lengths) is rule at x = absurd (none-some t same)
+  fitting_sound place None (opened t q same also opening rows lengths variables) is rule at x = absurd (none-some t same)
   fitting_sound place (Some t) typed is rule at x =
       holds_bind (IsSound p) (λ n. IsOf p n (type.Integer (width_of (Some t)))) (expr e x) (λ v. judged (breach_unless (fits v.known.of (Some t)) rule at) v.typed)
       (expr_sound p e whole x)
@@ -136,11 +137,15 @@ module _ (p : Inside) (e : Env) (whole : IsWhole p e) where
       Holds (λ z. IsWithin (width_of of) z) (step_of e at of x)
   step_sound place of typed is at None = λ h. one_within (width_of of)
   step_sound place None (closed typed known) is at (Some x) = absurd known
-  step_sound place None (opened t q same also opening rows lengths) is at (Some x) = absurd (none-some t same)
-  step_sound place (Some t) typed is at (Some x) = λ h.
-      let c = (expr e x).answer.known.class in
-      let test = breach_unless (is_step (Some t) c) 48 at in
-      step_within t is c (λ l same. good_constant x l (none_left (expr e x).breaches test h) same) (test_is (is_step (Some t) c) 48 at (none_right (expr e x).breaches test h))
+  step_sound place None (opened t q same also opening rows lengths variables) is at (Some x) = absurd (none-some t same)
+  step_sound place (Some t) typed is at (Some x) = by (first_after None (expr e x).breaches) refl
+    where
+      c : Class
+      c = (expr e x).answer.known.class
+
+      by : (o : Option Breach) → first_after None (expr e x).breaches ≡ o → step_breaches at (Some t) o c ≡ [] → IsWithin (width_of (Some t)) (step_in c)
+      by (Some own) found h = absurd (some_breach h)
+      by None found h = step_within t is c (λ l same. good_constant x l (none_first (expr e x).breaches found) same) (test_is (is_step (Some t) c) 48 at h)
 
   -- CASE.
 

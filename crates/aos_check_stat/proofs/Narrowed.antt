@@ -51,7 +51,7 @@ module _ (e : Env) (ns : List Narrowed) (exclusive condition : Bool) where
 
   typed_within : (p : Inside) (place : Place) (of : Option TypeId) → IsTyped p e place of → IsTyped p within place of
   typed_within p place of (closed typed known) = closed typed known
-  typed_within p place of (opened t r same at opening rows lengths) = opened t r same at opening rows lengths
+  typed_within p place of (opened t r same at opening rows lengths variables) = opened t r same at opening rows lengths variables
 
   parameters_within : (xs : List Formal) (as' : List Parameter) → AreParameters e xs as' → AreParameters within xs as'
   parameters_within [] as' is = is
@@ -196,7 +196,6 @@ module _ (e : Env) (ns : List Narrowed) (exclusive condition : Bool) where
     initials = λ t object. whole.initials t object ∙ ap (option_map (λ (m : Method). m.slot)) (sym (initializer_within t));
     initial = λ t m found object s is. let q = whole.initial t m (sym (initializer_within t) ∙ found) object s is in (q.0, q.1, q.2, signed_within s q.0 q.3);
     patterns = whole.patterns;
-    unnamed = whole.unnamed;
     signatures = λ m k s w x there found means g is. let q = whole.signatures m k s w x there found means g is in (q.0, q.1, signed_within g q.0 q.2);
     strings = whole.strings;
   }
@@ -346,7 +345,7 @@ module _ (p : Inside) (e : Env) (whole : IsWhole p e) where
       guarded : (place : Place) → IsTyped p e (Guarded place (object_number u)) (Some u) → IsStatement p (WithRecord at (Guarded place (object_number u)) body)
       guarded place (closed typed known) =
           ((type_as u, typed, subst (λ t. is_record (row_of p.program.types (id_of t)) ≡ true) (sym typed.4) typed.3), are)
-      guarded place (opened t r same opens opening rows lengths) = absurd (cc)
+      guarded place (opened t r same opens opening rows lengths variables) = absurd (cc)
 
       record_held : desig.is_record_type e of ≡ true → (h : Held) → IsSoundSpot p e (spot (Some of) c h q) → desig.is_passed (desig.place_of h) ≡ true →
           IsStatement p (with_stat at (desig.part_held (λ place. Guarded place (object_number u)) h) body)

@@ -2,6 +2,7 @@
 use Rattle.std.proofs.Common.{◌≡◌, ℤ, ◌⊎◌, List, [], ◌∷◌, ◌++◌, drop, length, Bool, true, false, ◌||◌, not, Option, Some, None, is_some, refl, sym, ap, ◌∙◌, subst, if◌then◌else◌}
 use Rattle.aos_base.specs.declared.text.Pos.{Pos}
 use Rattle.std.specs.Prelude.{All}
+use Rattle.std.specs.Option.{is_none}
 use Rattle.std.proofs.lemmas.Bool.{and_parts}
 use Rattle.std.proofs.lemmas.List.{append-nil}
 use Rattle.std.proofs.lemmas.List.Elements.{All-nil, All-drop}
@@ -51,6 +52,7 @@ use Rattle.aos_check_expr.specs.Expressions.{expr, condition, designator}
 use Rattle.aos_check_expr.proofs.Passed.{scalar_fits}
 use Rattle.aos_check_expr.proofs.Tested.{known_some}
 use Rattle.aos_check_expr.proofs.Spots.{IsResultOf, IsSpot, Part, MayFind, plain_head, behind_head, named_spot, spotted, refused_part}
+use Rattle.aos_check_expr.proofs.Whole.{many_types}
 use Rattle.aos_check_expr.proofs.Typing.{IsWhole, IsSound, expr_sound, expr_part, condition_sound}
 use Rattle.aos_check_expr.proofs.Uncalled.{condition_calm}
 use Rattle.aos_check_call.specs.Calls as calls
@@ -106,8 +108,10 @@ module _ (p : Inside) (e : Env) (whole : IsWhole p e) where
 
       fitted : calls.text_to e a v ≡ None → (assignable.is_assignable e v.known a.known.of ≡ true) × (is_opened e is.of ≡ false)
       fitted none =
-          let two = and_parts (assignable.is_assignable e v.known a.known.of) (not (is_opening e a.known.of)) (ap (calls.value_fits e a v) (sym none) ∙ h) in
-          (two.0, not_true (is_opened e is.of) (ap (λ o. not (is_opening e o)) (sym is.known) ∙ two.1))
+          let shut = not (is_opening e a.known.of) in
+          let two = and_parts (assignable.is_assignable e v.known a.known.of) (is_none v.known.of || shut) (ap (calls.value_fits e a v) (sym none) ∙ h) in
+          let closed = ap (λ o. is_none o || shut) (sym (part.sound whole).known) ∙ two.1 in
+          (two.0, not_true (is_opened e is.of) (ap (λ o. not (is_opening e o)) (sym is.known) ∙ closed))
 
       without : (b c : Bool) → (b || c) ≡ true → c ≡ false → b ≡ true
       without true c e n = refl
@@ -122,9 +126,9 @@ module _ (p : Inside) (e : Env) (whole : IsWhole p e) where
       by h isnt false parts =
           let held = told_typed p e whole (place_of a.held) is.of isnt is.typed in
           let none : (has_parts e is.of || is_opened e is.of) ≡ false = rw (parts, isnt) refl in
-          let short = without (desig.is_value e is.of || (is_long_text is.of || is_the env.procedure is.of)) (has_parts e is.of || is_opened e is.of) is.built none in
-          let other : (is_long_text is.of || is_the env.procedure is.of) ≡ false = rw (not_long e.types is.of held.0, not_named e.types whole.unnamed is.of held.0) refl in
-          let value = without (desig.is_value e is.of) (is_long_text is.of || is_the env.procedure is.of) short other in
+          let short = without (desig.is_value e is.of || (is_long_text is.of || is_the (env.procedure e) is.of)) (has_parts e is.of || is_opened e is.of) is.built none in
+          let other : (is_long_text is.of || is_the (env.procedure e) is.of) ≡ false = rw (not_long e.types is.of held.0, not_named e (many_types p e whole) is.of held.0) refl in
+          let value = without (desig.is_value e is.of) (is_long_text is.of || is_the (env.procedure e) is.of) short other in
           let fit = scalar_fits p e whole is.of (not_nil e.types is.of held.0) value v part (ap (assignable.is_assignable e v.known) (sym is.known) ∙ h) in
           (held.1, fit.0, fit.1)
 
@@ -174,16 +178,16 @@ module _ (p : Inside) (e : Env) (whole : IsWhole p e) where
   with_name_sound : (h : Head) → MayFind p e h.found → Holds (IsSpot p e) (judge.with_name e h)
   with_name_sound h may = by (judge.may_be_variable h.found)
     where
-      by : (b : Bool) → Holds (IsSpot p e) (if b then desig.named e h else desig.spotted h.first (desig.refused 49 h.first))
+      by : (b : Bool) → Holds (IsSpot p e) (if b then desig.named e h else desig.spotted h.first (desig.refused (judge.with_rule e h.found) h.first))
       by true = named_spot p e whole.constants h may
-      by false = spotted p e h.first (desig.refused 49 h.first) (refused_part p e 49 h.first)
+      by false = spotted p e h.first (desig.refused (judge.with_rule e h.found) h.first) (refused_part p e (judge.with_rule e h.found) h.first)
 
   with_part_sound : (h : Head) → MayFind p e h.found → Holds (IsSpot p e) (judge.with_part e h)
   with_part_sound h may = by (judge.is_missing h.found)
     where
-      by : (b : Bool) → Holds (IsSpot p e) (if b then desig.named e h else desig.spotted h.first (desig.refused 49 h.first))
+      by : (b : Bool) → Holds (IsSpot p e) (if b then desig.named e h else desig.spotted h.first (desig.refused (judge.with_rule e h.found) h.first))
       by true = named_spot p e whole.constants h may
-      by false = spotted p e h.first (desig.refused 49 h.first) (refused_part p e 49 h.first)
+      by false = spotted p e h.first (desig.refused (judge.with_rule e h.found) h.first) (refused_part p e (judge.with_rule e h.found) h.first)
 
   pub with_variable_sound : (q : Qualident) → Holds (IsWithVariable q) (judge.with_variable e q)
   with_variable_sound q none = (refl, none, by q.second none)
@@ -206,7 +210,7 @@ module _ (p : Inside) (e : Env) (whole : IsWhole p e) where
   guard_sound at v is u = by (desig.may_test e (desig.is_passed (place_of v.held)) v.known.of (Some u)) refl
     where
       by : (b : Bool) → desig.may_test e (desig.is_passed (place_of v.held)) v.known.of (Some u) ≡ b →
-          Holds (IsGuarded v u) (if b then kept (desig.guarded_spot e u v) else desig.spotted v.at (desig.refused 41 at))
+          Holds (IsGuarded v u) (if b then kept (desig.guarded_spot e u v) else desig.spotted v.at (desig.refused_variable 41 at))
       by true may = λ none. (may, refl)
       by false may = broken (IsGuarded v u) _ [] _
 
@@ -227,7 +231,7 @@ module _ (p : Inside) (e : Env) (whole : IsWhole p e) where
   name_ends u (Found x) h is none may = by x.means refl
     where
       other : Judged Spot
-      other = desig.spotted h.first (desig.refused 49 h.first)
+      other = desig.spotted h.first (desig.refused (judge.with_rule e h.found) h.first)
 
       by : (m : Meaning) → x.means ≡ m → Ends (judge.narrowed_meaning x m u)
       by (means.Variable k) same =
@@ -238,9 +242,12 @@ module _ (p : Inside) (e : Env) (whole : IsWhole p e) where
       by m same = whole
 
   part_breaks : (l : Lookup) (h : Head) → h.found ≡ l → (judge.with_part e h).breaches ≡ [] → ⊥
-  part_breaks l h is none = by l (sym (ap (λ l. (if judge.is_missing l then desig.found e l h else desig.spotted h.first (desig.refused 49 h.first)).breaches) is) ∙ none)
+  part_breaks l h is none = by l (sym (ap (λ l. (if judge.is_missing l then desig.found e l h else other).breaches) is) ∙ none)
     where
-      by : (l : Lookup) → (if judge.is_missing l then desig.found e l h else desig.spotted h.first (desig.refused 49 h.first)).breaches ≡ [] → ⊥
+      other : Judged Spot
+      other = desig.spotted h.first (desig.refused (judge.with_rule e h.found) h.first)
+
+      by : (l : Lookup) → (if judge.is_missing l then desig.found e l h else other).breaches ≡ [] → ⊥
       by NoName none = some_breach none
       by NotExported none = some_breach none
       by (Found x) none = some_breach none

@@ -206,9 +206,28 @@ is_step of (Constant None) = true
 is_step of (Constant (Some (literal.Int n))) = not (int_eq n (pos 0)) && fits (Some (type_of_literal (literal.Int n))) of
 is_step of c = false
 
+-- of a step, with the first rule that it breaks itself
+abbrev pub step_breaches : Pos → Option TypeId → Option Breach → Class → List Breach
+step_breaches at of (Some own) c = breach own.rule own.pos
+step_breaches at of None c = breach_unless (is_step of c) 48 at
+
 abbrev pub step_in : Class → ℤ
 step_in (Constant (Some (literal.Int n))) = n
 step_in c = pos 1
+
+-- SELF outside methods and the bodies of objects, which stands for nothing: as a variable it is refused as such.
+abbrev pub is_lone_self : Env → Meaning → Bool
+is_lone_self e means.Itself = is_none e.self_type
+is_lone_self e m = false
+
+-- the rule that a name breaks which is that of no variable, in FOR and in WITH
+abbrev pub control_rule : Env → Meaning → ℕ
+control_rule e m = if is_lone_self e m then 46 else 48
+
+abbrev pub with_rule : Env → Lookup → ℕ
+with_rule e NoName = 49
+with_rule e NotExported = 49
+with_rule e (Found x) = if is_lone_self e x.means then 46 else 49
 
 -- WITH: what is named is a variable of a module or the procedure's own.
 
@@ -306,7 +325,7 @@ module _ (e : Env) where
   abbrev pub control_meant : Pos → Symbol → Meaning → Judged Control
   control_meant at x (means.Variable k) =
       control_variable (desig.access (x.at.home == e.number) x.mark) at (desig.place_of_variable e x k) (env.variable_type e x.at k)
-  control_meant at x m = lost 48 at
+  control_meant at x m = lost (control_rule e m) at
 
   abbrev pub control_found : Pos → Lookup → Judged Control
   control_found at NoName = lost 14 at
@@ -322,16 +341,20 @@ module _ (e : Env) where
 
   abbrev pub step_of : Pos → Option TypeId → Option TreeExpr → Judged ℤ
   step_of at of None = kept (pos 1)
-  step_of at of (Some x) = bind (expr e x) (λ v. judged (breach_unless (is_step of v.known.class) 48 at) (step_in v.known.class))
+  step_of at of (Some x) =
+      let j = expr e x in
+      judged (step_breaches at of (first_after None j.breaches) j.answer.known.class) (step_in j.answer.known.class)
 
   -- WITH
 
   abbrev pub with_name : Head → Judged Spot
-  with_name h = if may_be_variable h.found then desig.named e h else desig.spotted h.first (desig.refused 49 h.first)
+  with_name h =
+      if may_be_variable h.found then desig.named e h else desig.spotted h.first (desig.refused (with_rule e h.found) h.first)
 
   -- a name behind what is no module
   abbrev pub with_part : Head → Judged Spot
-  with_part h = if is_missing h.found then desig.named e h else desig.spotted h.first (desig.refused 49 h.first)
+  with_part h =
+      if is_missing h.found then desig.named e h else desig.spotted h.first (desig.refused (with_rule e h.found) h.first)
 
   abbrev pub with_variable : Qualident → Judged Spot
   with_variable q = by q.second

@@ -9,13 +9,16 @@ ghost use Rattle.aos_symbols.specs.Breaches.{first_after};
 ghost use Rattle.aos_check_stat.specs.Bodies as judge;
 ghost use Rattle.aos_check_stat.specs.Listed as listed;
 
+use crate::modifiers::alone;
+use crate::withs::is_lone_self;
 use aos_base::Pos;
 use aos_check_expr::expr;
 use aos_designators::{access, place_of_variable, refuse_written};
 use aos_made::{MadePlace, Typed};
 use aos_operators::{Class, fits, is_number, type_of_literal};
 use aos_symbols::{
-    Breach, Env, Lookup, Meaning, NOT_BUILT, NOT_EXPORTED, Symbol, UNFIT, UNKNOWN, WRONG_FOR, note,
+    Breach, Env, Lookup, Meaning, NOT_BUILT, NOT_EXPORTED, Symbol, UNFIT, UNKNOWN, WRONG_FOR,
+    WRONG_SELF, note,
 };
 use aos_tree::{Expr, Name};
 use aos_typed::{Literal, TExpr, TPlace};
@@ -91,6 +94,17 @@ fn control_variable(
     (place, of)
 }
 
+/// The rule that a name breaks in FOR which is that of no variable.
+fn control_rule(env: &Env<'_>, means: Meaning) -> u16
+    ensures { result ≡ judge.control_rule env.now means }
+{
+    if is_lone_self(env, means) {
+        WRONG_SELF
+    } else {
+        WRONG_FOR
+    }
+}
+
 fn control_meant(
     alloc: Global,
     found: &mut Option<Breach>,
@@ -110,7 +124,7 @@ fn control_meant(
             let class = access(symbol.at.home == env.number, symbol.mark);
             Ok(control_variable(found, class, at, place, of))
         },
-        _ => lost(alloc, found, WRONG_FOR, at),
+        _ => lost(alloc, found, control_rule(env, symbol.means), at),
     }
 }
 
@@ -179,8 +193,27 @@ fn step_in(class: Class) -> i64
     }
 }
 
+/// A step of this class, which breaks this rule first, of a variable of a type, refused at a place.
+fn refuse_step(
+    found: &mut Option<Breach>,
+    at: Pos,
+    of: Option<TypeId>,
+    own: Option<Breach>,
+    class: Class,
+)
+    ensures { found.new ≡ first_after found.old (judge.step_breaches at of own class) }
+{
+    match own {
+        Some(own) => note(found, own.rule, own.pos),
+        None => {
+            if !is_step(of, class) {
+                note(found, WRONG_FOR, at);
+            }
+        },
+    }
+}
+
 /// The step of a variable of a type, refused at a place; 1 where none is written.
-#[tactic(auto, using(aos_symbols::proofs::Keeping::after_more))]
 fn step_of(
     alloc: Global,
     found: &mut Option<Breach>,
@@ -196,10 +229,8 @@ fn step_of(
     match by {
         None => Ok(1),
         Some(part) => {
-            let class = expr(alloc, found, env, part)?.known.class;
-            if !is_step(of, class) {
-                note(found, WRONG_FOR, at);
-            }
+            let (own, class) = alone(alloc, env, part)?;
+            refuse_step(found, at, of, own, class);
             Ok(step_in(class))
         },
     }

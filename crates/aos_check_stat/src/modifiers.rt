@@ -168,7 +168,11 @@ fn level_in(class: Class) -> Option<Priority>
 }
 
 /// An expression by itself: the first rule that it breaks, and its class.
-fn alone(alloc: Global, env: &Env<'_>, value: &Expr) -> Result<(Option<Breach>, Class), AllocError>
+pub(crate) fn alone(
+    alloc: Global,
+    env: &Env<'_>,
+    value: &Expr,
+) -> Result<(Option<Breach>, Class), AllocError>
     ensures own { IfOk result (λ r. r.0 ≡
         first_after None (expressions.expr env.now value.now).breaches) }
     ensures known { IfOk result (λ r. r.1 ≡

@@ -12,7 +12,7 @@ use aos_designators::{Head, guard, is_module, member, named, plain, refused_at};
 use aos_made_stat::{MadeStat, MadeStats};
 use aos_operators::{Held, Spot};
 use aos_rules::known_type;
-use aos_symbols::{Breach, Env, Lookup, Meaning, Narrowed, WRONG_WITH};
+use aos_symbols::{Breach, Env, Lookup, Meaning, Narrowed, WRONG_SELF, WRONG_WITH};
 use aos_tree::{Items, Qualident};
 use aos_types::TypeId;
 use std::alloc::{AllocError, Global};
@@ -23,6 +23,26 @@ fn may_be_variable(lookup: Lookup) -> bool
     match lookup {
         Lookup::Found(symbol) => matches!(symbol.means, Meaning::Variable(_)),
         _ => true,
+    }
+}
+
+/// Whether a name stands for SELF outside methods and the bodies of objects, where it stands for nothing.
+pub(crate) fn is_lone_self(env: &Env<'_>, means: Meaning) -> bool
+    ensures { result ≡ judge.is_lone_self env.now means }
+{
+    match means {
+        Meaning::Itself => env.self_type.is_none(),
+        _ => false,
+    }
+}
+
+/// The rule that a name breaks in WITH which is that of no variable.
+fn with_rule(env: &Env<'_>, lookup: Lookup) -> u16
+    ensures { result ≡ judge.with_rule env.now lookup }
+{
+    match lookup {
+        Lookup::Found(symbol) if is_lone_self(env, symbol.means) => WRONG_SELF,
+        _ => WRONG_WITH,
     }
 }
 
@@ -40,7 +60,7 @@ fn with_name(
     if may_be_variable(head.found) {
         named(alloc, found, env, head)
     } else {
-        Ok(refused_at(found, WRONG_WITH, head.first, head.first))
+        Ok(refused_at(found, with_rule(env, head.found), head.first, head.first))
     }
 }
 
@@ -56,7 +76,9 @@ fn with_part(
     ensures answer { IfOk result (λ r. seen_spot r ≡ (judge.with_part env.now head).answer) }
 {
     match head.found {
-        Lookup::Found(_) => Ok(refused_at(found, WRONG_WITH, head.first, head.first)),
+        Lookup::Found(_) => {
+            Ok(refused_at(found, with_rule(env, head.found), head.first, head.first))
+        },
         _ => named(alloc, found, env, head),
     }
 }

@@ -205,11 +205,13 @@ an_object_of_another_module : elaborate (codes "MODULE A; IMPORT B; BEGIN NEW(B.
       objects =
           record {
             name = utf8_lossy (codes "T");
+            at = place 15;
+            fields = [];
             home = 0;
             has_body = true;
             is_active = true;
             priority = Normal;
-            body = record { name = []; of = Some 0; is_initializer = false; parameters = []; locals = []; result = None; body = plain_body Nothing };
+            body = record { name = []; at = record { line = 0; col = 0 }; of = Some 0; is_initializer = false; parameters = []; locals = []; result = None; body = plain_body Nothing };
             methods = [];
           }
           ∷ [];

@@ -27,13 +27,13 @@ use Rattle.aos_symbols.specs.declared.env.Env.{Env}
 use Rattle.aos_symbols.specs.Env as env
 use Rattle.aos_symbols.specs.Judged.{Judged, walk}
 use Rattle.aos_symbols.specs.Spelling.{is_word}
-use Rattle.aos_symbols.specs.Declarations.{Procedure, procedures, methods_in, type_defs}
+use Rattle.aos_symbols.specs.Declarations.{Procedure, procedures, inner_decls, methods_in, type_defs}
 use Rattle.aos_symbols.specs.Scope.{Scope, empty, with_constant as with_value, with_variable as with_type, setting_variables}
 use Rattle.aos_symbols.specs.Home.{Home, changed, set_variables}
 use Rattle.aos_check_expr.specs.Expressions.{constant}
 use Rattle.aos_check_decl.specs.Types.{Met, met, refused_type, FieldsMet, fields_met, placed, array_of, inner_arrays, arrays, lengths_of, open_of, array_in, is_empty, with_record, base_in, field_names, record_in, claiming, target_claims, pointer_to, MembersMet, members_met, with_members, object_slot, object_in, named_type, type_in, members_in, member_in, variables_in, held_in, pointer_in, fields_in, field_in}
 use Rattle.aos_check_decl.specs.Formals.{opened, FormalsMet, formals_met, with_section, HeadingMet, formals_in, result_in, row_of_formals, placed_row, result_claims, with_formals, procedure_in}
-use Rattle.aos_check_decl.specs.Headings.{with_variable, with_variables, constant_def, type_def, variable_def, settled, declared, with_parameters, marked, with_signature, locals_in, procedure, procedures_from, within_type, type_methods, methods_from, headings, slot_in, defined_type}
+use Rattle.aos_check_decl.specs.Headings.{with_variable, with_variables, constant_def, type_def, variable_def, settled, declared, inner_declared, types_within, inner_from, with_parameters, marked, with_signature, locals_in, procedure, procedures_from, within_type, type_methods, methods_from, headings, slot_in, defined_type}
 use Rattle.aos_check_decl.specs.Pass.{begun, declare}
 
 -- what declarations leave alone
@@ -257,12 +257,27 @@ methods_fixed e k (d ∷ ds) =
     methods_fixed (type_methods e k d).answer (k + length (methods_in d)) ds
     ∙ procedures_fixed true (within_type e (defined_type e d)) k (methods_in d) ∙ within_fixed e (defined_type e d)
 
+-- the types that object types declare
+
+inner_declared_fixed : (e : Env) (d : Decl) → fixed (inner_declared e d).answer ≡ fixed e
+inner_declared_fixed e (decl.Consts p cs) = refl
+inner_declared_fixed e (decl.Types' p shape row) = walk_keeps fixed type_def (λ e d. type_def_fixed e d.def d.value) e (items-the_row-TypeDef _ row)
+inner_declared_fixed e (decl.Vars' p shape row) = refl
+inner_declared_fixed e (decl.Proc' p i def formals shape row body end) = refl
+
+types_fixed : (e : Env) (k : ℕ) (ds : List TypeDef) → fixed (inner_from e k ds).answer ≡ fixed e
+types_fixed e k [] = refl
+types_fixed e k (d ∷ ds) =
+    let inner = inner_decls d.value in
+    types_fixed (types_within e k inner).answer (suc k) ds ∙ walk_keeps fixed inner_declared inner_declared_fixed (env.within e k) inner
+
 headings_fixed : (e : Env) (ds : List Decl) → fixed (headings e ds).answer ≡ fixed e
 headings_fixed e ds =
     let first = suc (length (type_defs ds)) in
     let f = (walk declared e ds).answer in
-    methods_fixed (procedures_from false f first (procedures ds)).answer (first + length (procedures ds)) (type_defs ds)
-    ∙ procedures_fixed false f first (procedures ds) ∙ walk_keeps fixed declared declared_fixed e ds
+    let g = (inner_from f 1 (type_defs ds)).answer in
+    methods_fixed (procedures_from false g first (procedures ds)).answer (first + length (procedures ds)) (type_defs ds)
+    ∙ procedures_fixed false g first (procedures ds) ∙ types_fixed f 1 (type_defs ds) ∙ walk_keeps fixed declared declared_fixed e ds
 
 module _ (number : ℕ) (before : List Home) (types : List TypeRow) (text : List ℕ) (m : Module) where
   declare_fixed : fixed (declare number before types text m).answer ≡ (number, before, text)

@@ -24,6 +24,8 @@ pub mod MethodNames
 pub mod OwnMethods
 pub mod TypingOutlook
 pub mod TypingHomes
+pub mod TypingSums
+pub mod Keeping
 pub mod TypingOwn
 pub mod TypingSlots
 pub mod TypingWorld

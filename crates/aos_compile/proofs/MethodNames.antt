@@ -16,13 +16,14 @@ use Rattle.aos_tree.specs.declared.decl.TypeExpr.{TypeExpr}
 use Rattle.aos_tree.specs.declared.decl.TypeExpr.TheVariants as type
 use Rattle.aos_tree.specs.declared.decl.Decl.{Decl, Row_of-TypeDef, end_of-TypeDef, more_of-TypeDef, items-the_row-TypeDef, items-the_row-VarDef, items-the_row-Decl}
 use Rattle.aos_tree.specs.declared.decl.Decl.TheVariants as decl
+use Rattle.aos_types.specs.declared.row.TypeId.{TypeId}
 use Rattle.aos_symbols.specs.declared.scope.Entry.{Entry}
 use Rattle.aos_symbols.specs.declared.scope.Meaning.TheVariants as means
 use Rattle.aos_entries.specs.declared.entries.Sort.{Sort}
 use Rattle.aos_entries.specs.declared.entries.Sort.TheVariants as sort
 use Rattle.aos_symbols.specs.Spelling.{word, is_word, are_same}
 use Rattle.aos_symbols.specs.Declarations.{def_names, constants_in, singles_in, procedures_in, types_in, constant_defs, type_defs, single_variables, procedure_defs, names_in, declared_names, inner_decls}
-use Rattle.aos_entries.specs.Entries.{entry, numbered, inner_type, other_entries}
+use Rattle.aos_entries.specs.Entries.{entry, numbered, types_from, other_entries}
 use Rattle.aos_check_names.specs.Names.{declared_again, twice_after, twice, object_end, within_decl, within_decls, within_types, within_type}
 use Rattle.aos_symbols.specs.Scope.{Named, Scope, empty, find, has, with_names, is_procedure, methods_of}
 use Rattle.aos_symbols.proofs.Each.{Each, joined}
@@ -292,23 +293,24 @@ module _ (text : List ℕ) where
   numbered_words of k [] = refl
   numbered_words of k (d ∷ ds) = ap (λ l. word text d.name ∷ l) (numbered_words of (suc k) ds)
 
-  inner_words : (ds : List TypeDef) → words (map (inner_type text) ds) ≡ types_spelled ds
-  inner_words [] = refl
-  inner_words (d ∷ ds) = ap (λ l. word text d.def.name ∷ l) (inner_words ds)
+  inner_words : (numbers : List (Option TypeId)) (k : ℕ) (ds : List TypeDef) → words (types_from text numbers k ds) ≡ types_spelled ds
+  inner_words numbers k [] = refl
+  inner_words numbers k (d ∷ ds) = ap (λ l. word text d.def.name ∷ l) (inner_words numbers (suc k) ds)
 
-  abbrev pub names_within : List Decl → List Named
-  names_within ds = map (inner_type text) (type_defs ds) ++ other_entries text ds
+  -- where the first type has this place among the numbers
+  abbrev pub names_within : List (Option TypeId) → ℕ → List Decl → List Named
+  names_within numbers k ds = types_from text numbers k (type_defs ds) ++ other_entries text ds
 
-  within_once : (ds : List Decl) → twice text (declared_names ds) ≡ [] → AreOnce (words (names_within ds))
-  within_once ds none w =
-      let ts = map (inner_type text) (type_defs ds) in
+  within_once : (numbers : List (Option TypeId)) (k : ℕ) (ds : List Decl) → twice text (declared_names ds) ≡ [] → AreOnce (words (names_within numbers k ds))
+  within_once numbers k ds none w =
+      let ts = types_from text numbers k (type_defs ds) in
       let cs = numbered text sort.Constant 0 (constant_defs ds) in
       let vs = numbered text sort.Variable 0 (single_variables ds) in
       let ps = numbered text sort.Procedure 0 (procedure_defs ds) in
       let a = ap (λ l. copies l w) (map-append (λ (n : Named). n.0) ts ((cs ++ vs) ++ ps)) ∙ copies_both (words ts) (words ((cs ++ vs) ++ ps)) w in
       let b = ap (λ l. copies l w) (map-append (λ (n : Named). n.0) (cs ++ vs) ps) ∙ copies_both (words (cs ++ vs)) (words ps) w in
       let c = ap (λ l. copies l w) (map-append (λ (n : Named). n.0) cs vs) ∙ copies_both (words cs) (words vs) w in
-      let d = ap (λ l. copies l w) (inner_words (type_defs ds)) in
+      let d = ap (λ l. copies l w) (inner_words numbers k (type_defs ds)) in
       let e = ap (λ l. copies l w) (numbered_words sort.Constant 0 (constant_defs ds)) in
       let f = ap (λ l. copies l w) (numbered_words sort.Variable 0 (single_variables ds)) in
       let g = ap (λ l. copies l w) (numbered_words sort.Procedure 0 (procedure_defs ds)) in
@@ -316,9 +318,9 @@ module _ (text : List ℕ) where
       let once = names_once (declared_names ds) none w in
       omega (arith, a, b, c, d, e, f, g, all, once)
 
-  types_no : (ds : List TypeDef) → methods_in (map (inner_type text) ds) ≡ []
-  types_no [] = refl
-  types_no (d ∷ ds) = types_no ds
+  types_no : (numbers : List (Option TypeId)) (k : ℕ) (ds : List TypeDef) → methods_in (types_from text numbers k ds) ≡ []
+  types_no numbers k [] = refl
+  types_no numbers k (d ∷ ds) = types_no numbers (suc k) ds
 
   constants_no : (k : ℕ) (ds : List Def) → methods_in (numbered text sort.Constant k ds) ≡ []
   constants_no k [] = refl
@@ -332,14 +334,14 @@ module _ (text : List ℕ) where
   procedures_all k [] = refl
   procedures_all k (d ∷ ds) = ap (λ l. entry text d (means.Procedure k) ∷ l) (procedures_all (suc k) ds)
 
-  methods_within : (ds : List Decl) → methods_in (names_within ds) ≡ numbered text sort.Procedure 0 (procedure_defs ds)
-  methods_within ds =
-      let ts = map (inner_type text) (type_defs ds) in
+  methods_within : (numbers : List (Option TypeId)) (k : ℕ) (ds : List Decl) → methods_in (names_within numbers k ds) ≡ numbered text sort.Procedure 0 (procedure_defs ds)
+  methods_within numbers k ds =
+      let ts = types_from text numbers k (type_defs ds) in
       let cs = numbered text sort.Constant 0 (constant_defs ds) in
       let vs = numbered text sort.Variable 0 (single_variables ds) in
       let ps = numbered text sort.Procedure 0 (procedure_defs ds) in
       filter_both ts ((cs ++ vs) ++ ps)
-      ∙ ap₂ (λ a b. a ++ b) (types_no (type_defs ds))
+      ∙ ap₂ (λ a b. a ++ b) (types_no numbers k (type_defs ds))
       (filter_both (cs ++ vs) ps
       ∙ ap₂ (λ a b. a ++ b) (filter_both cs vs ∙ ap₂ (λ a b. a ++ b) (constants_no 0 (constant_defs ds)) (variables_no 0 (single_variables ds))) (procedures_all 0 (procedure_defs ds)))
 
@@ -366,17 +368,18 @@ module _ (text : List ℕ) where
       by true (suc i) is deeper = let found = deeper i is in (suc found.0, found.1)
       by false i is deeper = let found = deeper i is in (suc found.0, found.1)
 
-  pub is_inner : (ds : List Decl) (s : Scope) → twice text (declared_names ds) ≡ [] → s.entries ≡ (with_names empty (names_within ds)).entries → IsInner ds s
-  is_inner ds s none same =
-      let ns = names_within ds in
-      let once = within_once ds none in
+  pub is_inner : (numbers : List (Option TypeId)) (k : ℕ) (ds : List Decl) (s : Scope) → twice text (declared_names ds) ≡ [] →
+      s.entries ≡ (with_names empty (names_within numbers k ds)).entries → IsInner ds s
+  is_inner numbers k ds s none same =
+      let ns = names_within numbers k ds in
+      let once = within_once numbers k ds none in
       let all : s.entries ≡ ns = same ∙ with_all ns empty once in
-      let methods = ap methods_in all ∙ methods_within ds in
+      let methods = ap methods_in all ∙ methods_within numbers k ds in
       record {
         once = λ w. subst (λ l. copies (words l) w ≤ 1) (sym all) (once w);
         methods = methods;
         found = λ i d there.
-            let at : slice_get (methods_in ns) i ≡ Some (entry text d (means.Procedure i)) = ap (λ l. slice_get l i) (methods_within ds) ∙ numbered_get 0 (procedure_defs ds) i d there
+            let at : slice_get (methods_in ns) i ≡ Some (entry text d (means.Procedure i)) = ap (λ l. slice_get l i) (methods_within numbers k ds) ∙ numbered_get 0 (procedure_defs ds) i d there
             ∙ ap (λ k. Some (entry text d (means.Procedure k))) (let same : 0 + i ≡ i = omega arith in same) in
             let j = in_filter ns i (entry text d (means.Procedure i)) at in
             ap (lookup (λ k. bytes_eq (word text d.name) k)) all ∙ found_at ns j.0 (entry text d (means.Procedure i)) once j.1;

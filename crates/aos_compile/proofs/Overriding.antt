@@ -1,5 +1,5 @@
 -- A method whose signature may stand in the place of another one's overrides that one.
-use Rattle.std.proofs.Common.{◌≡◌, ℕ, zero, suc, ◌<◌, ◌==◌, nat_lt, List, Bool, true, false, ◌&&◌, Option, Some, slice_get, if◌then◌else◌, refl, sym, ap, ◌∙◌, eqb-true, ltb-true, ltb-false, arith}
+use Rattle.std.proofs.Common.{◌≡◌, ℕ, zero, suc, ◌<◌, ◌==◌, nat_lt, Bool, true, false, Option, Some, slice_get, if◌then◌else◌, refl, sym, ap, ◌∙◌, eqb-true, ltb-true, ltb-false, arith}
 use Rattle.std.proofs.lemmas.Option.{same_Some}
 use Rattle.std.proofs.lemmas.Bool.{and_parts}
 use Rattle.aos_types.specs.declared.row.Basic.TheVariants as basic

@@ -1,12 +1,13 @@
 -- The program that texts come to is well typed.
-use Rattle.std.proofs.Common.{◌≡◌, ℕ, suc, ◌+◌, ◌-◌, ◌^◌, ◌<◌, ◌≤◌, List, [], ◌∷◌, length, Option, Some, None, slice_get, zip, All, refl, sym, ap, subst, arith}
+use Rattle.std.proofs.Common.{◌≡◌, ℕ, suc, ◌+◌, ◌-◌, ◌<◌, ◌≤◌, List, [], ◌∷◌, length, Option, Some, None, slice_get, zip, All, refl, sym, ap, subst, arith}
 use Rattle.std.proofs.lemmas.Option.{slice_get_within}
 use Rattle.aos_types.specs.declared.row.TypeId.{TypeId}
 use Rattle.aos_types.specs.declared.TheConstants.{MOST_SCALARS}
 use Rattle.aos_typed.specs.Numbers.{predeclared_types, predeclared_rows}
 use Rattle.aos_typed.specs.Methods.{methods_in, own_methods, base_type, on_base, methods_of}
 use Rattle.aos_typed.specs.Program.{ObjectType, Module, Program}
-use Rattle.aos_typed.specs.WellTyped.{AreSlots, AreStatements, AreTypes, IsVariableType, IsProcedure, AreObjectTypes, module_scalars, IsWellTyped}
+use Rattle.aos_typed.specs.WellTyped.{AreSlots, AreStatements, AreTypes, IsVariableType, IsProcedure, AreObjectTypes, module_scalars, ProgramKeepsRules, IsWellTyped}
+use Rattle.aos_typed.specs.Rules.{ModuleKeepsRules, ObjectKeepsRules}
 use Rattle.aos_typed.proofs.Numbered.{numbered_typed}
 use Rattle.aos_symbols.specs.Home.{Home}
 use Rattle.aos_symbols.specs.Outcome as outcome
@@ -17,9 +18,11 @@ use Rattle.aos_operators.specs.Known.{object_number}
 use Rattle.aos_compile.specs.Modules.{World, no_modules, program_of}
 use Rattle.aos_compile.specs.Files.{Source, trees_from, loaded, load_order, modules, whole}
 use Rattle.aos_compile.specs.Elaborates.{ComesTo}
+use Rattle.aos_compile.proofs.Keeping.{rows_keep}
 use Rattle.aos_compile.proofs.Names.{named_well}
 use Rattle.aos_compile.proofs.TypingTypes.{known_variables}
 use Rattle.aos_compile.proofs.TypingScalars.{sum_typed}
+use Rattle.aos_compile.proofs.TypingSums.{homes_typed}
 use Rattle.aos_compile.proofs.Strings.{texts_below}
 use Rattle.aos_compile.proofs.TypingObjects.{object_types, object_homes}
 use Rattle.aos_compile.proofs.MethodsGrow.{bases_high}
@@ -60,8 +63,9 @@ pub record TypedWell (p : Program) : Type 0 where
   pub variables : All (λ m. All (λ v. IsVariableType p v.of) m.variables) p.modules
   pub few_scalars : All (λ m. module_scalars p m ≤ MOST_SCALARS) p.modules
   pub procedures : All (λ m. All (λ q. IsProcedure p q × (q.of ≡ None)) m.procedures) p.modules
+  pub rules : ProgramKeepsRules p
 
-module _ (w : World) (sound : IsWorld w) (few : length w.types < 2 ^ 32) where
+module _ (w : World) (sound : IsWorld w) where
   abbrev AreVariables : Module → Type 0
   AreVariables m = All (λ v. IsVariableType (program_of w) v.of) m.variables
 
@@ -110,7 +114,15 @@ module _ (w : World) (sound : IsWorld w) (few : length w.types < 2 ^ 32) where
       (all_are_slots (outlook w.before w.types) w.modules w.objects sound.table sound.count sound.own (bases_high w.types sound.table) t (omega arith) (omega (arith, below, count))))
 
   typed : AreTyped w
-  typed = sound.typed few
+  typed = sound.typed
+
+  keeps_rules : ProgramKeepsRules (program_of w)
+  keeps_rules = record {
+    modules = all_of ModuleKeepsRules w.modules sound.keeps.modules;
+    objects = all_of ObjectKeepsRules w.objects sound.keeps.objects;
+    rows = rows_keep w.types sound.table;
+    scalars = subst (λ n. n ≤ MOST_SCALARS) (sym (homes_typed w.types sound.table 0 w.before w.modules sound.homes)) sound.scalars;
+  }
 
   world_typed : TypedWell (program_of w)
   world_typed = record {
@@ -124,17 +136,18 @@ module _ (w : World) (sound : IsWorld w) (few : length w.types < 2 ^ 32) where
     variables = all_of AreVariables w.modules (variables_of_homes 0 w.before w.modules sound.homes);
     few_scalars = all_of HasFew w.modules (few_of_homes 0 w.before w.modules sound.homes);
     procedures = all_of (λ m. All (λ q. IsProcedure (program_of w) q × (q.of ≡ None)) m.procedures) w.modules typed.procedures;
+    rules = keeps_rules;
   }
 
--- the program of 1 to 64 texts, whose types have numbers of 32 bits
-pub well_typed : (texts : List (List ℕ)) (p : Program) → ComesTo texts (went p) → 1 ≤ length texts → length texts ≤ 64 → length p.types < 2 ^ 32 → IsWellTyped p
-well_typed texts p h some few types =
+-- the program of 1 to 64 texts
+pub well_typed : (texts : List (List ℕ)) (p : Program) → ComesTo texts (went p) → 1 ≤ length texts → length texts ≤ 64 → IsWellTyped p
+well_typed texts p h some few =
     let read = then_went (trees_from 0 h.readings) (λ ms. outcome.then (modules (zip texts ms)) (λ w. went (whole w))) p h.is in
     let made = then_went (modules (zip texts read.0)) (λ w. went (whole w)) p read.2 in
     let w = made.0 in
     let same = same_went (whole w) p made.2 in
     let named = named_well texts h.readings read.0 w h.are_readings read.1 made.1 some few in
-    let typed = world_typed w (world_sound (zip texts read.0) w made.1) (subst (λ (q : Program). length q.types < 2 ^ 32) (sym same) types) in
+    let typed = world_typed w (world_sound (zip texts read.0) w made.1) in
     subst IsWellTyped same
     (numbered_typed (program_of w) (record {
       some = named.some;
@@ -151,4 +164,4 @@ well_typed texts p h some few types =
       variables = typed.variables;
       few_scalars = typed.few_scalars;
       procedures = typed.procedures;
-    }))
+    }) typed.rules)

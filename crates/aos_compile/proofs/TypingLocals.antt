@@ -91,7 +91,7 @@ module _ (program : Program) (begins : RowsStay basic_rows program.types) (e : E
       by : (o : Bool) → is_opened e t ≡ o → IsTyped body place (if o then Of (Opened i (open_dimensions e.types t)) else (if r then Passed i else Local i)) (Some t)
       by true opening =
           let passed = is_opening outside e base a t of kind opening (open_dimensions e.types t) (type_as (open_element e.types t)) refl (elements_id e base.opens t opening) in
-          opened t (Opened i (open_dimensions e.types t)) refl refl opening (refl, (a, at, passed)) tt
+          opened t (Opened i (open_dimensions e.types t)) refl refl opening (refl, (a, at, passed)) tt tt
       by false isnt = closed (unopened isnt r same) (told isnt kind)
 
   first_typed : (i : ℕ) (x : Formal) → slice_get s.parameters i ≡ Some x → IsTyped body place (desig.parameter_place place i x) x.of

@@ -1,10 +1,11 @@
 -- One module more: where those before it are well typed and it breaks no rule, all are well typed.
-use Rattle.std.proofs.Common.{◌≡◌, ℕ, zero, suc, ◌+◌, ◌^◌, ◌<◌, ◌≤◌, ◌==◌, ◌⊎◌, inl, inr, List, [], ◌∷◌, ◌++◌, length, map, Bool, true, false, All, Option, Some, None, option_map, option_and_then, slice_get, refl, sym, ap, ◌∙◌, subst, arith, eqb-true, eq-eqb, length-append, if◌then◌else◌}
+use Rattle.std.proofs.Common.{◌≡◌, ℕ, zero, suc, ◌+◌, ◌<◌, ◌≤◌, ◌==◌, ◌⊎◌, inl, inr, List, [], ◌∷◌, ◌++◌, length, map, Bool, true, false, All, Option, Some, None, option_map, option_and_then, slice_get, sum_by, refl, sym, ap, ◌∙◌, subst, arith, eqb-true, eq-eqb, length-append, if◌then◌else◌}
 use Rattle.std.specs.Option.{option_or}
 use Rattle.std.specs.List.{flat_map}
 use Rattle.std.proofs.lemmas.List.{length-map}
+use Rattle.std.proofs.lemmas.List.Sums.{sum_by_push}
 use Rattle.std.proofs.lemmas.List.Elements.{All-weaker, All-head, All-tail}
-use Rattle.std.proofs.lemmas.Option.{none-some, same_Some, slice_get-map, slice_get_within}
+use Rattle.std.proofs.lemmas.Option.{none-some, same_Some, slice_get_within}
 use Rattle.aos_base.specs.declared.text.Pos.{Pos}
 use Rattle.aos_tree.specs.declared.decl.TypeDef.{TypeDef}
 use Rattle.aos_tree.specs.declared.decl.TypeExpr.{TypeExpr}
@@ -12,6 +13,7 @@ use Rattle.aos_tree.specs.declared.decl.TypeExpr.TheVariants as type
 use Rattle.aos_tree.specs.declared.module.Module.{Module as Tree}
 use Rattle.aos_types.specs.declared.row.TypeId.{TypeId}
 use Rattle.aos_types.specs.declared.row.TypeRow.{TypeRow}
+use Rattle.aos_types.specs.declared.TheConstants.{MOST_SCALARS}
 use Rattle.aos_types.specs.Table.{row_of, is_object}
 use Rattle.aos_typed.specs.Methods.{methods_of as methods_typed_of}
 use Rattle.aos_typed.specs.Program.{Stats, Procedure as TypedProcedure, ObjectType, Module, Program}
@@ -26,8 +28,8 @@ use Rattle.aos_symbols.specs.declared.env.Env.{Env}
 use Rattle.aos_symbols.specs.Judged.{judged, walk}
 use Rattle.aos_symbols.specs.Outcome.{went, passed}
 use Rattle.aos_symbols.specs.Outcome as outcome
-use Rattle.aos_symbols.specs.Declarations.{Procedure, procedures, methods_in, all_procedures, type_defs, all_type_defs, local_types, single_variables, formal_names, inner_decls}
-use Rattle.aos_entries.specs.Entries.{procedure_scope, inner_scope, scopes}
+use Rattle.aos_symbols.specs.Declarations.{Procedure, procedures, methods_in, all_procedures, type_defs, all_type_defs, inner_parts, types_of, single_variables, formal_names, inner_decls}
+use Rattle.aos_entries.specs.Entries.{procedure_scope, inner_scope, inner_scopes, scopes}
 use Rattle.aos_symbols.specs.Scope.{Scope, find}
 use Rattle.aos_symbols.specs.Home.{Home, object_of}
 use Rattle.aos_check_names.specs.Names.{name_breaches, declared_again, twice, module_names, other_end, within_decl}
@@ -42,10 +44,12 @@ use Rattle.aos_check_expr.proofs.Opens.{some_there, stand_fall}
 use Rattle.aos_check_expr.proofs.Whole.{IsWhole}
 use Rattle.aos_check_decl.specs.Methods.{defined_type, method_breaches, type_breaches, definition_breaches}
 use Rattle.aos_check_decl.specs.Pass.{declare}
-use Rattle.aos_check_decl.proofs.Typing.{IsDeclared, declare_sound}
+use Rattle.aos_check_decl.proofs.Typing.{variable_cells, IsDeclared, declare_sound}
+use Rattle.aos_check_decl.proofs.TypingEntries.{inner_at}
 use Rattle.aos_check_stat.specs.Bodies.{listed, body_of}
 use Rattle.aos_check_stat.proofs.Typing.{body_sound}
 use Rattle.aos_compile.specs.Modules.{World, program_of, local_type, unnamed_type, other_types, bodies_from, defined_object, beside_in, object_in, methods_of, first_scope, Beside, objects_from, Bodies, bodies, module_of, extended, elaborated}
+use Rattle.aos_compile.proofs.Keeping.{one_keeps}
 use Rattle.aos_compile.proofs.MethodNames.{AreOnceIn, types_once}
 use Rattle.aos_compile.proofs.MethodsGrow.{objects_high, bases_high}
 use Rattle.aos_compile.proofs.MethodsStay.{meant_stays, start_stays, has_own_on}
@@ -64,6 +68,7 @@ use Rattle.aos_compile.proofs.TypingProcedures.{HaveHeadings, IsSignature, AreBo
 use Rattle.aos_compile.proofs.TypingSaid.{plain_methods, said}
 use Rattle.aos_compile.proofs.TypingScopes.{locals_are, fields_are, procedure_at}
 use Rattle.aos_compile.proofs.TypingSlots.{all_own}
+use Rattle.aos_compile.proofs.TypingSums.{home_scalars, home_is, homes_stay}
 use Rattle.aos_compile.proofs.TypingWhole.{IsPlaced, IsBegun, whole}
 use Rattle.aos_compile.proofs.TypingWorld.{AreTyped, IsWorld, ready, home}
 
@@ -100,7 +105,7 @@ object_count e first (d ∷ ds) os =
 beside_count : (e : Env) (m : Tree) → length (bodies e m).answer.objects ≡ length (all_type_defs m.decls) + length e.places
 beside_count e m =
     let own = type_defs m.decls in
-    let inner = local_types (all_procedures m.decls) in
+    let inner = types_of (inner_parts m.decls) in
     let os = (walk (object_in e (first_scope m)) [] own).answer in
     omega (
       arith,
@@ -139,7 +144,7 @@ unnamed_bare (p ∷ ps) = ((refl, λ p k. record { typed = tt; methods = tt; oth
 
 others_bare : (e : Env) (m : Tree) → Each IsBare (other_types e m)
 others_bare e m =
-    joined IsBare (map (local_type e) (local_types (all_procedures m.decls))) (map unnamed_type e.places) (locals_bare e (local_types (all_procedures m.decls))) (unnamed_bare e.places)
+    joined IsBare (map (local_type e) (types_of (inner_parts m.decls))) (map unnamed_type e.places) (locals_bare e (types_of (inner_parts m.decls))) (unnamed_bare e.places)
 
 no_decls : (x : TypeExpr) → (IsObject x → ⊥) → inner_decls x ≡ []
 no_decls (type.Object' p parent shape row body end) never = absurd (never tt)
@@ -249,13 +254,14 @@ module _ (w : World) (sound : IsWorld w) (text : List ℕ) (m : Tree) (once : Ea
   fields (suc j) s v x n low high there found means =
       let count = is.first_is in
       let d = some_there (type_defs m.decls) j (omega (arith, high, count)) in
-      let inner = inner_scope text d.0 in
-      let at : slice_get (scopes text w.before is.numbers m) (suc j) ≡ Some inner =
-      get_front (map (inner_scope text) (type_defs m.decls)) _ j inner (slice_get-map (inner_scope text) (type_defs m.decls) j ∙ ap (option_map (inner_scope text)) d.1) in
+      let own = type_defs m.decls in
+      let one = inner_at text is.numbers (length own) own j d.0 d.1 in
+      let inner = inner_scope text is.numbers one.0 (inner_decls d.0.value) in
+      let at : slice_get (scopes text w.before is.numbers m) (suc j) ≡ Some inner = get_front (inner_scopes text is.numbers (length own) own) _ j inner one.1 in
       let entries : s.entries ≡ inner.entries =
       same_Some s.entries inner.entries
       (sym (ap (option_map (λ (z : Scope). z.entries)) there) ∙ is.all_entries_are (suc j) ∙ ap (option_map (λ (z : Scope). z.entries)) at) in
-      let less = fields_are text d.0 v x n (ap (λ es. find (record { entries = es; constants = []; variables = [] }) v) (sym entries) ∙ found) means in
+      let less = fields_are text is.numbers one.0 d.0 v x n (ap (λ es. find (record { entries = es; constants = []; variables = [] }) v) (sym entries) ∙ found) means in
       by d.0 d.1 less (is_object_or d.0.value)
     where
       by : (d : TypeDef) → slice_get (type_defs m.decls) j ≡ Some d → n < length (single_variables (inner_decls d.value)) → IsObject d.value ⊎ (IsObject d.value → ⊥) → n < length s.variables
@@ -410,10 +416,10 @@ module _ (w : World) (sound : IsWorld w) (text : List ℕ) (m : Tree) (once : Ea
   abbrev inside : Option TypedProcedure → Inside
   inside own = record { program = program_of world; own = own; basic = is.table.basic }
 
-  everywhere : length e.types < 2 ^ 32 → (own : Option TypedProcedure) (path : List Open) (self : Option TypeId) → IsPlaced (inside own) (record e { path = path; self_type = self }) →
+  everywhere : (own : Option TypedProcedure) (path : List Open) (self : Option TypeId) → IsPlaced (inside own) (record e { path = path; self_type = self }) →
       IsWhole (inside own) (record e { path = path; self_type = self })
-  everywhere few own path self placed =
-      whole (inside own) (record e { path = path; self_type = self }) world.before homes_more at_home is.table is.fields fields_before is.narrowed_is refl count known shapes few (called_at path self) (begun_at own path self) placed
+  everywhere own path self placed =
+      whole (inside own) (record e { path = path; self_type = self }) world.before homes_more at_home is.table is.fields fields_before is.narrowed_is refl count known shapes (called_at path self) (begun_at own path self) placed
 
   own_path : e.path ≡ env.own e.number ∷ []
   own_path = is.path_is ∙ ap (λ n. env.own n ∷ []) (sym is.number_is)
@@ -449,106 +455,115 @@ module _ (w : World) (sound : IsWorld w) (text : List ℕ) (m : Tree) (once : Ea
     behind_objects : procedure_breaches ++ (own_breaches ++ []) ≡ []
     behind_objects = none_right object_breaches (procedure_breaches ++ (own_breaches ++ [])) none
 
-    -- Where all types have numbers of 32 bits.
+    was : AreTyped w
+    was = sound.typed
 
-    module _ (few : length e.types < 2 ^ 32) where
-      was : AreTyped w
-      was = let all = long in sound.typed (omega (arith, few, all))
+    said_beside : (j : ℕ) (x : Beside) → slice_get b.objects j ≡ Some x → IsSaidBeside (program_of world) (length w.objects + j) x
+    said_beside =
+        behind own_besides (other_types e m) (λ j x. IsSaidBeside (program_of world) (length w.objects + j) x)
+        (λ j x at. let one = of_definition j x at in
+        subst (IsSaidBeside (program_of world) (length w.objects + j)) (sym one.2)
+        (said (program_of world) e m is.table.basic refl everywhere own_path is.self_is is.first_is is.procedures locals_below object_typed (length w.objects)
+        (λ i d there kind. defined i d there kind ∙ ap (λ t. Some t) (number_on i))
+        (λ i d there kind. ap (env.object e) (sym (number_on i)) ∙ found_there i d there kind) j one.0 one.1
+        (walk_none e first (type_defs m.decls) [] j one.0 (none_left object_breaches (procedure_breaches ++ (own_breaches ++ [])) none) one.1)))
+        (λ j x at. (each_at IsBare (other_types e m) j x (others_bare e m) at).1 (program_of world) (length w.objects + (length own_besides + j)))
 
-      said_beside : (j : ℕ) (x : Beside) → slice_get b.objects j ≡ Some x → IsSaidBeside (program_of world) (length w.objects + j) x
-      said_beside =
-          behind own_besides (other_types e m) (λ j x. IsSaidBeside (program_of world) (length w.objects + j) x)
-          (λ j x at. let one = of_definition j x at in
-          subst (IsSaidBeside (program_of world) (length w.objects + j)) (sym one.2)
-          (said (program_of world) e m is.table.basic refl (everywhere few) own_path is.self_is is.first_is is.procedures locals_below object_typed (length w.objects)
-          (λ i d there kind. defined i d there kind ∙ ap (λ t. Some t) (number_on i))
-          (λ i d there kind. ap (env.object e) (sym (number_on i)) ∙ found_there i d there kind) j one.0 one.1
-          (walk_none e first (type_defs m.decls) [] j one.0 (none_left object_breaches (procedure_breaches ++ (own_breaches ++ [])) none) one.1)))
-          (λ j x at. (each_at IsBare (other_types e m) j x (others_bare e m) at).1 (program_of world) (length w.objects + (length own_besides + j)))
+    abbrev ProcedureBodies : List Stats → Type 0
+    ProcedureBodies bs = AreProcedureBodies (program_of world) is.table.basic e.here.text None e.here.scopes first (procedures m.decls) e.here.signatures bs
 
-      abbrev ProcedureBodies : List Stats → Type 0
-      ProcedureBodies bs = AreProcedureBodies (program_of world) is.table.basic e.here.text None e.here.scopes first (procedures m.decls) e.here.signatures bs
+    no_self : (t : TypeId) → e.self_type ≡ Some t → None ≡ Some (object_number t)
+    no_self t self = absurd (none-some t (sym is.self_is ∙ self))
 
-      no_self : (t : TypeId) → e.self_type ≡ Some t → None ≡ Some (object_number t)
-      no_self t self = absurd (none-some t (sym is.self_is ∙ self))
+    procedures_here : ProcedureBodies b.procedures
+    procedures_here =
+        let more =
+        procedures_sound (program_of world) e m is.table.basic everywhere own_path is.self_is is.first_is is.procedures locals_below object_typed e.path e.self_type
+        (around_module (program_of world) e m is.table.basic everywhere own_path is.self_is is.first_is is.procedures locals_below object_typed) None no_self
+        0 (procedures m.decls) e.here.signatures first [] (let same : first ≡ first + 0 = omega arith in same)
+        (λ i q at. ap (slice_get (all_procedures m.decls)) (let same : 0 + i ≡ i = omega arith in same) ∙ get_front (procedures m.decls) (flat_map methods_in (type_defs m.decls)) i q at)
+        (λ i. ap (slice_get e.here.signatures) (let same : i ≡ 0 + i = omega arith in same)) (none_left procedure_breaches (own_breaches ++ []) behind_objects) in
+        subst ProcedureBodies (sym more.1) more.2
 
-      procedures_here : ProcedureBodies b.procedures
-      procedures_here =
-          let more =
-          procedures_sound (program_of world) e m is.table.basic (everywhere few) own_path is.self_is is.first_is is.procedures locals_below object_typed e.path e.self_type
-          (around_module (program_of world) e m is.table.basic (everywhere few) own_path is.self_is is.first_is is.procedures locals_below object_typed) None no_self
-          0 (procedures m.decls) e.here.signatures first [] (let same : first ≡ first + 0 = omega arith in same)
-          (λ i q at. ap (slice_get (all_procedures m.decls)) (let same : 0 + i ≡ i = omega arith in same) ∙ get_front (procedures m.decls) (flat_map methods_in (type_defs m.decls)) i q at)
-          (λ i. ap (slice_get e.here.signatures) (let same : i ≡ 0 + i = omega arith in same)) (none_left procedure_breaches (own_breaches ++ []) behind_objects) in
-          subst ProcedureBodies (sym more.1) more.2
+    own_body_here : AreStatements (program_of world) None (listed b.own)
+    own_body_here =
+        body_sound (inside None) e (base (program_of world) e m is.table.basic everywhere own_path is.self_is is.first_is is.procedures locals_below object_typed) false m.body
+        (none_left own_breaches [] (none_right procedure_breaches (own_breaches ++ []) behind_objects))
 
-      own_body_here : AreStatements (program_of world) None (listed b.own)
-      own_body_here =
-          body_sound (inside None) e (base (program_of world) e m is.table.basic (everywhere few) own_path is.self_is is.first_is is.procedures locals_below object_typed) false m.body
-          (none_left own_breaches [] (none_right procedure_breaches (own_breaches ++ []) behind_objects))
+    -- All modules.
 
-      -- All modules.
+    abbrev IsPlain : TypedProcedure → Type 0
+    IsPlain q = IsProcedure (program_of w) q × (q.of ≡ None)
 
-      abbrev IsPlain : TypedProcedure → Type 0
-      IsPlain q = IsProcedure (program_of w) q × (q.of ≡ None)
+    abbrev IsPlainOn : TypedProcedure → Type 0
+    IsPlainOn q = IsProcedure (program_of world) q × (q.of ≡ None)
 
-      abbrev IsPlainOn : TypedProcedure → Type 0
-      IsPlainOn q = IsProcedure (program_of world) q × (q.of ≡ None)
+    parameters_there : (n k : ℕ) (x : TypedProcedure) → procedure_in (program_of w) n k ≡ Some x → HaveTypes (program_of w) x.parameters
+    parameters_there n k x there = by (slice_get w.modules n) refl there
+      where
+        by : (o : Option Module) → slice_get w.modules n ≡ o → option_and_then (λ (y : Module). slice_get y.procedures k) o ≡ Some x → HaveTypes (program_of w) x.parameters
+        by None at there = absurd (none-some x there)
+        by (Some y) at there =
+            (all_at IsPlain y.procedures k x (each_at (λ (y : Module). All IsPlain y.procedures) w.modules n y was.procedures at) there).0.parameters
 
-      parameters_there : (n k : ℕ) (x : TypedProcedure) → procedure_in (program_of w) n k ≡ Some x → HaveTypes (program_of w) x.parameters
-      parameters_there n k x there = by (slice_get w.modules n) refl there
-        where
-          by : (o : Option Module) → slice_get w.modules n ≡ o → option_and_then (λ (y : Module). slice_get y.procedures k) o ≡ Some x → HaveTypes (program_of w) x.parameters
-          by None at there = absurd (none-some x there)
-          by (Some y) at there =
-              (all_at IsPlain y.procedures k x (each_at (λ (y : Module). All IsPlain y.procedures) w.modules n y was.procedures at) there).0.parameters
+    grows : Grows (program_of w) (program_of world)
+    grows =
+        grown w.modules (module_of e m b ∷ []) w.types e.types w.objects (objects_from e (length w.objects) b.objects) is.stays sound.table is.table sound.count count parameters_there
+        (λ k o there. methods_typed (program_of w) k o (was.objects k o there)) (λ k o there. (was.objects k o there).typed.parameters)
 
-      grows : Grows (program_of w) (program_of world)
-      grows =
-          grown w.modules (module_of e m b ∷ []) w.types e.types w.objects (objects_from e (length w.objects) b.objects) is.stays sound.table is.table sound.count count parameters_there
-          (λ k o there. methods_typed (program_of w) k o (was.objects k o there)) (λ k o there. (was.objects k o there).typed.parameters)
+    longer : length world.modules ≡ length w.modules + 1
+    longer = length-append w.modules (module_of e m b ∷ [])
 
-      longer : length world.modules ≡ length w.modules + 1
-      longer = length-append w.modules (module_of e m b ∷ [])
+    abbrev AreSound : Module → Type 0
+    AreSound x = AreStatements (program_of world) None x.body.statements
 
-      abbrev AreSound : Module → Type 0
-      AreSound x = AreStatements (program_of world) None x.body.statements
+    all_bodies : Each AreSound world.modules
+    all_bodies =
+        joined AreSound w.modules (module_of e m b ∷ [])
+        (implied (λ x. AreStatements (program_of w) None x.body.statements) AreSound (λ x is. body_grows (program_of w) (program_of world) grows x.body.statements is) w.modules was.bodies)
+        (own_body_here, tt)
 
-      all_bodies : Each AreSound world.modules
-      all_bodies =
-          joined AreSound w.modules (module_of e m b ∷ [])
-          (implied (λ x. AreStatements (program_of w) None x.body.statements) AreSound (λ x is. body_grows (program_of w) (program_of world) grows x.body.statements is) w.modules was.bodies)
-          (own_body_here, tt)
+    here : e.number < length world.modules
+    here = omega (arith, longer, is.number_is, same_length w.types 0 w.before w.modules sound.homes)
 
-      here : e.number < length world.modules
-      here = omega (arith, longer, is.number_is, same_length w.types 0 w.before w.modules sound.homes)
+    all_objects : (k : ℕ) (o : ObjectType) → slice_get world.objects k ≡ Some o → IsBeside (program_of world) k o
+    all_objects =
+        behind w.objects (objects_from e (length w.objects) b.objects) (IsBeside (program_of world))
+        (λ k o there. beside_grows (program_of w) (program_of world) grows sound.count (omega (arith, longer)) k o there (was.objects k o there))
+        (beside_new (program_of world) e is.table refl here b.objects (length w.objects) said_beside)
 
-      all_objects : (k : ℕ) (o : ObjectType) → slice_get world.objects k ≡ Some o → IsBeside (program_of world) k o
-      all_objects =
-          behind w.objects (objects_from e (length w.objects) b.objects) (IsBeside (program_of world))
-          (λ k o there. beside_grows (program_of w) (program_of world) grows sound.count (omega (arith, longer)) k o there (was.objects k o there))
-          (beside_new (program_of world) e is.table refl here b.objects (length w.objects) said_beside)
+    headings : HaveHeadings (program_of world) is.table.basic e.here.text e.here.scopes first (procedures m.decls) e.here.signatures
+    headings j q at =
+        let one = is.procedures j q (get_front (procedures m.decls) (flat_map methods_in (type_defs m.decls)) j q at) in
+        record { signature = one.signature; scope = one.scope; signature_is = one.signature_is; scope_is = one.scope_is; heading = one.heading }
 
-      headings : HaveHeadings (program_of world) is.table.basic e.here.text e.here.scopes first (procedures m.decls) e.here.signatures
-      headings j q at =
-          let one = is.procedures j q (get_front (procedures m.decls) (flat_map methods_in (type_defs m.decls)) j q at) in
-          record { signature = one.signature; scope = one.scope; signature_is = one.signature_is; scope_is = one.scope_is; heading = one.heading }
+    abbrev AreProcedures : Module → Type 0
+    AreProcedures x = All IsPlainOn x.procedures
 
-      abbrev AreProcedures : Module → Type 0
-      AreProcedures x = All IsPlainOn x.procedures
+    all_procedures_there : Each AreProcedures world.modules
+    all_procedures_there =
+        joined AreProcedures w.modules (module_of e m b ∷ [])
+        (implied (λ x. All IsPlain x.procedures) AreProcedures
+        (λ x. All-weaker IsPlain IsPlainOn (λ q is. (procedure_grows (program_of w) (program_of world) grows q is.0, is.1)) x.procedures) w.modules was.procedures) (
+          all_of IsPlainOn (module_of e m b).procedures
+              (procedures_typed (program_of world) is.table.basic e.here.text e.here.scopes first (procedures m.decls) e.here.signatures b.procedures headings procedures_here),
+          tt,
+        )
 
-      all_procedures_there : Each AreProcedures world.modules
-      all_procedures_there =
-          joined AreProcedures w.modules (module_of e m b ∷ [])
-          (implied (λ x. All IsPlain x.procedures) AreProcedures
-          (λ x. All-weaker IsPlain IsPlainOn (λ q is. (procedure_grows (program_of w) (program_of world) grows q is.0, is.1)) x.procedures) w.modules was.procedures) (
-            all_of IsPlainOn (module_of e m b).procedures
-                (procedures_typed (program_of world) is.table.basic e.here.text e.here.scopes first (procedures m.decls) e.here.signatures b.procedures headings procedures_here),
-            tt,
-          )
+    all_typed : AreTyped world
+    all_typed = record { bodies = all_bodies; objects = all_objects; procedures = all_procedures_there }
 
-      all_typed : AreTyped world
-      all_typed = record { bodies = all_bodies; objects = all_objects; procedures = all_procedures_there }
+    -- the variables of all modules have few scalars
+    few_scalars : sum_by (home_scalars e.types) world.before ≤ MOST_SCALARS
+    few_scalars =
+        let f = home_scalars e.types in
+        let stay = homes_stay w.types e.types sound.table is.table is.stays 0 w.before w.modules sound.homes in
+        let same : sum_by f e.before ≡ sum_by (home_scalars w.types) w.before = ap (sum_by f) is.before_is ∙ stay in
+        let so_far : sum_by f e.before ≤ MOST_SCALARS = subst (λ n. n ≤ MOST_SCALARS) (sym same) sound.scalars in
+        let own = home_is e.types is.table e.here is.own is.own_is in
+        let all : sum_by f world.before ≡ sum_by f e.before + sum_by (variable_cells e.types) is.own.variables =
+        sum_by_push f w.before e.here ∙ (λ i. sum_by f (sym is.before_is i) + own i) in
+        subst (λ n. n ≤ MOST_SCALARS) (sym all) (is.few_all so_far)
 
     -- What names stand for behind it.
 
@@ -576,6 +591,8 @@ module _ (w : World) (sound : IsWorld w) (text : List ℕ) (m : Tree) (once : Ea
       own = own_next;
       table = is.table;
       typed = all_typed;
+      scalars = few_scalars;
+      keeps = one_keeps w sound.keeps e m is.initials none;
     }
 
 module _ (w : World) (sound : IsWorld w) (text : List ℕ) (m : Tree) where

@@ -13,7 +13,7 @@ use Rattle.aos_symbols.specs.declared.home.ObjectScope.{ObjectScope}
 use Rattle.aos_symbols.specs.declared.env.Env.{Env}
 use Rattle.aos_symbols.specs.Judged.{walk}
 use Rattle.aos_symbols.specs.Declarations.{procedures, type_defs, inner_decls}
-use Rattle.aos_entries.specs.Entries.{number_at, objects_of, inner_scope, scopes}
+use Rattle.aos_entries.specs.Entries.{number_at, objects_of, inner_scope, inner_scopes, scopes}
 use Rattle.aos_symbols.specs.Home.{Home, object_of}
 use Rattle.aos_symbols.specs.Scope.{Scope}
 use Rattle.aos_symbols.specs.Env as env
@@ -22,6 +22,7 @@ use Rattle.aos_symbols.proofs.Each.{Each, each_at}
 use Rattle.aos_symbols.proofs.Holds.{none_left, none_right}
 use Rattle.aos_symbols.proofs.Told.{get_front}
 use Rattle.aos_check_decl.specs.Methods.{defined_type, type_slots, definition_slots}
+use Rattle.aos_check_decl.proofs.TypingEntries.{inner_at}
 use Rattle.aos_compile.specs.Modules.{Beside, defined_object, beside_in, object_in}
 use Rattle.aos_compile.proofs.MethodNames.{IsInner, is_inner, AreOnceIn}
 use Rattle.aos_compile.proofs.ObjectScopes.{IsObject, scope_at, methods_before, found_object, object_found}
@@ -118,9 +119,10 @@ module _ (types : List TypeRow) (number : ℕ) (before : List Home) (text : List
 
     pub is_found : (j : ℕ) (d : TypeDef) → slice_get (type_defs m.decls) j ≡ Some d → IsObject d.value → IsFound e m j d (record { 0 = length types + j })
     is_found j d there object =
-        let inner = inner_scope text d in
-        let at : slice_get (scopes text before numbers m) (suc j) ≡ Some inner =
-        get_front (map (inner_scope text) (type_defs m.decls)) _ j inner (slice_get-map (inner_scope text) (type_defs m.decls) j ∙ ap (option_map (inner_scope text)) there) in
+        let own = type_defs m.decls in
+        let one = inner_at text numbers (length own) own j d there in
+        let inner = inner_scope text numbers one.0 (inner_decls d.value) in
+        let at : slice_get (scopes text before numbers m) (suc j) ≡ Some inner = get_front (inner_scopes text numbers (length own) own) _ j inner one.1 in
         let s = entries_of (slice_get e.here.scopes (suc j)) inner (entries_are (suc j) ∙ ap (option_map (λ (s : Scope). s.entries)) at) in
         record {
           there = there;
@@ -128,7 +130,7 @@ module _ (types : List TypeRow) (number : ℕ) (before : List Home) (text : List
           scope = s.0;
           scope_is = s.1;
           inner = subst (λ v. IsInner v (inner_decls d.value) s.0) (sym text_is)
-              (is_inner text (inner_decls d.value) s.0 (each_at (AreOnceIn text) (type_defs m.decls) j d once there) s.2);
+              (is_inner text numbers one.0 (inner_decls d.value) s.0 (each_at (AreOnceIn text) (type_defs m.decls) j d once there) s.2);
           slots_is =
               ap (λ ks. slice_get ks j) slots_are ∙ slice_get-map (definition_slots e) (type_defs m.decls) j ∙ ap (option_map (definition_slots e)) there
               ∙ ap (λ o. Some (type_slots e o)) (defined j d there object);

@@ -19,7 +19,7 @@ use Rattle.aos_typed.specs.Program.{Place, ModuleVar, Local, Passed, Field, Inde
 use Rattle.aos_typed.specs.Open.{open_dimensions, open_element}
 use Rattle.aos_typed.specs.Formals.{AreSame, Agree, HasFormals, pattern_in, pattern_of}
 use Rattle.aos_typed.specs.Methods.{method_in, initializer}
-use Rattle.aos_typed.specs.WellTyped.{variable_type, procedure_in, field_type, target, is_reference, is_value, is_whole, Fits, IsProcedural, amount_type, Takes, IsArrayOf, IsConstantText, IsOpening, IsByReference, IsByValue, IsParameter, NamesType, IsGiven, IsPlaceOf, IsObjectAt, AreRows, AreArguments, IsCalled, IsOf, IsNamed, AreObjects, AreLengthsOf, IsCall, IsInitialized, IsReturn, IsStatement, AreStatements, AreArms, AreCases, IsType}
+use Rattle.aos_typed.specs.WellTyped.{variable_type, procedure_in, field_type, target, is_reference, is_value, is_whole, Fits, IsProcedural, amount_type, Takes, IsArrayOf, IsConstantText, IsNoConstant, AreVariables, IsOpening, IsByReference, IsByValue, IsParameter, NamesType, IsGiven, IsPlaceOf, IsObjectAt, AreRows, AreArguments, IsCalled, IsOf, IsNamed, AreObjects, AreLengthsOf, IsCall, IsInitialized, IsReturn, IsStatement, AreStatements, AreArms, AreCases, IsType}
 use Rattle.aos_symbols.proofs.Each.{Each}
 use Rattle.aos_symbols.proofs.Told.{get_front}
 use Rattle.aos_check_expr.proofs.Opens.{OpensFall, stand_fall, dimensions_stay, element_stays}
@@ -229,6 +229,17 @@ module _ (p q : Program) (grows : Grows p q) where
   constant_grows (Typed x k) n h = h
   constant_grows (Guarded x k) n h = h
 
+  no_constant_grows : (x : Place) → IsNoConstant p x → IsNoConstant q x
+  no_constant_grows (ModuleVar m k) h = (h.0, variable_grows m k h.0 h.1)
+  no_constant_grows x h = h
+
+  variables_grow : (r : Rows) → AreVariables p r → AreVariables q r
+  variables_grow (Known x ns) h = no_constant_grows x h
+  variables_grow (Opened k j) h = h
+  variables_grow (Row r of e) h = variables_grow r h
+  variables_grow (Spread e j) h = h
+  variables_grow (Longer r ns) h = variables_grow r h
+
   -- parameters
   value_parameter : (a : Parameter) (t : TType) → IsType p a.of → IsByValue p a t → IsByValue q a t
   value_parameter a t there h = (closed_stays p.types q.types grows.rows (id_of a.of).0 there h.0, h.1, h.2)
@@ -297,7 +308,7 @@ module _ (p q : Program) (grows : Grows p q) where
       place_grows (Passed k) t h = (h.0, h.1, reference_parameter h.0 t (own_there k h.0 h.1) h.2)
       place_grows (Field x of k) t h = (either_grows (λ a. (place_grows x of a.0, record_grows of a.1)) (object_grows x of) h.0, field_grows (id_of of) k (id_of t) h.1)
       place_grows (Index x n of e) t h = (h.0, place_grows x h.0 h.1, row_grows (id_of h.0).0 (row.Array n (id_of of)) h.2, value_grows e (Integer W64) h.3, h.4)
-      place_grows (Of r) t h = rows_grow r 0 t h
+      place_grows (Of r) t h = (rows_grow r 0 t h.0, variables_grow r h.1)
       place_grows (Deref e u) t h = (h.0, value_grows e h.0 h.1, target_grows h.0 (id_of u) h.2, whole_grows u h.3, h.4)
       place_grows (Typed x k) t h = (place_grows x (Named k) h.0, record_grows (Named k) h.1, h.2)
       place_grows (Guarded x k) t h = (h.0, place_grows x h.0 h.1, names_grow x h.0 h.2, record_grows (Named k) h.3, h.4)
@@ -343,7 +354,7 @@ module _ (p q : Program) (grows : Grows p q) where
           (h.0, h.1, h.2, (h.3.0, place_grows x h.3.0 h.3.1, given_grows h.0 x h.3.0 one.0 h.3.2), arguments_grow more h.1 one.1 h.4)
       arguments_grow (Opening r more) as' all h =
           let one = first_there as' h.0 h.1 h.4 all in
-          (h.0, h.1, h.2, h.3, h.4, opening_grows h.0 h.2 h.3 one.0 h.5, rows_grow r h.2 h.3 h.6, h.7, arguments_grow more h.1 one.1 h.8)
+          (h.0, h.1, h.2, h.3, h.4, opening_grows h.0 h.2 h.3 one.0 h.5, rows_grow r h.2 h.3 h.6, h.7, arguments_grow more h.1 one.1 h.8, λ by_reference. variables_grow r (h.9 by_reference))
 
       called_grows : (c : Callee) (x : Procedure) → IsCalled p own c x → IsCalled q own c x × HaveTypes p x.parameters
       called_grows (Plain m k) x h = (procedure_grows m k x h, grows.parameters m k x h)
@@ -435,7 +446,7 @@ module _ (p q : Program) (grows : Grows p q) where
       statement_grows : (s : Stat) → IsStatement p own s → IsStatement q own s
       statement_grows (Assign at t x e) h = (place_grows x t h.0, scalar_grows t h.1, value_grows e t h.2)
       statement_grows (Copy at t x y) h = (place_grows x t h.0, (h.1.0, place_grows y h.1.0 h.1.1, comes_grow (id_of h.1.0) (id_of t) h.1.2), whole_grows t h.2)
-      statement_grows (PutText at strict x y) h = (rows_grow x 1 TChar h.0, rows_grow y 1 TChar h.1, h.2)
+      statement_grows (PutText at strict x y) h = (rows_grow x 1 TChar h.0, rows_grow y 1 TChar h.1, h.2, variables_grow y h.3)
       statement_grows (If at arms) h = arms_grow arms h
       statement_grows (Case at e cases) h = (selector_grows e h.0, h.1, cases_grow cases h.2)
       statement_grows (While at e body) h = (value_grows e _ h.0, statements_grow body h.1)

@@ -28,7 +28,7 @@ use Rattle.aos_check_expr.proofs.Whole.{IsWhole}
 use Rattle.aos_check_decl.specs.Methods.{defined_type}
 use Rattle.aos_check_decl.proofs.Typing.{IsHeading, HasHeading}
 use Rattle.aos_check_stat.specs.Bodies.{listed, body_of, priority_of}
-use Rattle.aos_compile.specs.Modules.{Beside, spelling, object_body, has_active, body_with, bodies_from, first_scope, object_procedure, slotted, method_beside, methods_of, defined_object, beside_in}
+use Rattle.aos_compile.specs.Modules.{Beside, spelling, field_spellings, object_body, has_active, body_with, bodies_from, first_scope, object_procedure, slotted, method_beside, methods_of, defined_object, beside_in}
 use Rattle.aos_compile.proofs.ObjectScopes.{IsObject, is_object_or, scope_at, methods_before, method_at}
 use Rattle.aos_compile.proofs.TypingBodies.{body_within, around_object, AreMore, procedures_sound}
 use Rattle.aos_compile.proofs.TypingObjects.{IsSaidBeside}
@@ -108,6 +108,8 @@ module _ (program : Program) (e : Env) (m : Tree) (begins : RowsStay env.basic_r
           let sigs = drop first_method e.here.signatures in
           let x = λ (ss : List Stat) (bs : List Stats). (let y : Beside = record {
             name = spelling e.here.text d.def.name;
+            at = d.def.name.pos;
+            fields = field_spellings e.here.text d.value;
             has_body = is_some (object_body d.value);
             is_active = has_active e.here.text (object_body d.value);
             priority = priority_of f (object_body d.value);

@@ -12,10 +12,10 @@ use Rattle.aos_symbols.specs.declared.scope.Meaning.{Meaning}
 use Rattle.aos_symbols.specs.declared.scope.Meaning.TheVariants as means
 use Rattle.aos_entries.specs.declared.entries.Sort.TheVariants as sort
 use Rattle.aos_symbols.specs.Spelling.{word}
-use Rattle.aos_symbols.specs.Declarations.{constant_defs, type_defs, single_variables, procedure_defs, Procedure, all_procedures, inner_decls, formal_names}
+use Rattle.aos_symbols.specs.Declarations.{constant_defs, type_defs, inner_types, single_variables, procedure_defs, Procedure, all_procedures, inner_decls, formal_names}
 use Rattle.aos_symbols.specs.Scope.{Named, find}
 use Rattle.aos_symbols.specs.Home.{Home}
-use Rattle.aos_entries.specs.Entries.{among, module_named, numbered, types_from, inner_type, inner_scope, import_entry, other_entries, own_scope, unmarked, procedure_scope, procedure_scopes, scopes}
+use Rattle.aos_entries.specs.Entries.{among, module_named, numbered, types_from, inner_scope, import_entry, other_entries, own_scope, unmarked, procedure_scope, procedure_scopes, scopes}
 use Rattle.aos_symbols.proofs.Each.{Each, joined}
 use Rattle.aos_symbols.proofs.Found.{found_is}
 use Rattle.aos_check_decl.proofs.TypingEntries.{behind_types}
@@ -177,7 +177,7 @@ procedure_from text numbers k (q ∷ qs) (suc j) p is = procedure_from text numb
 pub procedure_at : (text : List ℕ) (hs : List Home) (numbers : List (Option TypeId)) (m : Tree) (j : ℕ) (p : Procedure) → slice_get (all_procedures m.decls) j ≡ Some p →
     (n : ℕ) × (slice_get (scopes text hs numbers m) (suc (length (type_defs m.decls)) + j) ≡ Some (procedure_scope text numbers n p.formals p.decls))
 procedure_at text hs numbers m j p is =
-    let one = procedure_from text numbers (length (type_defs m.decls)) (all_procedures m.decls) j p is in
+    let one = procedure_from text numbers (length (type_defs m.decls) + length (inner_types (type_defs m.decls))) (all_procedures m.decls) j p is in
     (one.0, behind_types text hs numbers m j ∙ one.1)
 
 pub locals_are : (text : List ℕ) (numbers : List (Option TypeId)) (n : ℕ) (p : Procedure) (w : List ℕ) (x : Entry) (k : ℕ) →
@@ -214,22 +214,18 @@ variables_are text hs numbers m w x k found means =
     found k means
 
 -- and a variable in the scope of a type is a field of it
-pub fields_are : (text : List ℕ) (d : TypeDef) (w : List ℕ) (x : Entry) (k : ℕ) → find (inner_scope text d) w ≡ Some x → x.means ≡ means.Variable k →
-    k < length (single_variables (inner_decls d.value))
-fields_are text d w x k found means =
+pub fields_are : (text : List ℕ) (numbers : List (Option TypeId)) (n : ℕ) (d : TypeDef) (w : List ℕ) (x : Entry) (k : ℕ) →
+    find (inner_scope text numbers n (inner_decls d.value)) w ≡ Some x → x.means ≡ means.Variable k → k < length (single_variables (inner_decls d.value))
+fields_are text numbers n d w x k found means =
     let ds = inner_decls d.value in
     let vs = single_variables ds in
     let to = length vs in
-    let ts = map (inner_type text) (type_defs ds) in
+    let ts = types_from text numbers n (type_defs ds) in
     let cs = numbered text sort.Constant 0 (constant_defs ds) in
     let ns = numbered text sort.Variable 0 vs in
     let ps = numbered text sort.Procedure 0 (procedure_defs ds) in
     let P = IsBelow text to in
     found_is P (ts ++ other_entries text ds) w x
-    (joined P ts (other_entries text ds) (inner_types_below (type_defs ds))
+    (joined P ts (other_entries text ds) (types_below text to numbers n (type_defs ds))
     (joined P (cs ++ ns) ps (joined P cs ns (constants_below text to 0 (constant_defs ds)) (variables_below text to 0 vs (omega arith))) (procedures_below text to 0 (procedure_defs ds))))
     found k means
-  where
-    inner_types_below : (es : List TypeDef) → Each (IsBelow text (length (single_variables (inner_decls d.value)))) (map (inner_type text) es)
-    inner_types_below [] = tt
-    inner_types_below (e ∷ es) = (λ n same. absurd (type_no _ n same), inner_types_below es)

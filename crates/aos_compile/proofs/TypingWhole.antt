@@ -1,8 +1,8 @@
 -- The environment of bodies: what is known of it where the modules before and this one break no rule.
-use Rattle.std.proofs.Common.{◌≡◌, ℕ, ◌+◌, ◌<◌, ◌==◌, ◌-◌, ◌^◌, List, [], ◌∷◌, length, map, Bool, true, false, is_some, if◌then◌else◌, Option, Some, None, option_map, option_and_then, slice_get, refl, sym, ap, ◌∙◌, subst, eqb-true, arith}
+use Rattle.std.proofs.Common.{◌≡◌, ℕ, ◌+◌, ◌<◌, ◌==◌, ◌-◌, List, [], ◌∷◌, length, map, Bool, true, false, is_some, if◌then◌else◌, Option, Some, None, option_map, option_and_then, slice_get, refl, sym, ap, ◌∙◌, subst, eqb-true, arith}
 use Rattle.std.proofs.lemmas.Bool.{and_parts}
 use Rattle.std.proofs.lemmas.List.{length-map}
-use Rattle.std.proofs.lemmas.Option.{none-some, same_Some, slice_get-map, slice_get_past, slice_get_within}
+use Rattle.std.proofs.lemmas.Option.{none-some, same_Some, slice_get-map, slice_get_within}
 use Rattle.aos_types.specs.declared.row.TypeId.{TypeId}
 use Rattle.aos_types.specs.declared.row.TypeRow.TheVariants as row
 use Rattle.aos_types.specs.Table.{row_of, is_object}
@@ -76,7 +76,7 @@ module _ (p : Inside) (e : Env) (hs : List Home) (are : AreHomes e.types 0 hs p.
     (table : AreReady e.types) (here : FieldsAgree e.types e.here) (before : (m : ℕ) (h : Home) → slice_get e.before m ≡ Some h → FieldsAgree e.types h)
     (none : e.narrowed ≡ []) (rows : p.program.types ≡ e.types) (count : length e.types ≡ 10 + length p.program.objects)
     (known : (t : TypeId) (o : ObjectScope) → env.object e t ≡ Some o → (h : Home) × (env.home e o.home ≡ Some h) × (object_of h t ≡ Some o))
-    (shapes : (k : ℕ) (o : ObjectType) → slice_get p.program.objects k ≡ Some o → IsShaped e.types k o) (few : length e.types < 2 ^ 32)
+    (shapes : (k : ℕ) (o : ObjectType) → slice_get p.program.objects k ≡ Some o → IsShaped e.types k o)
     (called : (t : TypeId) (w : Word) (m : Meant) → is_object (row_of e.types t) ≡ true → meant e t w ≡ Some m →
     (q : TypedProcedure) × (slice_get (methods_of p.program (object_number t)) m.slot ≡ Some q) × IsMeant e p.program.modules p.program.objects m q)
     (begun : (t : TypeId) → is_object (row_of e.types t) ≡ true → IsBegun p e t)
@@ -212,9 +212,6 @@ module _ (p : Inside) (e : Env) (hs : List Home) (are : AreHomes e.types 0 hs p.
         is_pattern e.types table t fs r is,
       )
 
-  unnamed : row_of e.types env.procedure ≡ None
-  unnamed = slice_get_past e.types 4294967295 (omega (arith, few))
-
   by_method : (t : TypeId) (w : Word) (m : Method) → env.method_named e t w ≡ Some m → is_object (row_of e.types t) ≡ true → (s : Signature) → env.signature e m.home m.number ≡ Some s →
       (q : TypedProcedure) × (slice_get (methods_of p.program (object_number t)) m.slot ≡ Some q) × IsSigned e s q
   by_method t w m found object s is =
@@ -243,7 +240,6 @@ module _ (p : Inside) (e : Env) (hs : List Home) (are : AreHomes e.types 0 hs p.
     initials = initials;
     initial = initial;
     patterns = patterns;
-    unnamed = unnamed;
     signatures = by_signature;
     strings = λ m h there. let one = home_of m h there in (one.0, one.1, counted m h one.0 there one.2, one.2.texts);
   }

@@ -1,10 +1,11 @@
 -- Worlds whose modules break no rule, and what one module more declares.
-use Rattle.std.proofs.Common.{◌≡◌, ℕ, suc, ◌+◌, ◌^◌, ◌<◌, ◌≤◌, List, [], ◌∷◌, length, map, true, All, Option, Some, None, slice_get, zip, refl, sym, ap, ◌∙◌, subst, length-append, arith}
+use Rattle.std.proofs.Common.{◌≡◌, ℕ, suc, ◌+◌, ◌<◌, ◌≤◌, List, [], ◌∷◌, length, map, true, All, Option, Some, None, slice_get, sum_by, zip, refl, sym, ap, ◌∙◌, subst, length-append, arith}
 use Rattle.std.specs.List.{flat_map}
 use Rattle.std.proofs.lemmas.Option.{none-some, same_Some, slice_get_within}
 use Rattle.aos_tree.specs.declared.decl.Def.{Def}
 use Rattle.aos_tree.specs.declared.module.Module.{Module as Tree}
 use Rattle.aos_types.specs.declared.row.TypeId.{TypeId}
+use Rattle.aos_types.specs.declared.TheConstants.{MOST_SCALARS}
 use Rattle.aos_types.specs.Table.{row_of, is_object}
 use Rattle.aos_typed.specs.Program.{Nothing, Procedure as TypedProcedure, ObjectType}
 use Rattle.aos_typed.specs.WellTyped.{AreStatements, IsProcedure}
@@ -21,6 +22,7 @@ use Rattle.aos_symbols.proofs.Told.{get_front}
 use Rattle.aos_check_expr.proofs.Opens.{some_there}
 use Rattle.aos_check_decl.proofs.Typing.{AreReady, IsReady, IsHeading, IsDeclared}
 use Rattle.aos_compile.specs.Modules.{World, no_modules, program_of, first_scope, Bodies, variables_of, variable_of, procedure_of, module_of}
+use Rattle.aos_compile.proofs.Keeping.{WorldKeeps, none_keep}
 use Rattle.aos_compile.proofs.OwnMethods.{AreNamed, are_named}
 use Rattle.aos_compile.proofs.TypingHomes.{IsHome, AreHomes, home_at}
 use Rattle.aos_compile.proofs.TypingLocals.{types_beside}
@@ -29,6 +31,7 @@ use Rattle.aos_compile.proofs.TypingObjects.{IsShaped, IsBeside}
 use Rattle.aos_compile.proofs.TypingOutlook.{outlook}
 use Rattle.aos_compile.proofs.TypingProcedures.{IsSignature, heading_signature, procedures_long, signatures_are}
 use Rattle.aos_compile.proofs.TypingScopes.{variables_are, procedures_are}
+use Rattle.aos_compile.proofs.TypingSums.{home_scalars}
 use Rattle.aos_compile.proofs.TypingTypes.{basic_ready}
 
 -- what is typed of it
@@ -37,14 +40,15 @@ pub record AreTyped (w : World) : Type 0 where
   pub objects : (k : ℕ) (o : ObjectType) → slice_get w.objects k ≡ Some o → IsBeside (program_of w) k o
   pub procedures : Each (λ m. All (λ q. IsProcedure (program_of w) q × (q.of ≡ None)) m.procedures) w.modules
 
--- where its types are few, all is well typed: no type has the number that a procedure which is named has in the place of one
 pub record IsWorld (w : World) : Type 0 where
   pub homes : AreHomes w.types 0 w.before w.modules
   pub count : length w.types ≡ 10 + length w.objects
   pub shapes : (k : ℕ) (o : ObjectType) → slice_get w.objects k ≡ Some o → IsShaped w.types k o
   pub own : (t : TypeId) → 10 ≤ t.0 → t.0 < length w.types → HasOwn (outlook w.before w.types) w.modules w.objects t
   pub table : AreReady w.types
-  pub typed : length w.types < 2 ^ 32 → AreTyped w
+  pub typed : AreTyped w
+  pub scalars : sum_by (home_scalars w.types) w.before ≤ MOST_SCALARS
+  pub keeps : WorldKeeps w
 
 pub no_world : IsWorld no_modules
 no_world = record {
@@ -53,7 +57,9 @@ no_world = record {
   shapes = λ k o there. absurd (none-some o there);
   own = λ t high below. absurd (omega (arith, high, below));
   table = basic_ready;
-  typed = λ few. record { bodies = tt; objects = λ k o there. absurd (none-some o there); procedures = tt };
+  typed = record { bodies = tt; objects = λ k o there. absurd (none-some o there); procedures = tt };
+  scalars = let few : 0 ≤ MOST_SCALARS = omega arith in few;
+  keeps = none_keep;
 }
 
 module _ (w : World) (sound : IsWorld w) (text : List ℕ) (m : Tree) where

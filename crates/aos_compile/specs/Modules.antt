@@ -1,16 +1,19 @@
 -- Modules in load order, each in three passes of which the first that breaks a rule refuses: names; constants, types and
 -- headings; bodies.
 use Rattle.std.specs.Prelude.{ℕ, suc, ◌+◌, List, [], ◌∷◌, ◌++◌, length, map, drop, Bool, true, false, Option, Some, None, is_some, option_map, option_and_then, slice_get}
-use Rattle.std.specs.List.{zip, list_any}
+use Rattle.std.specs.List.{flat_map, zip, list_any}
 use Rattle.std.specs.Str.Lossy.{utf8_lossy}
 use Rattle.aos_base.specs.declared.priority.Priority.{Priority}
 use Rattle.aos_base.specs.declared.priority.Priority.TheVariants.{Normal}
 use Rattle.aos_base.specs.declared.text.Pos.{Pos}
 use Rattle.aos_tree.specs.declared.name.Name.{Name}
 use Rattle.aos_tree.specs.declared.stat.Block.{Block}
+use Rattle.aos_tree.specs.declared.decl.Decl.{items-the_row-Decl}
 use Rattle.aos_tree.specs.declared.decl.Def.{Def}
+use Rattle.aos_tree.specs.declared.decl.Fields.{Fields}
+use Rattle.aos_tree.specs.declared.decl.Fields.TheVariants as fields
 use Rattle.aos_tree.specs.declared.decl.TypeDef.{TypeDef}
-use Rattle.aos_tree.specs.declared.decl.TypeExpr.{TypeExpr}
+use Rattle.aos_tree.specs.declared.decl.TypeExpr.{TypeExpr, items-the_row-Fields}
 use Rattle.aos_tree.specs.declared.decl.TypeExpr.TheVariants as type
 use Rattle.aos_tree.specs.declared.module.Module.{Module as Tree}
 use Rattle.aos_types.specs.declared.row.TypeId.{TypeId}
@@ -31,7 +34,7 @@ use Rattle.aos_symbols.specs.declared.env.Env.{Env}
 use Rattle.aos_symbols.specs.Judged.{Judged, judged, kept, bind, walk}
 use Rattle.aos_symbols.specs.Outcome.{Outcome, went, then, passed, decided}
 use Rattle.aos_symbols.specs.Spelling.{word, is_active}
-use Rattle.aos_symbols.specs.Declarations.{Procedure, procedures, methods_in, all_procedures, type_defs, local_types, single_variables, formal_names}
+use Rattle.aos_symbols.specs.Declarations.{Procedure, procedures, methods_in, type_defs, inner_parts, types_of, single_variables, formal_names}
 use Rattle.aos_symbols.specs.Scope.{Scope}
 use Rattle.aos_symbols.specs.Home.{Home, slot_at, texts_of}
 use Rattle.aos_check_names.specs.Names.{name_breaches}
@@ -79,12 +82,35 @@ body_with text b ss = record { is_exclusive = has_exclusive text b; statements =
 abbrev pub empty_body : Body
 empty_body = record { is_exclusive = false; statements = Nothing }
 
--- What a module says beside its types: a name, whether there is a body, whether that is active, at which priority, and that body, and
--- the methods, each with its slot. First stand those that the module's own declarations define; then those of its procedures and
--- methods, and those that are written elsewhere.
+-- the place of what has no name
+abbrev pub nowhere : Pos
+nowhere = record { line = 0; col = 0 }
+
+-- The fields that a type declares itself, in the order of the text, and their names.
+
+abbrev pub defs_in : Fields → List Def
+defs_in fields.Empty = []
+defs_in (fields.Of' defs of) = defs
+
+abbrev pub field_defs : TypeExpr → List Def
+field_defs (type.Record' p base shape row) = flat_map defs_in (items-the_row-Fields _ row)
+field_defs (type.Object' p base shape row body end) = single_variables (items-the_row-Decl _ row)
+field_defs t = []
+
+abbrev pub def_spelling : List ℕ → Def → List ℕ
+def_spelling text d = spelling text d.name
+
+abbrev pub field_spellings : List ℕ → TypeExpr → List (List ℕ)
+field_spellings text t = map (def_spelling text) (field_defs t)
+
+-- What a module says beside its types: a name with its place, the names of their own fields, whether there is a body, whether that is
+-- active, at which priority, and that body, and the methods, each with its slot. First stand those that the module's own declarations
+-- define; then those that are defined within these, and those that are written elsewhere.
 
 pub record Beside : Type 0 where
   pub name : List ℕ
+  pub at : Pos
+  pub fields : List (List ℕ)
   pub has_body : Bool
   pub is_active : Bool
   pub priority : Priority
@@ -94,13 +120,23 @@ pub record Beside : Type 0 where
 -- a type that isn't an object type with a name
 abbrev pub local_type : Env → TypeDef → Beside
 local_type e d =
-    record { name = spelling e.here.text d.def.name; has_body = false; is_active = false; priority = Normal; body = empty_body; methods = [] }
+    record {
+      name = spelling e.here.text d.def.name;
+      at = d.def.name.pos;
+      fields = field_spellings e.here.text d.value;
+      has_body = false;
+      is_active = false;
+      priority = Normal;
+      body = empty_body;
+      methods = [];
+    }
 
 abbrev pub unnamed_type : Pos → Beside
-unnamed_type at = record { name = []; has_body = false; is_active = false; priority = Normal; body = empty_body; methods = [] }
+unnamed_type at =
+    record { name = []; at = nowhere; fields = []; has_body = false; is_active = false; priority = Normal; body = empty_body; methods = [] }
 
 abbrev pub other_types : Env → Tree → List Beside
-other_types e m = map (local_type e) (local_types (all_procedures m.decls)) ++ map unnamed_type e.places
+other_types e m = map (local_type e) (types_of (inner_parts m.decls)) ++ map unnamed_type e.places
 
 -- The bodies of procedures, whose scopes have the numbers from k on, behind those before them.
 abbrev pub bodies_from : Env → ℕ → List Stats → List Procedure → Judged (List Stats)
@@ -129,6 +165,7 @@ procedure_of text p s variables body =
     let names = formal_names p.formals in
     record {
       name = spelling text p.name;
+      at = p.name.pos;
       of = None;
       is_initializer = is_some p.initializer;
       parameters = map (parameter_of text) (zip names s.parameters);
@@ -169,6 +206,8 @@ beside_in e first d (Some x) =
     bind (bodies_from f (first + x.1.methods) [] (methods_in d)) (λ bs.
     kept (record {
       name = spelling e.here.text d.def.name;
+      at = d.def.name.pos;
+      fields = field_spellings e.here.text d.value;
       has_body = is_some (object_body d.value);
       is_active = has_active e.here.text (object_body d.value);
       priority = priority_of f (object_body d.value);
@@ -188,7 +227,7 @@ first_scope m = suc (length (type_defs m.decls))
 
 abbrev pub object_procedure : (type : ℕ) → Body → TypedProcedure
 object_procedure k body =
-    record { name = []; of = Some k; is_initializer = false; parameters = []; locals = []; result = None; body = body }
+    record { name = []; at = nowhere; of = Some k; is_initializer = false; parameters = []; locals = []; result = None; body = body }
 
 abbrev pub formal_of : Bool × TypeId → Parameter
 formal_of f = record { name = []; by_reference = f.0; of = type_as f.1 }
@@ -197,6 +236,7 @@ abbrev pub pattern : List (Bool × TypeId) → Option TypeId → TypedProcedure
 pattern formals r =
     record {
       name = [];
+      at = nowhere;
       of = None;
       is_initializer = false;
       parameters = map formal_of formals;
@@ -217,6 +257,8 @@ abbrev pub object_of : Env → (type : ℕ) → Beside → ObjectType
 object_of e k x =
     record {
       name = x.name;
+      at = x.at;
+      fields = x.fields;
       home = e.number;
       has_body = x.has_body;
       is_active = x.is_active;

@@ -25,6 +25,8 @@ abbrev pub seen_beside : CodeBeside → Beside
 seen_beside x =
     record {
       name = string_bytes x.name;
+      at = x.at;
+      fields = map (λ s. string_bytes s) x.fields.items;
       has_body = x.has_body;
       is_active = x.is_active;
       priority = x.priority;

@@ -1,6 +1,6 @@
 // Laws of elaboration.
 
-ghost use Rattle.std.specs.Prelude.{◌≡◌, ◌<◌, ◌≤◌, ◌^◌, ℕ, List, length};
+ghost use Rattle.std.specs.Prelude.{◌≡◌, ◌<◌, ◌≤◌, ℕ, List, length};
 ghost use Rattle.aos_base.specs.declared.text.Refusal.{Refusal};
 ghost use Rattle.aos_typed.specs.Program.{Program};
 ghost use Rattle.aos_typed.specs.WellTyped.{IsWellTyped};
@@ -15,18 +15,17 @@ pub fn law_of_outcome()
         a ≡ b }
 {}
 
-/// The program that 1 to 64 texts come to is well typed, where its types have numbers of 32 bits.
+/// The program that 1 to 64 texts come to is well typed.
 pub fn law_of_typing()
     ensures { (texts : List (List ℕ)) (p : Program) → ComesTo texts (went p) → 1 ≤ length texts →
-        length texts ≤ 64 → length p.types < 2 ^ 32 → IsWellTyped p }
+        length texts ≤ 64 → IsWellTyped p }
 {}
 
-/// No execution of an image that has the code of the program that 1 to 64 texts come to, whose types have numbers of 32 bits, has
-/// trap 16, that of code which finds another operand than it takes, or a place that isn't there.
+/// No execution of an image that has the code of the program that 1 to 64 texts come to has trap 16, that of code which finds another
+/// operand than it takes, or a place that isn't there.
 pub fn law_of_traps()
     ensures { (texts : List (List ℕ)) (p : Program) (image : Image) → ComesTo texts (went p) →
-        1 ≤ length texts → length texts ≤ 64 → length p.types < 2 ^ 32 → IsCodeOf p image →
-        NeverLost image }
+        1 ≤ length texts → length texts ≤ 64 → IsCodeOf p image → NeverLost image }
 {}
 
 /// A refusal of texts tells the number of one of them.

@@ -2,6 +2,7 @@
 #![tactic(auto)]
 
 pub mod compile_err;
+mod fields;
 mod files;
 mod front;
 mod laws;

@@ -23,7 +23,7 @@ use crate::objects::{Beside, Bodies, bodies_of, number_at, spelling_of};
 use crate::procedures::{is_exclusive_body, module_procedures};
 use crate::texts::texts_of;
 use crate::variables::variables_of;
-use aos_base::{NoMemory, Refusal};
+use aos_base::{NoMemory, Pos, Refusal};
 use aos_check_decl::declare;
 use aos_check_names::check_names;
 use aos_operators::type_of;
@@ -188,6 +188,7 @@ fn object_procedure(alloc: Global, number: u32, is_exclusive: bool, body: Vec<TS
 {
     TProcedure {
         name: String::new(alloc),
+        at: Pos { line: 0, col: 0 },
         of: Some(number),
         is_initializer: false,
         parameters: Vec::new(alloc),
@@ -230,6 +231,7 @@ fn pattern(
 {
     Ok(TProcedure {
         name: String::new(alloc),
+        at: Pos { line: 0, col: 0 },
         of: None,
         is_initializer: false,
         parameters: formals_of(alloc, formals)?,
@@ -299,6 +301,8 @@ fn object_of(
 {
     let Beside {
         name,
+        at,
+        fields,
         has_body,
         is_active,
         priority,
@@ -309,6 +313,8 @@ fn object_of(
     let row = env.row(Some(TypeId(number_at(number, PREDECLARED_TYPES)?)));
     Ok(TObject {
         name,
+        at,
+        fields,
         home: env.number,
         has_body,
         is_active,

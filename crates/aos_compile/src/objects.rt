@@ -6,29 +6,32 @@ ghost use Rattle.std.specs.String.{string_bytes};
 ghost use Rattle.aos_typed.specs.Seen.{seen_stat, seen_stats, seen_method, seen_procedure};
 ghost use Rattle.aos_symbols.specs.Breaches.{first_after};
 ghost use Rattle.aos_symbols.specs.Judged.{walk};
-ghost use Rattle.aos_symbols.specs.Declarations.{type_defs, procedures, methods_in, all_procedures as procedures_of_all, local_types as types_of_procedures, seen_procedures, seen_types};
+ghost use Rattle.aos_symbols.specs.Declarations.{type_defs, procedures, methods_in, seen_parts, seen_types, types_of};
 ghost use Rattle.aos_symbols.specs.Env as env_of;
 ghost use Rattle.aos_symbols.specs.Spelling.{is_active as is_active_modifier};
 ghost use Rattle.aos_check_stat.specs.Bodies.{body_of as body_of_env, listed, priority_of as priority_of_env};
 ghost use Rattle.aos_compile.specs.Modules as judge;
 ghost use Rattle.aos_compile.specs.Seen.{seen_beside, seen_bodies};
 
+use crate::fields::type_names;
 use crate::procedures::{first_scope, is_exclusive_body, procedures_of};
 use aos_base::{Pos, Priority};
 use aos_check_decl::defined_type;
 use aos_check_stat::{body_of, priority_of};
-use aos_entries::{all_procedures, inner_decls, type_definitions};
+use aos_entries::{inner_decls, inner_parts, type_definitions};
 use aos_symbols::{Breach, Env, Home, ObjectScope, is_active, word};
-use aos_tree::{Block, Decl, Modifier, Module, Name, Proc, TypeDef, TypeExpr};
+use aos_tree::{Block, Decl, Modifier, Module, Name, TypeDef, TypeExpr};
 use aos_typed::{TMethod, TProcedure, TStat};
 use aos_types::TypeId;
 use std::alloc::{AllocError, Global};
 
-/// What a module says beside one of its types: its name, which is empty where it has none, whether it has a body, whether that is
-/// active, at which priority, whether it is exclusive, its statements, and its methods.
+/// What a module says beside one of its types: its name, which is empty where it has none, with its place, the names of its own
+/// fields, whether it has a body, whether that is active, at which priority, whether it is exclusive, its statements, and its methods.
 #[derive(Drop)]
 pub struct Beside {
     pub name: String,
+    pub at: Pos,
+    pub fields: Vec<String>,
     pub has_body: bool,
     pub is_active: bool,
     pub priority: Priority,
@@ -281,11 +284,13 @@ fn object_beside(
     ensures env { OnOk result (env.new ≡ env.old) }
 {
     let scope = number_at(first, object.methods)?;
-    let name = spelling_of(alloc, env.here.text(), def.def.name)?;
+    let (name, fields) = type_names(alloc, env.here.text(), def)?;
     let (body, bodies, priority) = bodies_within(alloc, found, env, of, scope, def)?;
     let methods = methods_of(alloc, env, first, object, inner_decls(&def.value), bodies)?;
     Ok(Beside {
         name,
+        at: def.def.name.pos,
+        fields,
         has_body: has_body(&def.value),
         is_active: has_active(env.here.text(), &def.value),
         priority,
@@ -299,8 +304,11 @@ fn object_beside(
 fn local_type(alloc: Global, env: &Env<'_>, def: &TypeDef) -> Result<Beside, AllocError>
     ensures { IfOk result (λ x. seen_beside x ≡ judge.local_type env.now def.now) }
 {
+    let (name, fields) = type_names(alloc, env.here.text(), def)?;
     Ok(Beside {
-        name: spelling_of(alloc, env.here.text(), def.def.name)?,
+        name,
+        at: def.def.name.pos,
+        fields,
         has_body: false,
         is_active: false,
         priority: Priority::Normal,
@@ -361,7 +369,7 @@ fn objects_of(
     Ok(objects)
 }
 
-/// Types that a procedure defines: none of them is an object type.
+/// Types that are defined within others or in procedures: none of them is an object type.
 fn add_local_types(
     alloc: Global,
     env: &Env<'_>,
@@ -377,7 +385,7 @@ fn add_local_types(
     Ok(())
 }
 
-/// The types that the declarations of a procedure define.
+/// The types that these declarations define.
 fn add_types_of(
     alloc: Global,
     env: &Env<'_>,
@@ -395,18 +403,18 @@ fn add_types_of(
     Ok(())
 }
 
-/// The types that procedures and methods define.
-fn add_types_of_procedures(
+/// The types that several of them define.
+fn add_types_of_parts(
     alloc: Global,
     env: &Env<'_>,
     objects: &mut Vec<Beside>,
-    procs: &[&Proc],
+    parts: &[&[Decl]],
 ) -> Result<(), AllocError>
     ensures { OnOk result (map seen_beside objects.new.items ≡ map seen_beside objects.old.items
-        ++ map (judge.local_type env.now) (types_of_procedures (seen_procedures procs.now))) }
+        ++ map (judge.local_type env.now) (types_of (seen_parts parts.now))) }
 {
-    for proc in procs {
-        add_types_of(alloc, env, objects, proc.decls.as_slice())?;
+    for part in parts {
+        add_types_of(alloc, env, objects, part)?;
     }
     Ok(())
 }
@@ -419,6 +427,8 @@ fn add_unnamed(alloc: Global, objects: &mut Vec<Beside>, places: &[Pos]) -> Resu
     for _place in places {
         objects.push(Beside {
             name: String::new(alloc),
+            at: Pos { line: 0, col: 0 },
+            fields: Vec::new(alloc),
             has_body: false,
             is_active: false,
             priority: Priority::Normal,
@@ -430,7 +440,7 @@ fn add_unnamed(alloc: Global, objects: &mut Vec<Beside>, places: &[Pos]) -> Resu
     Ok(())
 }
 
-/// Puts what stands beside types that procedures and methods define, and beside those that are written elsewhere, behind the others.
+/// Puts what stands beside types that are defined within others, and beside those that are written elsewhere, behind the others.
 fn add_others(
     alloc: Global,
     env: &Env<'_>,
@@ -440,8 +450,8 @@ fn add_others(
     ensures { OnOk result (map seen_beside objects.new.items ≡
         map seen_beside objects.old.items ++ judge.other_types env.now tree.now) }
 {
-    let procs = all_procedures(alloc, tree.decls.as_slice())?;
-    add_types_of_procedures(alloc, env, objects, &procs)?;
+    let parts = inner_parts(alloc, tree.decls.as_slice())?;
+    add_types_of_parts(alloc, env, objects, &parts)?;
     add_unnamed(alloc, objects, env.places.as_slice())
 }
 

@@ -169,6 +169,7 @@ fn procedure_of(
     let (name, parameters, locals) = heading_of(alloc, text, proc, signature, scope)?;
     Ok(TProcedure {
         name,
+        at: proc.def.name.pos,
         of: None,
         is_initializer: proc.initializer.is_some(),
         parameters,

@@ -15,7 +15,8 @@ use aos_typed::TVariable;
 use aos_types::TypeId;
 use std::alloc::{AllocError, Global};
 
-fn add_defs(all: &mut Vec<Def>, defs: &[Def]) -> Result<(), AllocError>
+/// Puts definitions behind others.
+pub fn add_defs(all: &mut Vec<Def>, defs: &[Def]) -> Result<(), AllocError>
     ensures { OnOk result (all.new.items ≡ all.old.items ++ defs.now) }
 {
     for def in defs {
@@ -34,7 +35,7 @@ fn add_variables(all: &mut Vec<Def>, defs: &[VarDef]) -> Result<(), AllocError>
 }
 
 /// The variables that declarations declare, in the order of the text.
-fn variable_defs(alloc: Global, decls: &[Decl]) -> Result<Vec<Def>, AllocError>
+pub fn variable_defs(alloc: Global, decls: &[Decl]) -> Result<Vec<Def>, AllocError>
     ensures { IfOk result (λ defs. defs.items ≡ single_variables decls.now) }
 {
     let mut all = Vec::new(alloc);

@@ -30,7 +30,7 @@ use Rattle.aos_symbols.specs.Env as env
 use Rattle.aos_operators.specs.declared.known.Class.{Class}
 use Rattle.aos_operators.specs.declared.known.Class.TheVariants.{Unknown, Constant, Variable, ReadOnly, Computed, Procedure}
 use Rattle.aos_operators.specs.Known.{Answer, Spot, Held, Stands, Value, passes, is_basic, is_number, object_number, type_as, unknown, constant_answer, answered, nothing, spot_of, read_from, known_as, value_class, lost}
-pub use Rattle.aos_operators.specs.Known.{refused, refused_value}
+pub use Rattle.aos_operators.specs.Known.{refused, refused_value, refused_variable}
 pub use Rattle.aos_operators.specs.Kinds.{has_parts, is_opened, is_record_type, is_pointer_type, is_object_type, is_reference, is_procedural, is_value, is_built, pointed_in, pointed, made_as, made_number, has_dynamic_type, is_extension, may_test}
 pub use Rattle.aos_operators.specs.Places.{place_of, place_in, is_passed, rows_of}
 use Rattle.aos_designators.specs.declared.designators.Head.{Head}
@@ -101,9 +101,9 @@ constant_of (Some (Some v)) at = kept (constant_answer v)
 
 -- Parts of variables.
 
--- a selector that a type hasn't; what types that aren't built have isn't built either
+-- a selector that a type hasn't; what types that aren't built have isn't built either. No part is a constant, whatever it breaks
 abbrev pub lacking : Env → TypeId → Pos → Judged Spot
-lacking e t at = spotted at (refused (if is_built e t then 42 else 99) at)
+lacking e t at = spotted at (refused_variable (if is_built e t then 42 else 99) at)
 
 -- a part of a variable is one, and may be written where that may
 abbrev pub part_class : Bool → Class → Class
@@ -200,7 +200,7 @@ guarded_with e (Some t) a = guarded_spot e t a
 -- where the guard stands at a place
 abbrev pub guard : Env → Pos → Spot → Option TypeId → Judged Spot
 guard e at a t =
-    if may_test e (is_passed (place_of a.held)) a.known.of t then kept (guarded_with e t a) else spotted a.at (refused 41 at)
+    if may_test e (is_passed (place_of a.held)) a.known.of t then kept (guarded_with e t a) else spotted a.at (refused_variable 41 at)
 
 -- a bracket behind what can't be called, in a designator that begins at a place: a guard where the name of a type stands in it
 abbrev pub guarded : Env → (first at : Pos) → Spot → Option (Option TypeId) → Judged Spot
@@ -208,7 +208,7 @@ guarded e first at a t = by a.known.of t
   where
     by : Option TypeId → Option (Option TypeId) → Judged Spot
     by None t = kept (unknown_part a.at a)
-    by (Some of) None = spotted a.at (refused 36 first)
+    by (Some of) None = spotted a.at (refused_variable 36 first)
     by (Some of) (Some None) = spotted a.at (refused 99 at)
     by (Some of) (Some (Some t)) = guard e at a (Some t)
 
@@ -313,7 +313,7 @@ procedure_spot e m k x first at = by (env.signature e m k)
   where
     by : Option Signature → Judged Spot
     by None = spotted at (refused_value 20 first)
-    by (Some s) = kept (record { known = known_as (Procedure m k) None; held = Value x; at = at })
+    by (Some s) = kept (record { known = known_as (Procedure m k) (Some (env.procedure e)); held = Value x; at = at })
 
 -- what a name stands for that is no call: the name of a type or a module is no value, nor is a predeclared procedure
 abbrev pub meant_otherwise : Meaning → Head → Judged Spot
@@ -372,7 +372,7 @@ field_spot e t f at a =
 abbrev pub field_found : Env → Spot → Pos → Name → TypeId → Option Field → Judged Spot
 field_found e a p n t None = lacking e t p
 field_found e a p n t (Some f) =
-    if f.is_own || is_some f.mark then kept (field_spot e t f n.pos a) else spotted n.pos (refused 15 n.pos)
+    if f.is_own || is_some f.mark then kept (field_spot e t f n.pos a) else spotted n.pos (refused_variable 15 n.pos)
 
 abbrev pub has_fields : Env → TypeId → Bool
 has_fields e t = is_record_type e t || is_object_type e t
@@ -392,14 +392,14 @@ abbrev pub element_spot : ℕ → TypeId → Answer → Spot → Spot
 element_spot m u i a = part_spot true (Some u) (λ p. Index p m (type_as u) i.typed) a.at a
 
 abbrev pub element_found : ℕ → TypeId → Pos → Spot → Answer → Judged Spot
-element_found m u p a i = if is_number i.known.of then kept (element_spot m u i a) else spotted p (refused 42 p)
+element_found m u p a i = if is_number i.known.of then kept (element_spot m u i a) else spotted p (refused_variable 42 p)
 
 -- an element of an open array, which has one dimension less. The elements behind all its dimensions are of a type
 abbrev pub row_spot : (of u : TypeId) → Answer → Spot → Spot
 row_spot of u i a = part_spot true (Some u) (λ p. Of (Row (rows_of p) (type_as of) i.typed)) a.at a
 
 abbrev pub row_found : (of u : TypeId) → Pos → Spot → Answer → Judged Spot
-row_found of u p a i = if is_number i.known.of then kept (row_spot of u i a) else spotted p (refused 42 p)
+row_found of u p a i = if is_number i.known.of then kept (row_spot of u i a) else spotted p (refused_variable 42 p)
 
 abbrev pub element_in_row : Env → Pos → Spot → Answer → TypeId → Option TypeRow → Judged Spot
 element_in_row e p a i t (Some (row.Array m u)) = element_found m u p a i

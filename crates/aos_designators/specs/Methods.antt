@@ -1,6 +1,6 @@
 -- Methods, and what a designator is so far: a name, a variable or a value, or what waits for its bracket.
 use Rattle.std.specs.Option.{option_or}
-use Rattle.std.specs.Prelude.{Bool, false, not, ◌||◌, Option, Some, None, is_some, option_map, option_and_then, if◌then◌else◌}
+use Rattle.std.specs.Prelude.{Bool, true, false, not, ◌||◌, Option, Some, None, is_some, option_map, option_and_then, if◌then◌else◌}
 use Rattle.aos_base.specs.declared.text.Pos.{Pos}
 use Rattle.aos_tree.specs.declared.name.Name.{Name}
 use Rattle.aos_types.specs.declared.row.TypeId.{TypeId}
@@ -52,6 +52,19 @@ is_method NoName = false
 is_method NotExported = false
 is_method (Found x) = method_meant x x.means
 
+-- a procedure, whoever declares it
+abbrev pub is_procedure_meaning : Meaning → Bool
+is_procedure_meaning (means.Procedure k) = true
+is_procedure_meaning (means.Function f) = true
+is_procedure_meaning (means.Routine r) = true
+is_procedure_meaning means.Proper = true
+is_procedure_meaning m = false
+
+abbrev pub is_callable : Lookup → Bool
+is_callable NoName = false
+is_callable NotExported = false
+is_callable (Found x) = is_procedure_meaning x.means
+
 abbrev pub method_on : Env → TypeId → Head → Option Bound
 method_on e t h = option_map (dispatched h.first SelfRef t) (env.method e t h.name)
 
@@ -77,7 +90,7 @@ abbrev pub upper_here : Env → Head → Option Bound
 upper_here e h = option_and_then (λ t. upper_of e h t) e.self_type
 
 abbrev pub raised_to : Option Bound → Pos → Pos → Judged Part
-raised_to None first p = as_part (desig.spotted first (desig.refused 46 p))
+raised_to None first p = as_part (desig.spotted first (desig.refused_variable 46 p))
 raised_to (Some b) first p = kept (Waits b)
 
 abbrev pub raised : Env → Head → Pos → Judged Part
@@ -107,21 +120,21 @@ spot_of_part e (Begun h) = named_or_bound e h (own_method e h)
 spot_of_part e (Meant a) = kept a
 spot_of_part e (Waits b) = unbound e b
 
--- the same, before a selector at a place that methods haven't
+-- the same, before a selector at a place, which procedures haven't
 abbrev pub selected_name : Env → Pos → Head → Judged Spot
-selected_name e p h = if is_method h.found then desig.spotted h.first (desig.refused 42 p) else desig.named e h
+selected_name e p h = if is_callable h.found then desig.spotted h.first (desig.refused_variable 42 p) else desig.named e h
 
 abbrev pub selected : Env → Pos → Part → Judged Spot
 selected e p (Begun h) = selected_name e p h
 selected e p (Meant a) = kept a
-selected e p (Waits b) = desig.spotted b.first (desig.refused 42 p)
+selected e p (Waits b) = desig.spotted b.first (desig.refused_variable 42 p)
 
 -- a point behind a variable or a value, in a designator that begins here: a method of an object, or a field
 abbrev pub method_found : (first : Pos) → Spot → Name → TypeId → Method → Judged Part
 method_found first a n t m =
     if m.is_own || is_some m.mark
     then kept (Waits (dispatched first (read_from a.known.of a.held) t m))
-    else as_part (desig.spotted n.pos (desig.refused 15 n.pos))
+    else as_part (desig.spotted n.pos (desig.refused_variable 15 n.pos))
 
 abbrev pub method_in : Env → TypeId → Name → Option Method
 method_in e t n = if desig.is_object_type e t then env.method e t n else None

@@ -13,7 +13,7 @@ use aos_base::Pos;
 use aos_made::Typed;
 use aos_operators::{
     Answer, Class, Held, Known, Spot, answered, constant_answer, is_built, known_as, nothing,
-    read_from, refused, refused_value, spot_of, unknown,
+    read_from, refused, refused_value, refused_variable, spot_of, unknown,
 };
 use aos_symbols::{
     Breach, Env, Lookup, Meaning, NO_VARIABLE, NOT_BUILT, NOT_CONSTANT, NOT_EXPORTED, Narrowed,
@@ -170,6 +170,16 @@ pub fn refused_at(found: &mut Option<Breach>, rule: u16, at: Pos, here: Pos) -> 
     spot_of(at, refused(found, rule, here))
 }
 
+/// The same of what is no constant.
+pub fn refused_variable_at(found: &mut Option<Breach>, rule: u16, at: Pos, here: Pos) -> Spot
+    ensures noted { found.new ≡
+        first_after found.old (judge.spotted at (judge.refused_variable rule here)).breaches }
+    ensures answer { seen_spot result ≡
+        (judge.spotted at (judge.refused_variable rule here)).answer }
+{
+    spot_of(at, refused_variable(found, rule, here))
+}
+
 fn is_narrowed(symbol: Symbol, number: u32, variable: Narrowed) -> bool
     ensures { result ≡ judge.is_narrowed symbol number variable }
 {
@@ -249,20 +259,21 @@ pub fn procedure_spot(
     value: Typed,
     first: Pos,
     at: Pos,
-) -> Spot
-    ensures noted { found.new ≡ first_after found.old
-        (judge.procedure_spot env.now home number (seen_expr value) first at).breaches }
-    ensures answer { seen_spot result ≡
-        (judge.procedure_spot env.now home number (seen_expr value) first at).answer }
+) -> Result<Spot, AllocError>
+    ensures noted { OnOk result (found.new ≡ first_after found.old
+        (judge.procedure_spot env.now home number (seen_expr value) first at).breaches) }
+    ensures answer { IfOk result (λ r. seen_spot r ≡
+        (judge.procedure_spot env.now home number (seen_expr value) first at).answer) }
 {
     if env.signature(home, number).is_none() {
-        return refused_value_at(found, NOT_CONSTANT, first, at);
+        return Ok(refused_value_at(found, NOT_CONSTANT, first, at));
     }
-    Spot {
-        known: known_as(Class::Procedure(home, number), None),
+    let of = env.procedure()?;
+    Ok(Spot {
+        known: known_as(Class::Procedure(home, number), Some(of)),
         held: Held::Value(value),
         at,
-    }
+    })
 }
 
 /// A procedure as a value.
@@ -272,13 +283,14 @@ fn procedure_meant(
     symbol: Symbol,
     number: u32,
     head: Head,
-) -> Spot
-    ensures noted { found.new ≡
-        first_after found.old (judge.procedure_meant env.now symbol number head).breaches }
-    ensures answer { seen_spot result ≡ (judge.procedure_meant env.now symbol number head).answer }
+) -> Result<Spot, AllocError>
+    ensures noted { OnOk result (found.new ≡
+        first_after found.old (judge.procedure_meant env.now symbol number head).breaches) }
+    ensures answer { IfOk result (λ r. seen_spot r ≡
+        (judge.procedure_meant env.now symbol number head).answer) }
 {
     if !is_of_module(symbol) {
-        return meant_otherwise(found, Meaning::Procedure(number), head);
+        return Ok(meant_otherwise(found, Meaning::Procedure(number), head));
     }
     let home = symbol.at.home;
     let value = Typed::procedure(home, number);
@@ -301,7 +313,7 @@ fn meant(
     let at = head.name.pos;
     match means {
         Meaning::Variable(number) => variable_spot(alloc, env, symbol, number, at),
-        Meaning::Procedure(number) => Ok(procedure_meant(found, env, symbol, number, head)),
+        Meaning::Procedure(number) => procedure_meant(found, env, symbol, number, head),
         Meaning::Constant(number) => {
             let value = env.constant(symbol.at, number, head.first);
             Ok(spot_of(at, constant_of(found, value, at)))

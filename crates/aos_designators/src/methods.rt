@@ -9,7 +9,7 @@ ghost use Rattle.aos_designators.specs.Methods as judge;
 ghost use Rattle.aos_designators.specs.Seen.{seen_bound, seen_part};
 
 use crate::designators::{
-    Head, is_module, member_behind, named, procedure_spot, refused_at, refused_value_at,
+    Head, is_module, member_behind, named, procedure_spot, refused_value_at, refused_variable_at,
     variable_spot,
 };
 use crate::selectors::{field, followed};
@@ -76,6 +76,19 @@ fn is_method(lookup: Lookup) -> bool
         Lookup::Found(symbol) => {
             matches!(symbol.means, Meaning::Procedure(_)) && !is_of_module(symbol)
         },
+        _ => false,
+    }
+}
+
+/// Whether a name stands for a procedure, whoever declares it.
+fn is_callable(lookup: Lookup) -> bool
+    ensures { result ≡ judge.is_callable lookup }
+{
+    match lookup {
+        Lookup::Found(symbol) => matches!(
+            symbol.means,
+            Meaning::Procedure(_) | Meaning::Function(_) | Meaning::Routine(_) | Meaning::Proper,
+        ),
         _ => false,
     }
 }
@@ -231,7 +244,7 @@ fn raised(
 {
     match upper_here(env, head)? {
         Some(bound) => Ok(Part::Waits(bound)),
-        None => Ok(Part::Meant(refused_at(found, WRONG_SELF, head.first, at))),
+        None => Ok(Part::Meant(refused_variable_at(found, WRONG_SELF, head.first, at))),
     }
 }
 
@@ -265,7 +278,7 @@ fn unbound(
     let first = bound.first;
     match (bound.heading, value_called(alloc, bound.callee.take())?) {
         (Heading::Declared(home, number), Some(value)) => {
-            Ok(procedure_spot(found, env, home, number, value, first, first))
+            procedure_spot(found, env, home, number, value, first, first)
         },
         _ => Ok(refused_value_at(found, WRONG_CALL, first, first)),
     }
@@ -321,8 +334,8 @@ fn selected_name(
     ensures answer { IfOk result (λ r. seen_spot r ≡
         (judge.selected_name env.now at head).answer) }
 {
-    if is_method(head.found) {
-        Ok(refused_at(found, WRONG_SELECTOR, head.first, at))
+    if is_callable(head.found) {
+        Ok(refused_variable_at(found, WRONG_SELECTOR, head.first, at))
     } else {
         named(alloc, found, env, head)
     }
@@ -344,7 +357,7 @@ pub fn selected(
     match part {
         Part::Begun(head) => selected_name(alloc, found, env, at, head),
         Part::Meant(spot) => Ok(spot),
-        Part::Waits(bound) => Ok(refused_at(found, WRONG_SELECTOR, bound.first, at)),
+        Part::Waits(bound) => Ok(refused_variable_at(found, WRONG_SELECTOR, bound.first, at)),
     }
 }
 
@@ -368,7 +381,7 @@ fn found_method(
         let bound = dispatched(alloc, first, object, of, method)?;
         Ok(Part::Waits(bound))
     } else {
-        Ok(Part::Meant(refused_at(found, NOT_EXPORTED, name.pos, name.pos)))
+        Ok(Part::Meant(refused_variable_at(found, NOT_EXPORTED, name.pos, name.pos)))
     }
 }
 
@@ -459,7 +472,7 @@ pub fn pointed(
         },
         Part::Meant(whole) => pointed_spot(alloc, found, env, first, whole, at, name),
         Part::Waits(bound) => {
-            Ok(Part::Meant(refused_at(found, WRONG_SELECTOR, bound.first, at)))
+            Ok(Part::Meant(refused_variable_at(found, WRONG_SELECTOR, bound.first, at)))
         },
     }
 }

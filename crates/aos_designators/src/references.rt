@@ -8,7 +8,7 @@ ghost use Rattle.aos_operators.specs.Known as known;
 ghost use Rattle.aos_operators.specs.Seen.{seen_held, seen_spot};
 ghost use Rattle.aos_designators.specs.Designators as judge;
 
-use crate::designators::refused_at;
+use crate::designators::{refused_at, refused_variable_at};
 use aos_base::Pos;
 use aos_made::{MadePlace, MadeRows, Typed};
 use aos_operators::{
@@ -161,7 +161,7 @@ pub fn guard(
         (judge.guard env.now at (seen_spot whole) t).answer) }
 {
     if !may_test(env, holds_passed(&whole.held), whole.known.of, t) {
-        return Ok(refused_at(found, WRONG_TEST, whole.at, at));
+        return Ok(refused_variable_at(found, WRONG_TEST, whole.at, at));
     }
     match t {
         Some(t) => guarded_spot(alloc, env, t, whole),
@@ -190,6 +190,6 @@ pub fn guarded(
     match t {
         Some(Some(t)) => guard(alloc, found, env, at, whole, Some(t)),
         Some(None) => Ok(refused_at(found, NOT_BUILT, whole.at, at)),
-        None => Ok(refused_at(found, WRONG_CALL, whole.at, first)),
+        None => Ok(refused_variable_at(found, WRONG_CALL, whole.at, first)),
     }
 }

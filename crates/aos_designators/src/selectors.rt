@@ -9,7 +9,7 @@ ghost use Rattle.aos_operators.specs.Known as known;
 ghost use Rattle.aos_operators.specs.Seen.{seen_answer, seen_held, seen_spot};
 ghost use Rattle.aos_designators.specs.Designators as judge;
 
-use crate::designators::refused_at;
+use crate::designators::refused_variable_at;
 use crate::references::{followed_class, followed_spot, through, unknown_part};
 use aos_base::Pos;
 use aos_made::{MadePlace, MadeRows, Typed};
@@ -29,9 +29,9 @@ pub fn lacking(found: &mut Option<Breach>, env: &Env<'_>, of: TypeId, at: Pos) -
     ensures answer { seen_spot result ≡ (judge.lacking env.now of at).answer }
 {
     if is_built(env, of) {
-        refused_at(found, WRONG_SELECTOR, at, at)
+        refused_variable_at(found, WRONG_SELECTOR, at, at)
     } else {
-        refused_at(found, NOT_BUILT, at, at)
+        refused_variable_at(found, NOT_BUILT, at, at)
     }
 }
 
@@ -135,7 +135,7 @@ fn found_field(
             if field.is_own || field.mark.is_some() {
                 field_spot(alloc, env, of, field, name.pos, whole)
             } else {
-                Ok(refused_at(found, NOT_EXPORTED, name.pos, name.pos))
+                Ok(refused_variable_at(found, NOT_EXPORTED, name.pos, name.pos))
             }
         }
     }
@@ -229,7 +229,7 @@ fn found_element(
     if is_number(index.known.of) {
         element_spot(alloc, elements, of, index, whole)
     } else {
-        Ok(refused_at(found, WRONG_SELECTOR, at, at))
+        Ok(refused_variable_at(found, WRONG_SELECTOR, at, at))
     }
 }
 
@@ -282,7 +282,7 @@ fn found_row(
         (judge.row_found behind of at (seen_spot whole) (seen_answer index)).answer) }
 {
     if !is_number(index.known.of) {
-        return Ok(refused_at(found, WRONG_SELECTOR, at, at));
+        return Ok(refused_variable_at(found, WRONG_SELECTOR, at, at));
     }
     row_spot(alloc, behind, of, index, whole)
 }

@@ -1,7 +1,6 @@
 -- One more name of a scope.
-use Rattle.std.proofs.Common.{◌≡◌, ◌<◌, ◌≤◌, ℕ, suc, List, [], ◌∷◌, ◌++◌, ◌+◌, length, map, take, get_or, drop, drop-cons, add-one, length-append, append_assoc, Option, arith, refl, ap, ◌∙◌, sym, if◌then◌else◌, bytes_eq}
+use Rattle.std.proofs.Common.{◌≡◌, ◌<◌, ◌≤◌, ℕ, suc, List, [], ◌∷◌, ◌++◌, ◌+◌, length, map, get_or, drop, drop-cons, add-one, length-append, append_assoc, Option, arith, refl, ap, ◌∙◌, sym, if◌then◌else◌, bytes_eq}
 use Rattle.std.proofs.lemmas.List.Sums.{fold-append}
-use Rattle.std.proofs.lemmas.List.{take_more, flat_map_more, map-append}
 use Rattle.aos_tree.specs.declared.decl.Def.{Def}
 use Rattle.aos_tree.specs.declared.decl.Decl.{Decl}
 use Rattle.aos_tree.specs.declared.decl.TypeDef.{TypeDef}
@@ -11,8 +10,8 @@ use Rattle.aos_symbols.specs.declared.scope.Meaning.TheVariants as means
 use Rattle.aos_symbols.specs.Home.{Home}
 use Rattle.aos_symbols.specs.Scope.{Named, Scope, with_name, with_names}
 use Rattle.std.specs.List.{flat_map}
-use Rattle.aos_symbols.specs.Declarations.{Procedure, procedures, type_defs, types_in, local_types, methods_in, all_procedures}
-use Rattle.aos_entries.specs.Entries.{among, numbered, entry, meant, number_at, types_from, inner_scope, procedure_scope, procedure_scopes}
+use Rattle.aos_symbols.specs.Declarations.{Procedure, procedures, type_defs, types_in, local_types, inner_decls, inner_types, methods_in, all_procedures}
+use Rattle.aos_entries.specs.Entries.{among, numbered, entry, meant, number_at, types_from, inner_scope, inner_scopes, procedure_scope, procedure_scopes}
 use Rattle.aos_symbols.proofs.Paths.{past}
 
 pub among_step : (w : List ℕ) (hs : List Home) (i : ℕ) (d : Home) → i < length hs →
@@ -89,12 +88,93 @@ mapped_step s f xs i d lt =
 pub mapped_end : {X : Type 0} (s : Scope) (f : X → Named) (xs : List X) (i : ℕ) → length xs ≤ i → with_names s (map f (drop i xs)) ≡ s
 mapped_end s f xs i le = ap (λ l. with_names s (map f l)) (past xs i le)
 
-pub inner_step : (text : List ℕ) (own : Scope) (ds : List Decl) (i : ℕ) (d : Decl) → i < length ds →
-    (own ∷ map (inner_scope text) (type_defs (take i ds))) ++ map (inner_scope text) (types_in (get_or ds i d))
-    ≡ own ∷ map (inner_scope text) (type_defs (take (i + 1) ds))
-inner_step text own ds i d lt =
-    ap (λ z. own ∷ z) (sym (map-append (inner_scope text) (type_defs (take i ds)) (types_in (get_or ds i d))))
-    ∙ ap (λ z. own ∷ map (inner_scope text) z) (flat_map_more types_in [] (take i ds) (get_or ds i d) ∙ ap type_defs (sym (take_more ds i d lt)))
+-- the scopes of types, and of others behind them
+inner_both : (text : List ℕ) (numbers : List (Option TypeId)) (k : ℕ) (xs ys : List TypeDef) →
+    inner_scopes text numbers k (xs ++ ys) ≡ inner_scopes text numbers k xs ++ inner_scopes text numbers (k + length (inner_types xs)) ys
+inner_both text numbers k [] ys = ap (λ j. inner_scopes text numbers j ys) (omega arith)
+inner_both text numbers k (x ∷ xs) ys =
+    let inner = inner_decls x.value in
+    let here = length (type_defs inner) in
+    let count = length-append (type_defs inner) (inner_types xs) in
+    let same : k + here + length (inner_types xs) ≡ k + length (inner_types (x ∷ xs)) = omega (arith, count) in
+    ap (λ z. inner_scope text numbers k inner ∷ z)
+    (inner_both text numbers (k + here) xs ys
+    ∙ ap (λ j. inner_scopes text numbers (k + here) xs ++ inner_scopes text numbers j ys) same)
+
+inner_joined : (xs ys : List TypeDef) → length (inner_types (xs ++ ys)) ≡ length (inner_types xs) + length (inner_types ys)
+inner_joined [] ys = omega (arith)
+inner_joined (x ∷ xs) ys =
+    let here = type_defs (inner_decls x.value) in
+    let all = length-append here (inner_types (xs ++ ys)) in
+    let some = length-append here (inner_types xs) in
+    let rest = inner_joined xs ys in
+    omega (arith, all, some, rest)
+
+-- there is one for each type
+pub inner_long : (text : List ℕ) (numbers : List (Option TypeId)) (k : ℕ) (ds : List TypeDef) → length (inner_scopes text numbers k ds) ≡ length ds
+inner_long text numbers k [] = refl
+inner_long text numbers k (d ∷ ds) = ap suc (inner_long text numbers (k + length (type_defs (inner_decls d.value))) ds)
+
+-- the scope of one type, and those of the others behind it; the same of declarations
+pub inner_on : (met whole : List Scope) (text : List ℕ) (numbers : List (Option TypeId)) (k : ℕ) (ds : List TypeDef) (i : ℕ) (d : TypeDef) → i < length ds →
+    met ++ inner_scopes text numbers k (drop i ds) ≡ whole →
+    (met ++ inner_scope text numbers k (inner_decls (get_or ds i d).value) ∷ [])
+    ++ inner_scopes text numbers (k + length (type_defs (inner_decls (get_or ds i d).value))) (drop (i + 1) ds) ≡ whole
+inner_on met whole text numbers k ds i d lt all =
+    let inner = inner_decls (get_or ds i d).value in
+    let next = k + length (type_defs inner) in
+    append_assoc met (inner_scope text numbers k inner ∷ []) (inner_scopes text numbers next (drop (i + 1) ds))
+    ∙ ap (λ j. met ++ inner_scope text numbers k inner ∷ inner_scopes text numbers next (drop j ds)) (add-one i)
+    ∙ ap (λ l. met ++ inner_scopes text numbers k l) (sym (drop-cons ds i d lt)) ∙ all
+
+pub inner_count : (ds : List TypeDef) (i : ℕ) (d : TypeDef) → i < length ds →
+    length (inner_types (drop i ds)) ≡ length (type_defs (inner_decls (get_or ds i d).value)) + length (inner_types (drop (i + 1) ds))
+inner_count ds i d lt =
+    let here = type_defs (inner_decls (get_or ds i d).value) in
+    ap (λ l. length (inner_types l)) (drop-cons ds i d lt)
+    ∙ length-append here (inner_types (drop (suc i) ds))
+    ∙ ap (λ j. length here + length (inner_types (drop j ds))) (sym (add-one i))
+
+pub inner_end : (text : List ℕ) (numbers : List (Option TypeId)) (k : ℕ) (ds : List TypeDef) (i : ℕ) → length ds ≤ i → inner_scopes text numbers k (drop i ds) ≡ []
+inner_end text numbers k ds i le = ap (λ l. inner_scopes text numbers k l) (past ds i le)
+
+pub inner_none : (ds : List TypeDef) (i : ℕ) → length ds ≤ i → inner_types (drop i ds) ≡ []
+inner_none ds i le = ap (λ l. inner_types l) (past ds i le)
+
+decl_inner_step : (text : List ℕ) (numbers : List (Option TypeId)) (k : ℕ) (ds : List Decl) (i : ℕ) (d : Decl) → i < length ds →
+    inner_scopes text numbers k (type_defs (drop i ds))
+    ≡ inner_scopes text numbers k (types_in (get_or ds i d))
+    ++ inner_scopes text numbers (k + length (inner_types (types_in (get_or ds i d)))) (type_defs (drop (i + 1) ds))
+decl_inner_step text numbers k ds i d lt =
+    let x = types_in (get_or ds i d) in
+    ap (λ l. inner_scopes text numbers k (type_defs l)) (drop-cons ds i d lt)
+    ∙ inner_both text numbers k x (type_defs (drop (suc i) ds))
+    ∙ ap (λ j. inner_scopes text numbers k x ++ inner_scopes text numbers (k + length (inner_types x)) (type_defs (drop j ds))) (sym (add-one i))
+
+pub decl_inner_on : (met whole : List Scope) (text : List ℕ) (numbers : List (Option TypeId)) (k : ℕ) (ds : List Decl) (i : ℕ) (d : Decl) → i < length ds →
+    met ++ inner_scopes text numbers k (type_defs (drop i ds)) ≡ whole →
+    (met ++ inner_scopes text numbers k (types_in (get_or ds i d)))
+    ++ inner_scopes text numbers (k + length (inner_types (types_in (get_or ds i d)))) (type_defs (drop (i + 1) ds)) ≡ whole
+decl_inner_on met whole text numbers k ds i d lt all =
+    let x = types_in (get_or ds i d) in
+    append_assoc met (inner_scopes text numbers k x) (inner_scopes text numbers (k + length (inner_types x)) (type_defs (drop (i + 1) ds)))
+    ∙ ap (λ z. met ++ z) (sym (decl_inner_step text numbers k ds i d lt)) ∙ all
+
+pub decl_inner_count : (ds : List Decl) (i : ℕ) (d : Decl) → i < length ds →
+    length (inner_types (type_defs (drop i ds)))
+    ≡ length (inner_types (types_in (get_or ds i d))) + length (inner_types (type_defs (drop (i + 1) ds)))
+decl_inner_count ds i d lt =
+    let x = types_in (get_or ds i d) in
+    ap (λ l. length (inner_types (type_defs l))) (drop-cons ds i d lt)
+    ∙ inner_joined x (type_defs (drop (suc i) ds))
+    ∙ ap (λ j. length (inner_types x) + length (inner_types (type_defs (drop j ds)))) (sym (add-one i))
+
+pub decl_inner_end : (text : List ℕ) (numbers : List (Option TypeId)) (k : ℕ) (ds : List Decl) (i : ℕ) → length ds ≤ i →
+    inner_scopes text numbers k (type_defs (drop i ds)) ≡ []
+decl_inner_end text numbers k ds i le = ap (λ l. inner_scopes text numbers k (type_defs l)) (past ds i le)
+
+pub decl_inner_none : (ds : List Decl) (i : ℕ) → length ds ≤ i → inner_types (type_defs (drop i ds)) ≡ []
+decl_inner_none ds i le = ap (λ l. inner_types (type_defs l)) (past ds i le)
 
 -- the scopes of procedures, and of others behind them
 scopes_both : (text : List ℕ) (numbers : List (Option TypeId)) (k : ℕ) (ps qs : List Procedure) →

@@ -1,7 +1,7 @@
 -- The scopes of a module, as its declarations make them. All names are there before any declaration is looked at, so a name
 -- may be used before it is declared. Constants, variables and procedures are numbered in their scope in the order of the text;
--- the types that a module's declarations define, its own and behind them those of its procedures and methods, have the numbers of a
--- list.
+-- the types that a module's declarations define, its own and behind them those that its object types, its procedures and its methods
+-- declare, have the numbers of a list.
 use Rattle.std.specs.Prelude.{ℕ, suc, ◌+◌, nat_eq, List, [], ◌∷◌, ◌++◌, length, fold, codes, map, Option, Some, None, is_some, if◌then◌else◌, unwrap_or, slice_get}
 use Rattle.std.specs.Str.{bytes_eq}
 use Rattle.indexmap.specs.IndexMap.{insert_entry}
@@ -22,7 +22,7 @@ use Rattle.aos_symbols.specs.declared.scope.Meaning.TheVariants as means
 use Rattle.aos_entries.specs.declared.entries.Sort.{Sort}
 use Rattle.aos_entries.specs.declared.entries.Sort.TheVariants as sort
 use Rattle.aos_symbols.specs.Spelling.{word}
-use Rattle.aos_symbols.specs.Declarations.{constant_defs, type_defs, single_variables, procedure_defs, Procedure, procedures, inner_decls, methods_in, all_procedures, formal_names}
+use Rattle.aos_symbols.specs.Declarations.{constant_defs, type_defs, single_variables, procedure_defs, Procedure, procedures, inner_decls, inner_types, methods_in, all_procedures, formal_names}
 use Rattle.aos_symbols.specs.Scope.{Named, Scope, empty, with_names}
 use Rattle.aos_symbols.specs.declared.home.ObjectScope.{ObjectScope}
 use Rattle.aos_symbols.specs.Home.{Home, strings_of}
@@ -100,9 +100,6 @@ module _ (text : List ℕ) where
   types_from numbers k [] = []
   types_from numbers k (d ∷ ds) = entry d.def (means.Type (number_at numbers k)) ∷ types_from numbers (suc k) ds
 
-  abbrev pub inner_type : TypeDef → Named
-  inner_type d = entry d.def (means.Type None)
-
   -- `X := M` imports M under the name X
   abbrev pub import_entry : List Home → Import → Named
   import_entry homes i = (word text i.name, record { mark = None; means = module_named homes (word text (unwrap_or i.of i.name)) })
@@ -118,8 +115,14 @@ module _ (text : List ℕ) where
   own_scope homes numbers m =
       with_names empty (map (import_entry homes) m.imports ++ types_from numbers 0 (type_defs m.decls) ++ other_entries m.decls)
 
-  abbrev pub inner_scope : TypeDef → Scope
-  inner_scope d = let ds = inner_decls d.value in with_names empty (map inner_type (type_defs ds) ++ other_entries ds)
+  -- of an object type, whose first type has this place among the numbers; of any other type it has no names
+  abbrev pub inner_scope : List (Option TypeId) → ℕ → List Decl → Scope
+  inner_scope numbers k ds = with_names empty (types_from numbers k (type_defs ds) ++ other_entries ds)
+
+  abbrev pub inner_scopes : List (Option TypeId) → ℕ → List TypeDef → List Scope
+  inner_scopes numbers k [] = []
+  inner_scopes numbers k (d ∷ ds) =
+      let inner = inner_decls d.value in inner_scope numbers k inner ∷ inner_scopes numbers (k + length (type_defs inner)) ds
 
   -- parameters are variables of their procedure, before its locals; the first of its types has this place among the numbers
   abbrev pub procedure_scope : List (Option TypeId) → ℕ → Option Formals → List Decl → Scope
@@ -136,8 +139,10 @@ module _ (text : List ℕ) where
   -- where the modules before are these, and the types that the module's declarations define have these numbers
   abbrev pub scopes : List Home → List (Option TypeId) → Module → List Scope
   scopes homes numbers m =
+      let own = type_defs m.decls in
       own_scope homes numbers m
-      ∷ (map inner_scope (type_defs m.decls) ++ procedure_scopes numbers (length (type_defs m.decls)) (all_procedures m.decls))
+      ∷ (inner_scopes numbers (length own) own
+      ++ procedure_scopes numbers (length own + length (inner_types own)) (all_procedures m.decls))
 
   abbrev pub home_of : List Home → List (Option TypeId) → Module → Home
   home_of homes numbers m =

@@ -1,6 +1,6 @@
 // The procedures and the types among declarations.
 
-ghost use Rattle.std.specs.Prelude.{◌≡◌, ◌++◌, IfOk, OnOk};
+ghost use Rattle.std.specs.Prelude.{◌≡◌, ◌++◌, map, IfOk, OnOk};
 ghost use Rattle.std.specs.List.{flat_map};
 ghost use Rattle.aos_symbols.specs.Declarations as declarations;
 
@@ -89,5 +89,40 @@ pub fn type_definitions(alloc: Global, decls: &[Decl]) -> Result<Vec<&TypeDef>, 
             add_definitions(&mut all, defs.as_slice())?;
         }
     }
+    Ok(all)
+}
+
+/// Puts what procedures declare behind these.
+fn add_procedure_parts<'t>(all: &mut Vec<&'t [Decl]>, procs: &[&'t Proc]) -> Result<(), AllocError>
+    ensures { OnOk result (declarations.seen_parts all.new.items ≡ declarations.seen_parts all.old.items
+        ++ map (λ p. p.decls) (declarations.seen_procedures procs.now)) }
+{
+    for proc in procs {
+        all.push(proc.decls.as_slice())?;
+    }
+    Ok(())
+}
+
+/// Puts what is declared in types behind these.
+fn add_type_parts<'t>(all: &mut Vec<&'t [Decl]>, defs: &[&'t TypeDef]) -> Result<(), AllocError>
+    ensures { OnOk result (declarations.seen_parts all.new.items ≡ declarations.seen_parts all.old.items
+        ++ map (λ d. declarations.inner_decls d.value) (declarations.seen_types defs.now)) }
+{
+    for def in defs {
+        all.push(inner_decls(&def.value))?;
+    }
+    Ok(())
+}
+
+/// What is declared within declarations of a module: in each type that they define, and behind these in each procedure and method.
+pub fn inner_parts(alloc: Global, decls: &[Decl]) -> Result<Vec<&[Decl]>, AllocError>
+    ensures { IfOk result (λ ps. declarations.seen_parts ps.items ≡
+        declarations.inner_parts decls.now) }
+{
+    let mut all = Vec::new(alloc);
+    let defs = type_definitions(alloc, decls)?;
+    add_type_parts(&mut all, &defs)?;
+    let procs = all_procedures(alloc, decls)?;
+    add_procedure_parts(&mut all, &procs)?;
     Ok(all)
 }

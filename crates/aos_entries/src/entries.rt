@@ -1,6 +1,6 @@
 // The scopes of a module, as its declarations make them.
 
-ghost use Rattle.std.specs.Prelude.{◌≡◌, ◌≤◌, ◌<◌, ◌^◌, ◌+◌, ◌++◌, ◌∷◌, [], length, fold, map, IfOk, OnOk};
+ghost use Rattle.std.specs.Prelude.{◌≡◌, ◌≤◌, ◌<◌, ◌^◌, ◌+◌, ◌++◌, ◌∷◌, [], suc, length, fold, map, IfOk, OnOk};
 ghost use Rattle.std.specs.List.{flat_map};
 ghost use Rattle.aos_symbols.specs.Declarations as declarations;
 ghost use Rattle.aos_entries.specs.Entries as entries;
@@ -376,33 +376,21 @@ fn procedure_scope<'a>(
     Ok(scope)
 }
 
-/// Declares types within an object type in turn.
-#[tactic(auto, using(crate::proofs::Entered::mapped_step, crate::proofs::Entered::mapped_end))]
-fn declare_inner_types<'a>(
-    scope: &mut Scope<'a>,
+/// The scope of a type that a module defines, whose first type has this place among the numbers.
+fn inner_scope<'a>(
+    alloc: Global,
+    place: &mut usize,
     text: &'a [u8],
-    defs: &[TypeDef],
-) -> Result<(), AllocError>
-    ensures { OnOk result
-        (scope.new ≡ names.with_names scope.old (map (entries.inner_type text.now) defs.now)) }
+    numbers: &[Option<TypeId>],
+    decls: &[Decl],
+) -> Result<Scope<'a>, NoMemory>
+    ensures scope { IfOk result (λ s. s ≡
+        entries.inner_scope text.now numbers.now place.old decls.now) }
+    ensures place { OnOk result (place.new ≡
+        place.old + length (declarations.type_defs decls.now)) }
 {
-    for def in defs {
-        declare(scope, text, &def.def, Meaning::Type(None))?;
-    }
-    Ok(())
-}
-
-/// The scope of a type that a module defines.
-fn inner_scope<'a>(alloc: Global, text: &'a [u8], def: &TypeDef) -> Result<Scope<'a>, NoMemory>
-    ensures { IfOk result (λ s. s ≡ entries.inner_scope text.now def.now) }
-{
-    let decls = inner_decls(&def.value);
     let mut scope = Scope::new(alloc);
-    for decl in decls {
-        if let Decl::Types(_, defs) = decl {
-            declare_inner_types(&mut scope, text, defs.as_slice())?;
-        }
-    }
+    declare_all_types(&mut scope, place, text, numbers, decls)?;
     declare_others(alloc, &mut scope, text, decls)?;
     Ok(scope)
 }
@@ -414,34 +402,69 @@ fn add_scope<'a>(scopes: &mut Vec<Scope<'a>>, scope: Scope<'a>) -> Result<(), Al
     Ok(())
 }
 
+/// The scopes of types that a module defines, of which the first type of the first has this place among the numbers.
+#[tactic(auto, using(crate::proofs::Entered::inner_on, crate::proofs::Entered::inner_count, crate::proofs::Entered::inner_end, crate::proofs::Entered::inner_none))]
 fn add_inner_scopes<'a>(
     alloc: Global,
     scopes: &mut Vec<Scope<'a>>,
+    place: &mut usize,
     text: &'a [u8],
+    numbers: &[Option<TypeId>],
     defs: &[TypeDef],
 ) -> Result<(), NoMemory>
-    ensures { OnOk result
-        (scopes.new.items ≡ scopes.old.items ++ map (entries.inner_scope text.now) defs.now) }
+    ensures scopes { OnOk result (scopes.new.items ≡
+        scopes.old.items ++ entries.inner_scopes text.now numbers.now place.old defs.now) }
+    ensures place { OnOk result (place.new ≡
+        place.old + length (declarations.inner_types defs.now)) }
 {
     for def in defs {
-        add_scope(scopes, inner_scope(alloc, text, def)?)?;
+        let scope = inner_scope(alloc, place, text, numbers, inner_decls(&def.value))?;
+        add_scope(scopes, scope)?;
     }
     Ok(())
 }
 
+/// The same of the types that a declaration defines.
 fn add_inner_scopes_in<'a>(
     alloc: Global,
     scopes: &mut Vec<Scope<'a>>,
+    place: &mut usize,
     text: &'a [u8],
+    numbers: &[Option<TypeId>],
     decl: &Decl,
 ) -> Result<(), NoMemory>
-    ensures { OnOk result (scopes.new.items ≡
-        scopes.old.items ++ map (entries.inner_scope text.now) (declarations.types_in decl.now)) }
+    ensures scopes { OnOk result (scopes.new.items ≡ scopes.old.items
+        ++ entries.inner_scopes text.now numbers.now place.old (declarations.types_in decl.now)) }
+    ensures place { OnOk result (place.new ≡
+        place.old + length (declarations.inner_types (declarations.types_in decl.now))) }
 {
     match decl {
-        Decl::Types(_, defs) => add_inner_scopes(alloc, scopes, text, defs.as_slice()),
+        Decl::Types(_, defs) => {
+            add_inner_scopes(alloc, scopes, place, text, numbers, defs.as_slice())
+        },
         _ => Ok(()),
     }
+}
+
+/// The same of all types that a module's own declarations define.
+#[tactic(auto, using(crate::proofs::Entered::decl_inner_on, crate::proofs::Entered::decl_inner_count, crate::proofs::Entered::decl_inner_end, crate::proofs::Entered::decl_inner_none))]
+fn add_all_inner_scopes<'a>(
+    alloc: Global,
+    scopes: &mut Vec<Scope<'a>>,
+    place: &mut usize,
+    text: &'a [u8],
+    numbers: &[Option<TypeId>],
+    decls: &[Decl],
+) -> Result<(), NoMemory>
+    ensures scopes { OnOk result (scopes.new.items ≡ scopes.old.items
+        ++ entries.inner_scopes text.now numbers.now place.old (declarations.type_defs decls.now)) }
+    ensures place { OnOk result (place.new ≡
+        place.old + length (declarations.inner_types (declarations.type_defs decls.now))) }
+{
+    for decl in decls {
+        add_inner_scopes_in(alloc, scopes, place, text, numbers, decl)?;
+    }
+    Ok(())
 }
 
 /// The scopes of the procedures of declarations, of which the first type of the first has this place among the numbers.
@@ -651,10 +674,34 @@ fn objects_of(
     Ok(objects)
 }
 
+/// The scopes of a module, and the number of the first one of a procedure.
+#[tactic(auto, using(crate::proofs::Entered::inner_long))]
+fn scopes_of<'a>(
+    alloc: Global,
+    homes: &[Home<'_>],
+    numbers: &[Option<TypeId>],
+    text: &'a [u8],
+    tree: &Module,
+) -> Result<(Vec<Scope<'a>>, usize), NoMemory>
+    requires { length homes.now < 2 ^ 32 }
+    ensures scopes { IfOk result (λ r. r.0.items ≡
+        entries.scopes text.now homes.now numbers.now tree.now) }
+    ensures first { IfOk result (λ r. r.1 ≡ suc (length (declarations.type_defs tree.now.decls))) }
+{
+    let decls = tree.decls.as_slice();
+    let mut place = 0;
+    let own = own_scope(alloc, homes, &mut place, text, numbers, tree)?;
+    let mut scopes = Vec::new(alloc);
+    add_scope(&mut scopes, own)?;
+    add_all_inner_scopes(alloc, &mut scopes, &mut place, text, numbers, decls)?;
+    let first = scopes.len();
+    add_all_scopes(alloc, &mut scopes, place, text, numbers, decls)?;
+    Ok((scopes, first))
+}
+
 /// What a module declares, before any of its declarations is looked at: its scopes, in a module that comes behind these in load
 /// order, where the types that its declarations define have these numbers. Of more than 2^32 declarations of one sort it is
 /// want of memory: no text that is compiled has as many.
-#[tactic(auto, using(crate::proofs::Entered::inner_step))]
 pub fn home_of<'a>(
     alloc: Global,
     homes: &[Home<'_>],
@@ -665,17 +712,8 @@ pub fn home_of<'a>(
     requires { length homes.now < 2 ^ 32 }
     ensures { IfOk result (λ h. h ≡ entries.home_of text.now homes.now numbers.now tree.now) }
 {
-    let decls = tree.decls.as_slice();
-    let mut place = 0;
-    let own = own_scope(alloc, homes, &mut place, text, numbers, tree)?;
-    let mut scopes = Vec::new(alloc);
-    add_scope(&mut scopes, own)?;
-    for decl in decls {
-        add_inner_scopes_in(alloc, &mut scopes, text, decl)?;
-    }
-    let first = scopes.len();
-    add_all_scopes(alloc, &mut scopes, place, text, numbers, decls)?;
-    let objects = objects_of(alloc, homes.len() as u32, numbers, decls)?;
+    let (scopes, first) = scopes_of(alloc, homes, numbers, text, tree)?;
+    let objects = objects_of(alloc, homes.len() as u32, numbers, tree.decls.as_slice())?;
     let (name, strings) = (word(text, tree.name), tree.strings.as_slice());
     Ok(Home::new(alloc, name, text, strings, scopes, first, objects)?)
 }

@@ -4,5 +4,5 @@
 pub mod declarations;
 pub mod entries;
 
-pub use declarations::{all_procedures, inner_decls, type_definitions};
+pub use declarations::{all_procedures, inner_decls, inner_parts, type_definitions};
 pub use entries::{declare, home_of};

@@ -16,6 +16,9 @@ IsPlaceOf p = typed.IsPlaceOf p.program p.own
 abbrev pub AreRows : Inside → Rows → ℕ → TType → Type 0
 AreRows p = typed.AreRows p.program p.own
 
+abbrev pub AreVariables : Inside → Rows → Type 0
+AreVariables p = typed.AreVariables p.program
+
 abbrev pub AreArguments : Inside → Arguments → List Parameter → Type 0
 AreArguments p = typed.AreArguments p.program p.own
 

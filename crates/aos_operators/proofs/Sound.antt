@@ -1,5 +1,5 @@
 -- Operators whose operands are sound: where they break no rule, what they give is sound.
-use Rattle.std.proofs.Common.{◌≡◌, ◌<◌, ◌≤◌, Bool, true, false, ◌&&◌, ◌||◌, ◌⊎◌, inl, inr, nat_lt, Option, Some, None, if◌then◌else◌, refl, sym, ap, ◌∙◌, subst, ltb-true, ltb-false, arith}
+use Rattle.std.proofs.Common.{◌≡◌, ◌<◌, ◌≤◌, Bool, true, false, not, ◌&&◌, ◌||◌, ◌⊎◌, inl, inr, nat_lt, length, Option, Some, None, if◌then◌else◌, refl, sym, ap, ◌∙◌, subst, ltb-true, ltb-false, arith}
 use Rattle.std.proofs.lemmas.Bool.{and_parts}
 use Rattle.std.proofs.lemmas.Int.{ints}
 use Rattle.aos_base.specs.declared.number.Width.{Width}
@@ -27,15 +27,15 @@ use Rattle.aos_typed.specs.Program.{Place, Of, Rows, Expr, Lit, Read, Binary}
 use Rattle.aos_typed.specs.WellTyped.{HaveLengths, Includes, FitsObject, FitsProcedure, IsLiteral, HasRange, is_ordered, is_reference as is_reference_type, is_basic as is_basic_type, is_compared}
 use Rattle.aos_symbols.specs.declared.scope.Function.{Function}
 use Rattle.aos_symbols.specs.declared.scope.Function.TheVariants as function
-use Rattle.aos_symbols.specs.Env.{shortint, integer, longint, hugeint, boolean, char, set, nil, text, procedure}
+use Rattle.aos_symbols.specs.Env.{shortint, integer, longint, hugeint, boolean, char, set, nil, text}
 use Rattle.aos_types.specs.Table.{row_of, is_open, is_procedure}
-use Rattle.aos_operators.proofs.Inside.{Inside, IsPlaceOf, AreRows, IsOf, IsNamed}
+use Rattle.aos_operators.proofs.Inside.{Inside, IsPlaceOf, AreRows, AreVariables, IsOf, IsNamed}
 use Rattle.aos_operators.specs.declared.known.Class.{Class}
 use Rattle.aos_operators.specs.declared.known.Class.TheVariants.{Unknown, Constant, Variable, ReadOnly, Computed, Procedure}
 use Rattle.aos_operators.specs.declared.operations.Joint.TheVariants as joint
 use Rattle.aos_operators.specs.declared.operations.Step.{Step}
 use Rattle.aos_operators.specs.declared.operations.Operation.{Operation}
-use Rattle.aos_operators.specs.Known.{Answer, is_nil, is_basic, is_integer, is, is_number, is_boolean, is_char, is_set, larger, width_of_type, width_of, least_of, greatest_of, type_of_literal, type_as, answered}
+use Rattle.aos_operators.specs.Known.{Answer, is_nil, is_lost, is_basic, is_integer, is, is_number, is_boolean, is_char, is_set, larger, width_of_type, width_of, least_of, greatest_of, type_of_literal, type_as, answered}
 use Rattle.aos_operators.specs.Operations as op
 pub use Rattle.aos_operators.proofs.Types.{not_both}
 use Rattle.aos_operators.proofs.Types.{most_includes, includes_itself, integer_itself, as_basic, wider, same_type, integer_cases, basic_cases, integer_basic, as_integer, order_includes}
@@ -168,7 +168,7 @@ module _ (p : Inside) where
   abbrev pub IsOpenPlace : TypeId → Place → Type 0
   IsOpenPlace t place =
       (r : Rows) × (place ≡ Of r) × (is_open (row_of p.program.types t) ≡ true)
-      × AreRows p r (open_dimensions p.program.types t) (type_as (open_element p.program.types t)) × HaveLengths r
+      × AreRows p r (open_dimensions p.program.types t) (type_as (open_element p.program.types t)) × HaveLengths r × AreVariables p r
 
   abbrev pub IsWholeRead : TypeId → Expr → Type 0
   IsWholeRead t x = (is_basic t ≡ false) × (place : Place) × (x ≡ Read (type_as t) place) × (IsClosedPlace t place ⊎ IsOpenPlace t place)
@@ -180,12 +180,13 @@ module _ (p : Inside) where
   abbrev pub IsObject : TypeId → Expr → Type 0
   IsObject t x = (is_basic t ≡ false) × (is_reference_type p.program.types (type_as t) ≡ true) × ((u : TType) → TakesObject u t → IsOf p x u)
 
-  -- a value of a procedure type, which is of each type that has the same formals, and a procedure that is named
+  -- a value of a procedure type, which is of each type that has the same formals, and a procedure that is named, which has the number
+  -- behind those of all types
   abbrev pub IsCallable : TypeId → Expr → Type 0
   IsCallable t x = (is_procedure (row_of p.program.types t) ≡ true) × ((u : TType) → FitsProcedure p.program u (type_as t) → IsOf p x u)
 
   abbrev pub IsNamedAs : TypeId → Expr → Type 0
-  IsNamedAs t x = (t ≡ procedure) × IsNamed p x
+  IsNamedAs t x = (t.0 ≡ length p.program.types) × IsNamed p x
 
   abbrev pub IsRoutine : TypeId → Expr → Type 0
   IsRoutine t x = (is_basic t ≡ false) × (IsCallable t x ⊎ IsNamedAs t x)
@@ -416,9 +417,13 @@ module _ (p : Inside) where
   added_operation add.Minus = sum_operation (λ w. two.Sub w) two.Minus (λ w x y h k. ((h, k), integer_itself w)) (λ x y h k. ((h, k), refl))
   added_operation add.Or = λ t u x y b c h k kept. let i = both_true (is_boolean (Some t)) (is_boolean (Some u)) kept in (boolean, refl, refl, (as_boolean t x h i.0, as_boolean u y k i.1, refl))
 
+  -- of two sets the larger type is that of sets
+  larger_set : (t u : TypeId) → is_set (Some t) ≡ true → is_set (Some u) ≡ true → larger (Some t) (Some u) ≡ Some set
+  larger_set t u i j = subst (λ t. larger (Some t) (Some u) ≡ Some set) (same_type set t i) (subst (λ u. larger (Some set) (Some u) ≡ Some set) (same_type set u j) refl)
+
   pub multiplied_operation : (o : MulOp) → IsOperation (op.multiplied o)
   multiplied_operation mul.Times = sum_operation (λ w. two.Mul w) two.Meet (λ w x y h k. ((h, k), integer_itself w)) (λ x y h k. ((h, k), refl))
-  multiplied_operation mul.Divide = λ t u x y b c h k kept. let i = both_true (is_set (Some t)) (is_set (Some u)) kept in (set, refl, refl, ((as_set t x h i.0, as_set u y k i.1), refl))
+  multiplied_operation mul.Divide = λ t u x y b c h k kept. let i = both_true (is_set (Some t)) (is_set (Some u)) kept in (set, larger_set t u i.0 i.1, refl, ((as_set t x h i.0, as_set u y k i.1), refl))
   multiplied_operation mul.Div = number_operation (λ w. two.Div w) (λ w x y h k. ((h, k), integer_itself w))
   multiplied_operation mul.Mod = number_operation (λ w. two.Mod w) (λ w x y h k. ((h, k), integer_itself w))
   multiplied_operation mul.And = λ t u x y b c h k kept. let i = both_true (is_boolean (Some t)) (is_boolean (Some u)) kept in (boolean, refl, refl, (as_boolean t x h i.0, as_boolean u y k i.1, refl))
@@ -484,21 +489,26 @@ module _ (p : Inside) where
   shifted_operation t u x y b c h k kept =
       let i = both_true (is_integer t) (is_integer u) kept in
       let y' = as_number u y k i.1 in
-      integer_cases (λ t. IsOf p x (type_as t) → (r : TypeId) × (Some (op.shifted_type (Some t)) ≡ Some r) × (is_basic r ≡ true) × IsOf p (Binary (two.Ash (width_of (Some (op.shifted_type (Some t))))) x y) (type_as r))
+      integer_cases (λ t. IsOf p x (type_as t) → (r : TypeId) × (op.shifted_type (Some t) ≡ Some r) × (is_basic r ≡ true) × IsOf p (Binary (two.Ash (width_of (op.shifted_type (Some t)))) x y) (type_as r))
       (λ h. (longint, refl, refl, ((wider p x (type.Integer W8) (type.Integer W32) h refl, y'), refl))) (λ h. (longint, refl, refl, ((wider p x (type.Integer W16) (type.Integer W32) h refl, y'), refl)))
       (λ h. (longint, refl, refl, ((h, y'), refl))) (λ h. (hugeint, refl, refl, ((h, y'), refl)))
       t i.0 h
 
   -- Parts.
 
-  pub answered_plain : (c : Class) (t : TypeId) (x : Expr) → IsKnownClass IsGood c → IsMade c → is_basic t ≡ true → IsOf p x (type_as t) → IsPlain (answered c (Some t) x)
-  answered_plain (Constant (Some v)) t x g m b h = record { of = type_of_literal v; known = refl; none = literal_none v g; typed = literal_typed v g }
-  answered_plain (Constant None) t x g m b h = record { of = t; known = refl; none = basic_some t b; typed = inl (b, h) }
-  answered_plain Unknown t x g m b h = absurd g
-  answered_plain Variable t x g m b h = absurd m
-  answered_plain ReadOnly t x g m b h = absurd m
-  answered_plain Computed t x g m b h = record { of = t; known = refl; none = basic_some t b; typed = inl (b, h) }
-  answered_plain (Procedure k n) t x g m b h = absurd m
+  -- one that is no constant without a value
+  abbrev IsValued : Answer → Type 0
+  IsValued a = not (is_lost a.known.class) ≡ true
+
+  pub answered_plain : (c : Class) (t : TypeId) (x : Expr) → IsValued (answered c (Some t) x) → IsKnownClass IsGood c → IsMade c → is_basic t ≡ true → IsOf p x (type_as t) →
+      IsPlain (answered c (Some t) x)
+  answered_plain (Constant (Some v)) t x l g m b h = record { of = type_of_literal v; known = refl; none = literal_none v g; typed = literal_typed v g }
+  answered_plain (Constant None) t x l g m b h = absurd (not_both (sym l))
+  answered_plain Unknown t x l g m b h = absurd g
+  answered_plain Variable t x l g m b h = absurd m
+  answered_plain ReadOnly t x l g m b h = absurd m
+  answered_plain Computed t x l g m b h = record { of = t; known = refl; none = basic_some t b; typed = inl (b, h) }
+  answered_plain (Procedure k n) t x l g m b h = absurd m
 
   -- a value that is tested to be of a type
   pub sound_number : (a : Answer) → IsSound a → is_number a.known.of ≡ true → IsOf p a.typed (type.Integer W64)
@@ -517,15 +527,15 @@ module _ (p : Inside) where
       as_boolean x.of a.typed (scalar_of x.of a.typed x.typed (basic_same boolean x.of refl i)) i
 
   kept_plain : (kept : Bool) (c : Class) (of : Option TypeId) (t : TypeId) (x : Expr) → kept ≡ true → IsKnownClass IsGood c → IsMade c → of ≡ Some t → is_basic t ≡ true → IsOf p x (type_as t) →
-      IsPlain (answered (op.kept_class kept c) (op.kept_type kept of) x)
-  kept_plain true c of t x k g m is b h = subst (λ o. IsPlain (answered c o x)) (sym is) (answered_plain c t x g m b h)
-  kept_plain false c of t x k g m is b h = absurd (cc)
+      IsValued (answered (op.kept_class kept c) (op.kept_type kept of) x) → IsPlain (answered (op.kept_class kept c) (op.kept_type kept of) x)
+  kept_plain true c of t x k g m is b h l = (subst (λ o. IsValued (answered c o x) → IsPlain (answered c o x)) (sym is) (λ l. answered_plain c t x l g m b h)) l
+  kept_plain false c of t x k g m is b h l = absurd (cc)
 
   pub stepped_plain : (f : Option TypeId → Step) → IsStep f → TestsOne f → (a : Answer) → IsSound a → IsKnownClass IsGood a.known.class → (f a.known.of).is_kept ≡ true →
-      IsPlain (op.stepped (f a.known.of) a)
-  stepped_plain f right tests a x g k = subst (λ of. (f of).is_kept ≡ true → IsPlain (op.stepped (f of) a)) (sym x.known) at k
+      IsValued (op.stepped (f a.known.of) a) → IsPlain (op.stepped (f a.known.of) a)
+  stepped_plain f right tests a x g k = subst (λ of. (f of).is_kept ≡ true → IsValued (op.stepped (f of) a) → IsPlain (op.stepped (f of) a)) (sym x.known) at k
     where
-      at : (f (Some x.of)).is_kept ≡ true → IsPlain (op.stepped (f (Some x.of)) a)
+      at : (f (Some x.of)).is_kept ≡ true → IsValued (op.stepped (f (Some x.of)) a) → IsPlain (op.stepped (f (Some x.of)) a)
       at k =
           let s = f (Some x.of) in
           let b = tests x.of k in
@@ -533,12 +543,12 @@ module _ (p : Inside) where
           kept_plain s.is_kept (op.class_of_one s.single a.known.class) s.of r.0 (op.single_typed s.single a.typed) k (class_of_one_known IsGood s.single (single_good s.single) a.known.class g) (made_of_one s.single a.known.class) r.1 r.2 r.3
 
   pub joined_plain : (f : Option TypeId → Option TypeId → Operation) → IsOperation f → TestsTwo f → (a b : Answer) → IsSound a → IsSound b → IsKnownClass IsGood a.known.class →
-      IsKnownClass IsGood b.known.class → (f a.known.of b.known.of).is_kept ≡ true → IsPlain (op.joined (f a.known.of b.known.of) a b)
+      IsKnownClass IsGood b.known.class → (f a.known.of b.known.of).is_kept ≡ true → IsValued (op.joined (f a.known.of b.known.of) a b) → IsPlain (op.joined (f a.known.of b.known.of) a b)
   joined_plain f right tests a b x y g h k =
-      subst (λ of. (f of b.known.of).is_kept ≡ true → IsPlain (op.joined (f of b.known.of) a b)) (sym x.known)
-      (subst (λ of. (f (Some x.of) of).is_kept ≡ true → IsPlain (op.joined (f (Some x.of) of) a b)) (sym y.known) at) k
+      subst (λ of. (f of b.known.of).is_kept ≡ true → IsValued (op.joined (f of b.known.of) a b) → IsPlain (op.joined (f of b.known.of) a b)) (sym x.known)
+      (subst (λ of. (f (Some x.of) of).is_kept ≡ true → IsValued (op.joined (f (Some x.of) of) a b) → IsPlain (op.joined (f (Some x.of) of) a b)) (sym y.known) at) k
     where
-      at : (f (Some x.of) (Some y.of)).is_kept ≡ true → IsPlain (op.joined (f (Some x.of) (Some y.of)) a b)
+      at : (f (Some x.of) (Some y.of)).is_kept ≡ true → IsValued (op.joined (f (Some x.of) (Some y.of)) a b) → IsPlain (op.joined (f (Some x.of) (Some y.of)) a b)
       at k =
           let o = f (Some x.of) (Some y.of) in
           let t = tests x.of y.of k in

@@ -55,12 +55,20 @@ made_behind k m (Procedure l n) = tt
 pub made_of : (j : Joint) (c d : Class) → IsMade (op.class_of j c d)
 made_of j (Constant (Some a)) d = made_with j a d
 made_of j (Constant None) d = made_behind (Constant None) tt d
-made_of j Unknown d = tt
-made_of j Variable d = made_behind Computed tt d
-made_of j ReadOnly d = made_behind Computed tt d
-made_of j Computed d = made_behind Computed tt d
-made_of j (Procedure m n) d = made_behind Computed tt d
+made_of j Unknown d = made_behind Unknown tt d
+made_of j Variable d = tt
+made_of j ReadOnly d = tt
+made_of j Computed d = tt
+made_of j (Procedure m n) d = tt
+
+made_broken : (c : Class) → IsMade (op.broken_class c)
+made_broken Unknown = tt
+made_broken (Constant v) = tt
+made_broken Variable = tt
+made_broken ReadOnly = tt
+made_broken Computed = tt
+made_broken (Procedure m n) = tt
 
 pub made_kept : (b : Bool) (c : Class) → IsMade c → IsMade (op.kept_class b c)
 made_kept true c m = m
-made_kept false c m = tt
+made_kept false c m = made_broken c

@@ -66,3 +66,7 @@ with_span at a x y =
 
 abbrev pub whole_set : Pos → Answer → Judged Answer
 whole_set at a = op.told at [] a
+
+-- an expression in parentheses, of which the first stands here
+abbrev pub enclosed : Pos → Answer → Judged Answer
+enclosed at a = op.told at [] a

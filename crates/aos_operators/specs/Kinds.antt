@@ -41,7 +41,7 @@ abbrev pub is_value : Env → TypeId → Bool
 is_value e t = is_basic t || (is_reference e t || is_procedural e t)
 
 abbrev pub is_built : Env → TypeId → Bool
-is_built e t = (is_value e t || (is_long_text t || is env.procedure t)) || (has_parts e t || is_opened e t)
+is_built e t = (is_value e t || (is_long_text t || is (env.procedure e) t)) || (has_parts e t || is_opened e t)
 
 -- what a pointer leads to
 abbrev pub pointed_in : Option TypeRow → Option TypeId

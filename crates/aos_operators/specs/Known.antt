@@ -14,7 +14,7 @@ use Rattle.aos_typed.specs.Program.{Place, Expr, Lit, Read}
 use Rattle.aos_symbols.specs.declared.breach.Breach.{Breach}
 use Rattle.aos_symbols.specs.Breaches.{breach, breach_unless}
 use Rattle.aos_symbols.specs.Judged.{Judged, judged}
-use Rattle.aos_symbols.specs.Env.{shortint, integer, longint, hugeint, boolean, char, set, nil, any, text, procedure, basic_rows}
+use Rattle.aos_symbols.specs.Env.{shortint, integer, longint, hugeint, boolean, char, set, nil, any, text, basic_rows}
 use Rattle.aos_operators.specs.declared.known.Class.{Class}
 use Rattle.aos_operators.specs.declared.known.Class.TheVariants.{Unknown, Constant, Variable, ReadOnly, Computed, Procedure}
 use Rattle.aos_operators.specs.declared.known.Known.{Known}
@@ -179,16 +179,16 @@ lost c first = breach_unless (not (is_lost c)) 20 first
 
 -- Parts that are known.
 
--- a constant is of the type of its value, which may be smaller than that of its parts, and a procedure that is named of none that
--- variables have
+-- a constant is of the type of its value, which may be smaller than that of its parts, and of none that is known where it has no value,
+-- as it is refused
 abbrev pub known_as : Class → Option TypeId → Known
 known_as (Constant (Some v)) of = record { of = Some (type_of_literal v); class = Constant (Some v) }
-known_as (Constant None) of = record { of = of; class = Constant None }
+known_as (Constant None) of = record { of = None; class = Constant None }
 known_as Unknown of = record { of = of; class = Unknown }
 known_as Variable of = record { of = of; class = Variable }
 known_as ReadOnly of = record { of = of; class = ReadOnly }
 known_as Computed of = record { of = of; class = Computed }
-known_as (Procedure m n) of = record { of = Some procedure; class = Procedure m n }
+known_as (Procedure m n) of = record { of = of; class = Procedure m n }
 
 -- and stands as a literal in the typed program
 abbrev pub typed_as : Class → Expr → Expr
@@ -221,12 +221,19 @@ unknown = answered Unknown None nothing
 abbrev pub some_value : Answer
 some_value = answered Computed None nothing
 
--- a rule that is broken, by what may be anything, and by what is some value
+-- what may be anything but a constant, a variable too
+abbrev pub some_variable : Answer
+some_variable = answered Variable None nothing
+
+-- a rule that is broken, by what may be anything, by what is some value, and by what is no constant
 abbrev pub refused : ℕ → Pos → Judged Answer
 refused rule at = judged (breach rule at) unknown
 
 abbrev pub refused_value : ℕ → Pos → Judged Answer
 refused_value rule at = judged (breach rule at) some_value
+
+abbrev pub refused_variable : ℕ → Pos → Judged Answer
+refused_variable rule at = judged (breach rule at) some_variable
 
 -- a designator that is a value
 abbrev pub spot_of : Pos → Answer → Spot

@@ -135,7 +135,7 @@ joint_typed joint.Differ e f = Unary one.Not (Same e f)
 joint_typed joint.SameProcedure e f = SameProcedure e f
 joint_typed joint.OtherProcedure e f = Unary one.Not (SameProcedure e f)
 
--- what is made of constants is constant, of what is known computed
+-- what is made of constants is constant, and of what is none computed, whatever else it is made of
 abbrev pub class_of_one : Single → Class → Class
 class_of_one s (Constant (Some a)) = Constant (single_value s a)
 class_of_one s (Constant None) = Constant None
@@ -155,7 +155,7 @@ class_with j a ReadOnly = Computed
 class_with j a Computed = Computed
 class_with j a (Procedure m n) = Computed
 
--- of a second operand, where the first has no value
+-- of a second operand, where the first has no value or may be anything
 abbrev pub class_behind : Class → Class → Class
 class_behind of_constant Unknown = Unknown
 class_behind of_constant (Constant v) = of_constant
@@ -167,16 +167,25 @@ class_behind of_constant (Procedure m n) = Computed
 abbrev pub class_of : Joint → Class → Class → Class
 class_of j (Constant (Some a)) c = class_with j a c
 class_of j (Constant None) c = class_behind (Constant None) c
-class_of j Unknown c = Unknown
-class_of j Variable c = class_behind Computed c
-class_of j ReadOnly c = class_behind Computed c
-class_of j Computed c = class_behind Computed c
-class_of j (Procedure m n) c = class_behind Computed c
+class_of j Unknown c = class_behind Unknown c
+class_of j Variable c = Computed
+class_of j ReadOnly c = Computed
+class_of j Computed c = Computed
+class_of j (Procedure m n) c = Computed
+
+-- what isn't taken is no constant where a part of it is none
+abbrev pub broken_class : Class → Class
+broken_class Unknown = Unknown
+broken_class (Constant v) = Unknown
+broken_class Variable = Computed
+broken_class ReadOnly = Computed
+broken_class Computed = Computed
+broken_class (Procedure m n) = Computed
 
 -- what a step makes of its operand, where it takes it
 abbrev pub kept_class : Bool → Class → Class
 kept_class true c = c
-kept_class false c = Unknown
+kept_class false c = broken_class c
 
 abbrev pub kept_type : Bool → Option TypeId → Option TypeId
 kept_type true of = of
@@ -236,7 +245,7 @@ added add.Or a b = operation (are_booleans a b) (Some boolean) joint.Or
 
 abbrev pub multiplied : MulOp → Option TypeId → Option TypeId → Operation
 multiplied mul.Times a b = operation (are_numbers a b || are_sets a b) (larger a b) (on_both (λ w. two.Mul w) two.Meet (larger a b))
-multiplied mul.Divide a b = operation (are_sets a b) (Some set) (joint.On two.Xor)
+multiplied mul.Divide a b = operation (are_sets a b) (larger a b) (joint.On two.Xor)
 multiplied mul.Div a b = operation (are_numbers a b) (larger a b) (joint.On (two.Div (width_of (larger a b))))
 multiplied mul.Mod a b = operation (are_numbers a b) (larger a b) (joint.On (two.Mod (width_of (larger a b))))
 multiplied mul.And a b = operation (are_booleans a b) (Some boolean) joint.And
@@ -304,13 +313,13 @@ applied function.Len a = step true a single.Same
 abbrev pub converted : TypeId → Option TypeId → Step
 converted t a = step (is_number a) (Some t) (into (Some t))
 
--- LONGINT, or HUGEINT where the first argument is
-abbrev pub shifted_type : Option TypeId → TypeId
-shifted_type None = longint
-shifted_type (Some t) = if is hugeint t then hugeint else longint
+-- LONGINT, or HUGEINT where the first argument is; none that is known where the argument's isn't
+abbrev pub shifted_type : Option TypeId → Option TypeId
+shifted_type None = None
+shifted_type (Some t) = Some (if is hugeint t then hugeint else longint)
 
 abbrev pub shifted : Option TypeId → Option TypeId → Operation
-shifted a b = operation (are_numbers a b) (Some (shifted_type a)) (joint.On (two.Ash (width_of (Some (shifted_type a)))))
+shifted a b = operation (are_numbers a b) (shifted_type a) (joint.On (two.Ash (width_of (shifted_type a))))
 
 -- an argument of another type is refused at its first token
 abbrev pub argument : Bool → Pos → List Breach

@@ -194,3 +194,13 @@ pub fn whole_set(found: &mut Option<Breach>, at: Pos, set: Answer) -> Answer
     operations::told(found, at, &set);
     set
 }
+
+/// An expression in parentheses, of which the first stands here.
+pub fn enclosed(found: &mut Option<Breach>, at: Pos, inner: Answer) -> Answer
+    ensures noted { found.new ≡ first_after found.old
+        (judge.enclosed at (seen_answer inner)).breaches }
+    ensures answer { seen_answer result ≡ (judge.enclosed at (seen_answer inner)).answer }
+{
+    operations::told(found, at, &inner);
+    inner
+}

@@ -8,7 +8,7 @@ ghost use Rattle.aos_operators.specs.Kinds as judge;
 ghost use Rattle.aos_operators.specs.Known.{passes};
 
 use crate::known::{is_basic, is_long_text, is_of_any, object_number};
-use aos_symbols::{Env, PROCEDURE};
+use aos_symbols::Env;
 use aos_typed::open_array;
 use aos_types::{TypeId, TypeRow, Types};
 use std::alloc::AllocError;
@@ -101,7 +101,7 @@ pub fn is_built(env: &Env<'_>, of: TypeId) -> bool
 {
     is_value(env, of)
         || is_long_text(of)
-        || PROCEDURE.0 == of.0
+        || env.is_procedure(of)
         || has_parts(env, of)
         || is_opened(env, of)
 }

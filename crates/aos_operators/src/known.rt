@@ -10,8 +10,8 @@ ghost use Rattle.aos_operators.specs.Seen.{seen_answer, seen_held, seen_spot};
 use aos_base::{Pos, Width};
 use aos_made::{MadePlace, Typed};
 use aos_symbols::{
-    ANY, BASIC_TYPES, BOOLEAN, Breach, CHAR, HUGEINT, INTEGER, LONGINT, NIL, NOT_CONSTANT,
-    PROCEDURE, SET, SHORTINT, TEXT, note,
+    ANY, BASIC_TYPES, BOOLEAN, Breach, CHAR, HUGEINT, INTEGER, LONGINT, NIL, NOT_CONSTANT, SET,
+    SHORTINT, TEXT, note,
 };
 use aos_typed::{Literal, TType};
 use aos_types::TypeId;
@@ -352,8 +352,8 @@ pub fn lost(found: &mut Option<Breach>, class: Class, first: Pos)
     }
 }
 
-/// What is known of a part of this class and type; a constant is of the type of its value, and a procedure that is named of none that
-/// variables have.
+/// What is known of a part of this class and type; a constant is of the type of its value, and of none that is known where it has no
+/// value.
 pub fn known_as(class: Class, of: Option<TypeId>) -> Known
     ensures { result ≡ known.known_as class of }
 {
@@ -362,10 +362,7 @@ pub fn known_as(class: Class, of: Option<TypeId>) -> Known
             of: Some(type_of_literal(value)),
             class,
         },
-        Class::Procedure(_, _) => Known {
-            of: Some(PROCEDURE),
-            class,
-        },
+        Class::Constant(None) => Known { of: None, class },
         _ => Known { of, class },
     }
 }
@@ -429,6 +426,13 @@ pub fn some_value() -> Answer
     answered(Class::Computed, None, nothing())
 }
 
+/// What may be anything but a constant, a variable too.
+pub fn some_variable() -> Answer
+    ensures { seen_answer result ≡ known.some_variable }
+{
+    answered(Class::Variable, None, nothing())
+}
+
 /// A part that breaks a rule: it may be anything.
 pub fn refused(found: &mut Option<Breach>, rule: u16, at: Pos) -> Answer
     ensures noted { found.new ≡ first_after found.old (known.refused rule at).breaches }
@@ -445,6 +449,15 @@ pub fn refused_value(found: &mut Option<Breach>, rule: u16, at: Pos) -> Answer
 {
     note(found, rule, at);
     some_value()
+}
+
+/// A part that breaks a rule, and is no constant.
+pub fn refused_variable(found: &mut Option<Breach>, rule: u16, at: Pos) -> Answer
+    ensures noted { found.new ≡ first_after found.old (known.refused_variable rule at).breaches }
+    ensures answer { seen_answer result ≡ (known.refused_variable rule at).answer }
+{
+    note(found, rule, at);
+    some_variable()
 }
 
 /// A designator that is a value.

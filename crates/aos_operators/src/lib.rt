@@ -14,8 +14,8 @@ pub use kinds::{
 pub use known::{
     Answer, Class, Held, Known, Spot, answered, as_procedure, constant_answer, fits, fits_type,
     is_basic, is_boolean, is_char, is_integer, is_long_text, is_number, is_of_any, is_set,
-    is_unknown, known_as, nothing, object_number, read_from, refused, refused_value, spot_of,
-    type_as, type_of, type_of_literal, unknown, value_class, width_of,
+    is_unknown, known_as, nothing, object_number, read_from, refused, refused_value,
+    refused_variable, spot_of, type_as, type_of, type_of_literal, unknown, value_class, width_of,
 };
 pub use operations::{Joint, Operation, Single, Step, number};
 pub use places::{holds_passed, made_place_in, place_in, place_of, reads_passed, rows_of};

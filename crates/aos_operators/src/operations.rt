@@ -358,26 +358,40 @@ fn class_behind(of_constant: Class, class: Class) -> Class
     }
 }
 
-/// What is made of two constants is constant, of what is known computed.
+/// What is made of two constants is constant, and of what is none computed, whatever else it is made of.
 pub fn class_of(joint: Joint, left: Class, right: Class) -> Class
     ensures { result ≡ judge.class_of joint left right }
 {
     match left {
         Class::Constant(Some(a)) => class_with(joint, a, right),
         Class::Constant(None) => class_behind(Class::Constant(None), right),
+        Class::Unknown => class_behind(Class::Unknown, right),
+        Class::Variable => Class::Computed,
+        Class::ReadOnly => Class::Computed,
+        Class::Computed => Class::Computed,
+        Class::Procedure(_, _) => Class::Computed,
+    }
+}
+
+/// The class of what an operator or function doesn't take: it is no constant where a part of it is none.
+fn broken_class(class: Class) -> Class
+    ensures { result ≡ judge.broken_class class }
+{
+    match class {
         Class::Unknown => Class::Unknown,
-        Class::Variable => class_behind(Class::Computed, right),
-        Class::ReadOnly => class_behind(Class::Computed, right),
-        Class::Computed => class_behind(Class::Computed, right),
-        Class::Procedure(_, _) => class_behind(Class::Computed, right),
+        Class::Constant(_) => Class::Unknown,
+        Class::Variable => Class::Computed,
+        Class::ReadOnly => Class::Computed,
+        Class::Computed => Class::Computed,
+        Class::Procedure(_, _) => Class::Computed,
     }
 }
 
 /// The class of what an operator or function gives, where it takes its operands.
-pub fn kept_class(is_kept: bool, class: Class) -> Class
+fn kept_class(is_kept: bool, class: Class) -> Class
     ensures { result ≡ judge.kept_class is_kept class }
 {
-    if is_kept { class } else { Class::Unknown }
+    if is_kept { class } else { broken_class(class) }
 }
 
 /// The type of what an operator or function gives, where it takes its operands.
@@ -556,7 +570,7 @@ pub fn multiplied(op: MulOp, a: Option<TypeId>, b: Option<TypeId>) -> Operation
     let width = width_of(larger(a, b));
     match op {
         MulOp::Times => on_both(Binary::Mul(width), Binary::Meet, a, b),
-        MulOp::Divide => Operation::new(are_sets(a, b), Some(SET), Joint::On(Binary::Xor)),
+        MulOp::Divide => Operation::new(are_sets(a, b), larger(a, b), Joint::On(Binary::Xor)),
         MulOp::Div => divided(Binary::Div(width), a, b),
         MulOp::Mod => divided(Binary::Mod(width), a, b),
         MulOp::And => Operation::new(are_booleans(a, b), Some(BOOLEAN), Joint::And),
@@ -714,20 +728,20 @@ pub fn converted(t: TypeId, a: Option<TypeId>) -> Step
     Step::new(is_number(a), Some(t), within_type(Some(t)))
 }
 
-fn shifted_type(of: Option<TypeId>) -> TypeId
+fn shifted_type(of: Option<TypeId>) -> Option<TypeId>
     ensures { result ≡ judge.shifted_type of }
 {
     match of {
-        Some(of) if of.0 == HUGEINT.0 => HUGEINT,
-        _ => LONGINT,
+        Some(of) => Some(if HUGEINT.0 == of.0 { HUGEINT } else { LONGINT }),
+        None => None,
     }
 }
 
-/// ASH, which gives LONGINT, or HUGEINT where its first argument is.
+/// ASH, which gives LONGINT, or HUGEINT where its first argument is, and may give either where that may be anything.
 pub fn shifted(a: Option<TypeId>, b: Option<TypeId>) -> Operation
     ensures { result ≡ judge.shifted a b }
 {
-    let of = Some(shifted_type(a));
+    let of = shifted_type(a);
     Operation::new(are_numbers(a, b), of, Joint::On(Binary::Ash(width_of(of))))
 }
 

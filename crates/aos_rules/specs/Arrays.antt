@@ -18,9 +18,9 @@ use Rattle.aos_symbols.specs.Breaches.{breach_unless}
 use Rattle.aos_symbols.specs.Judged.{Judged, judged}
 use Rattle.aos_symbols.specs.Env as env
 use Rattle.aos_operators.specs.declared.known.Class.{Class}
-use Rattle.aos_operators.specs.declared.known.Class.TheVariants.{Unknown, Constant}
+use Rattle.aos_operators.specs.declared.known.Class.TheVariants.{Unknown, Constant, Computed}
 use Rattle.aos_operators.specs.declared.known.Known.{Known}
-use Rattle.aos_operators.specs.Known.{Answer, is_basic, is_char, value_class, answered}
+use Rattle.aos_operators.specs.Known.{Answer, is_basic, is_char, answered}
 use Rattle.aos_operators.specs.Operations as op
 use Rattle.aos_operators.specs.Kinds.{is_opened}
 use Rattle.aos_operators.specs.Places.{place_in, rows_of}
@@ -80,7 +80,7 @@ len_typed e (Some t) r d = if nat_lt d (open_dimensions e.types t) then Len r d 
 abbrev pub len_answer : Env → Answer → (dimension : ℕ) → Answer
 len_answer e a d =
     let takes = is_array e a.known.of in
-    answered (op.kept_class takes (value_class a.known.class)) (op.kept_type takes (Some env.longint))
+    answered Computed (op.kept_type takes (Some env.longint))
     (len_typed e a.known.of (rows_of (place_in a.typed)) d)
 
 -- the number of a dimension

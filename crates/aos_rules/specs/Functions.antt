@@ -1,5 +1,5 @@
 -- The values of functions, by their arguments: predeclared ones of one and of two, MAX and MIN of a type, and those that are declared.
-use Rattle.std.specs.Prelude.{List, ◌++◌, Bool, not, Option, Some, None, if◌then◌else◌}
+use Rattle.std.specs.Prelude.{List, ◌++◌, Bool, true, false, not, Option, Some, None, if◌then◌else◌}
 use Rattle.aos_base.specs.declared.text.Pos.{Pos}
 use Rattle.aos_types.specs.declared.row.TypeId.{TypeId}
 use Rattle.aos_typed.specs.declared.tree.Literal.{Literal}
@@ -10,7 +10,8 @@ use Rattle.aos_symbols.specs.declared.env.Env.{Env}
 use Rattle.aos_symbols.specs.declared.breach.Breach.{Breach}
 use Rattle.aos_symbols.specs.Breaches.{breach_unless}
 use Rattle.aos_symbols.specs.Judged.{Judged, judged, kept}
-use Rattle.aos_operators.specs.declared.known.Class.TheVariants.{Computed}
+use Rattle.aos_operators.specs.declared.known.Class.{Class}
+use Rattle.aos_operators.specs.declared.known.Class.TheVariants.{Variable, Computed}
 use Rattle.aos_operators.specs.declared.operations.Step.{Step}
 use Rattle.aos_operators.specs.Known.{Answer, passes, is_number, constant_answer, answered, nothing, refused}
 use Rattle.aos_operators.specs.Operations as op
@@ -51,10 +52,15 @@ two_arguments at first second a b =
 abbrev pub function_typed : (is_condition : Bool) → TypedCallee → List Given → Typed
 function_typed is_condition c given = if is_condition then nothing else Invoked c (listed given)
 
+-- the result of a function is no constant, and may be anything else where a rule of the call is broken
+abbrev pub function_class : Bool → Class
+function_class true = Computed
+function_class false = Variable
+
 -- the result of a function with these arguments, which has no type where a rule of the call is broken
 abbrev pub function_answer : (is_condition : Bool) → TypedCallee → Option TypeId → Handing → Answer
 function_answer is_condition c of h =
-    answered (op.kept_class h.are_kept Computed) (op.kept_type h.are_kept of) (function_typed is_condition c h.given)
+    answered (function_class h.are_kept) (op.kept_type h.are_kept of) (function_typed is_condition c h.given)
 
 -- a result that isn't of a basic type and no object isn't built
 abbrev pub function_breaches : Env → (first : Pos) → Option TypeId → List Breach

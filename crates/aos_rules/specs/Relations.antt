@@ -17,18 +17,18 @@ use Rattle.aos_symbols.specs.Breaches.{breach_unless}
 use Rattle.aos_symbols.specs.Judged.{Judged, judged, bind}
 use Rattle.aos_symbols.specs.Env as env
 use Rattle.aos_operators.specs.declared.known.Class.{Class}
-use Rattle.aos_operators.specs.declared.known.Class.TheVariants.{Constant}
+use Rattle.aos_operators.specs.declared.known.Class.TheVariants.{Constant, Computed}
 use Rattle.aos_operators.specs.declared.known.Known.{Known}
 use Rattle.aos_operators.specs.declared.operations.Joint.TheVariants as joint
 use Rattle.aos_operators.specs.declared.operations.Operation.{Operation}
-use Rattle.aos_operators.specs.Known.{Answer, passes, is, is_of_any, object_number, value_class, answered, nothing, as_procedure, refused}
+use Rattle.aos_operators.specs.Known.{Answer, passes, is, is_of_any, object_number, answered, nothing, as_procedure, refused_value}
 use Rattle.aos_operators.specs.Operations as op
 use Rattle.aos_operators.specs.Kinds as kinds
 use Rattle.aos_operators.specs.Places as places
 use Rattle.aos_rules.specs.TypeNames.{known_type}
 pub use Rattle.aos_rules.specs.Arrays.{is_characters, string_in, is_text, is_only_text, may_be_text, are_texts, string_rows, rows_in, text_rows, has_room, text_for}
 
--- Type tests: the right operand is the name of a type.
+-- Type tests: the right operand is the name of a type. They are no constants.
 
 abbrev pub test_typed : Env → Answer → Option TypeId → Typed
 test_typed e a t = by a.known.of t
@@ -46,10 +46,10 @@ abbrev pub tested_with : Env → Pos → Answer → Option TypeId → Judged Ans
 tested_with e at a t =
     let takes = may_test e a t in
     judged (breach_unless takes 41 at)
-    (answered (op.kept_class takes (value_class a.known.class)) (op.kept_type takes (Some env.boolean)) (test_typed e a t))
+    (answered Computed (op.kept_type takes (Some env.boolean)) (test_typed e a t))
 
 abbrev pub tested : Env → Pos → Answer → Option Qualident → Judged Answer
-tested e at a None = refused 41 at
+tested e at a None = refused_value 41 at
 tested e at a (Some q) = bind (known_type e q) (λ t. tested_with e at a t)
 
 abbrev pub compares_texts : Env → RelationOp → Known → Known → Bool
@@ -110,10 +110,10 @@ compares_objects e o a b = is_equality o && (is_the_reference e a || is_the_refe
 
 abbrev pub is_the_procedure : Env → Option TypeId → Bool
 is_the_procedure e None = false
-is_the_procedure e (Some t) = is env.procedure t || kinds.is_procedural e t
+is_the_procedure e (Some t) = is (env.procedure e) t || kinds.is_procedural e t
 
 abbrev pub may_be_procedure : Env → Option TypeId → Bool
-may_be_procedure e = passes (λ t. is env.nil t || (is env.procedure t || kinds.is_procedural e t))
+may_be_procedure e = passes (λ t. is env.nil t || (is (env.procedure e) t || kinds.is_procedural e t))
 
 abbrev pub compares_procedures : Env → RelationOp → Option TypeId → Option TypeId → Bool
 compares_procedures e o a b = is_equality o && (is_the_procedure e a || is_the_procedure e b)

@@ -101,6 +101,17 @@ fn function_typed(
     Typed::function(alloc, callee, given)
 }
 
+/// The class of a function's result: no constant, and anything else where a rule of the call is broken.
+fn function_class(are_kept: bool) -> Class
+    ensures { result ≡ judge.function_class are_kept }
+{
+    if are_kept {
+        Class::Computed
+    } else {
+        Class::Variable
+    }
+}
+
 /// The result of a function with these arguments.
 fn function_answer(
     alloc: Global,
@@ -115,7 +126,7 @@ fn function_answer(
     let are_kept = handing.are_kept;
     let typed = function_typed(alloc, is_condition, callee, handing.given)?;
     Ok(answered(
-        operations::kept_class(are_kept, Class::Computed),
+        function_class(are_kept),
         operations::kept_type(are_kept, of),
         typed,
     ))

@@ -9,10 +9,10 @@ ghost use Rattle.aos_rules.specs.Arrays as judge;
 
 use aos_base::Pos;
 use aos_made::{MadePlace, MadeRows, Typed};
-use aos_operators::operations::{argument, kept_class, kept_type};
+use aos_operators::operations::{argument, kept_type};
 use aos_operators::{
     Answer, Class, answered, is_basic, is_opened, is_unknown, made_place_in, open_dimensions,
-    rows_of, value_class,
+    rows_of,
 };
 use aos_symbols::{Breach, Env, LONGINT, NOT_CONSTANT, note};
 use aos_typed::{Literal, open_array};
@@ -180,7 +180,7 @@ fn len_answer(
     let place = made_place_in(alloc, array.typed)?;
     let rows = rows_of(alloc, place)?;
     Ok(answered(
-        kept_class(takes, value_class(known.class)),
+        Class::Computed,
         kept_type(takes, Some(LONGINT)),
         len_typed(alloc, env, known.of, rows, dimension)?,
     ))

@@ -8,7 +8,7 @@ ghost use Rattle.aos_rules.specs.Relations as judge;
 use crate::texts::relation_in;
 use aos_base::Pos;
 use aos_operators::{Answer, as_procedure, is_procedural, operations};
-use aos_symbols::{Breach, Env, NIL, PROCEDURE};
+use aos_symbols::{Breach, Env, NIL};
 use aos_tree::RelationOp;
 use aos_types::TypeId;
 use std::alloc::{AllocError, Global};
@@ -18,7 +18,7 @@ fn is_the_procedure(env: &Env<'_>, of: Option<TypeId>) -> bool
     ensures { result ≡ judge.is_the_procedure env.now of }
 {
     match of {
-        Some(of) => PROCEDURE.0 == of.0 || is_procedural(env, of),
+        Some(of) => env.is_procedure(of) || is_procedural(env, of),
         None => false,
     }
 }
@@ -28,7 +28,7 @@ fn may_be_procedure(env: &Env<'_>, of: Option<TypeId>) -> bool
     ensures { result ≡ judge.may_be_procedure env.now of }
 {
     match of {
-        Some(of) => NIL.0 == of.0 || PROCEDURE.0 == of.0 || is_procedural(env, of),
+        Some(of) => NIL.0 == of.0 || env.is_procedure(of) || is_procedural(env, of),
         None => true,
     }
 }

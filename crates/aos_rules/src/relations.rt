@@ -13,9 +13,9 @@ use aos_base::Pos;
 use aos_made::Typed;
 use aos_operators::operations::{self, Operation};
 use aos_operators::{
-    Answer, answered, is_object_type, is_of_any, is_pointer_type, is_record_type, is_reference,
-    made_number, made_place_in, may_test, nothing, object_number, reads_passed, refused,
-    value_class,
+    Answer, Class, answered, is_object_type, is_of_any, is_pointer_type, is_record_type,
+    is_reference, made_number, made_place_in, may_test, nothing, object_number, reads_passed,
+    refused_value,
 };
 use aos_symbols::{BOOLEAN, Breach, Env, WRONG_TEST, note};
 use aos_tree::{Qualident, RelationOp};
@@ -61,7 +61,7 @@ fn tested_with(
         note(found, WRONG_TEST, at);
     }
     Ok(answered(
-        operations::kept_class(takes, value_class(a.known.class)),
+        Class::Computed,
         operations::kept_type(takes, Some(BOOLEAN)),
         test_typed(alloc, env, a, t)?,
     ))
@@ -87,7 +87,7 @@ pub fn tested(
             let t = known_type(found, env, name);
             tested_with(alloc, found, env, at, a, t)
         }
-        None => Ok(refused(found, WRONG_TEST, at)),
+        None => Ok(refused_value(found, WRONG_TEST, at)),
     }
 }
 

@@ -109,7 +109,7 @@ abbrev pub formal_names : Option Formals → List Name
 formal_names None = []
 formal_names (Some f) = flat_map (λ s. s.names) f.sections
 
--- what is declared in an object type; it has no number of its own yet where it is a type
+-- what is declared in an object type
 abbrev pub inner_decls : TypeExpr → List Decl
 inner_decls (type.Object' p base shape row body end) = items-the_row-Decl _ row
 inner_decls (type.Named q) = []
@@ -125,9 +125,27 @@ methods_in d = procedures (inner_decls d.value)
 abbrev pub all_procedures : List Decl → List Procedure
 all_procedures ds = procedures ds ++ flat_map methods_in (type_defs ds)
 
--- the types that a module's declarations define: its own, and behind them those of its procedures and methods
+-- the types that procedures declare
 abbrev pub local_types : List Procedure → List TypeDef
 local_types ps = flat_map (λ p. type_defs p.decls) ps
 
+-- the types that object types among these definitions declare
+abbrev pub inner_types : List TypeDef → List TypeDef
+inner_types ds = flat_map (λ d. type_defs (inner_decls d.value)) ds
+
+-- what is declared within a module's declarations, in the order of the scopes behind the module's own: in each type that it defines, and
+-- in each of its procedures and methods
+abbrev pub inner_parts : List Decl → List (List Decl)
+inner_parts ds = map (λ d. inner_decls d.value) (type_defs ds) ++ map (λ p. p.decls) (all_procedures ds)
+
+-- declarations that are borrowed
+abbrev pub seen_parts : List (Bor (List Decl)) → List (List Decl)
+seen_parts bs = map (λ b. b.now) bs
+
+-- the types that all of these parts define
+abbrev pub types_of : List (List Decl) → List TypeDef
+types_of dss = flat_map type_defs dss
+
+-- the types that a module's declarations define: its own, and behind them those that are defined within these
 abbrev pub all_type_defs : List Decl → List TypeDef
-all_type_defs ds = type_defs ds ++ local_types (all_procedures ds)
+all_type_defs ds = type_defs ds ++ types_of (inner_parts ds)

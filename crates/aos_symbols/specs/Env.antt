@@ -72,9 +72,10 @@ any = record { 0 = 8 }
 abbrev pub text : TypeId
 text = record { 0 = 9 }
 
--- the type of a procedure that is named as a value: no variable has it, and no table has a row for it
-abbrev pub procedure : TypeId
-procedure = record { 0 = 4294967295 }
+-- what a procedure that is named as a value has in the place of a type's number: the number behind those of all types, so that no
+-- variable has it, and no row
+abbrev pub procedure : Env → TypeId
+procedure e = record { 0 = length e.types }
 
 -- what the module with a number has declared
 abbrev pub home : Env → ℕ → Option Home

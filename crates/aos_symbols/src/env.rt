@@ -1,6 +1,6 @@
 // What names stand for at a place of a module.
 
-ghost use Rattle.std.specs.Prelude.{◌≡◌, ◌+◌, ◌++◌, ◌∷◌, [], Some, length, map, OnOk, IfOk, OnErr};
+ghost use Rattle.std.specs.Prelude.{◌≡◌, ◌==◌, ◌+◌, ◌++◌, ◌∷◌, [], Some, length, map, OnOk, IfOk, OnErr};
 ghost use Rattle.std.specs.Map.{lookup};
 ghost use Rattle.std.specs.Option.{option_copied};
 ghost use Rattle.std.specs.Str.{bytes_eq};
@@ -37,8 +37,6 @@ pub const NIL: TypeId = TypeId(7);
 pub const ANY: TypeId = TypeId(8);
 /// The type of the string constants but those of one character, whose lengths stand beside them.
 pub const TEXT: TypeId = TypeId(9);
-/// The type of a procedure that is named as a value: no variable has it, and no table has a row for it.
-pub const PROCEDURE: TypeId = TypeId(u32::MAX);
 /// How many types stand first in each table; those that modules declare come behind them.
 pub const BASIC_TYPES: u32 = 10;
 
@@ -519,6 +517,24 @@ impl<'a> Env<'a> {
             return None;
         }
         Some(self.types.row(of))
+    }
+
+    /// What a procedure that is named as a value has in the place of a type's number: the number behind those of all types. One of 2^32
+    /// and more is want of memory.
+    pub fn procedure(&self) -> Result<TypeId, AllocError>
+        ensures { IfOk result (λ of. of ≡ env.procedure self.now) }
+    {
+        match u32::try_from(self.types.len()) {
+            Ok(number) => Ok(TypeId(number)),
+            Err(_) => Err(AllocError),
+        }
+    }
+
+    /// Whether a number is the one that a procedure which is named has in the place of a type's.
+    pub fn is_procedure(&self, of: TypeId) -> bool
+        ensures { result ≡ ((env.procedure self.now).0 == of.0) }
+    {
+        self.types.len() == of.0 as usize
     }
 
     /// The number of a string constant among the variables of its module, behind which it stands. One of 2^32 and more is want of

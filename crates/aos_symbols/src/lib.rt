@@ -20,7 +20,7 @@ pub use breach::{
 };
 pub use env::{
     ANY, BASIC_TYPES, BOOLEAN, CHAR, Claim, Env, Field, HUGEINT, INTEGER, LONGINT, Lookup, Method,
-    NIL, Narrowed, Open, PROCEDURE, SET, SHORTINT, Symbol, TEXT,
+    NIL, Narrowed, Open, SET, SHORTINT, Symbol, TEXT,
 };
 pub use home::{Home, ObjectScope};
 pub use laws::law_of_first;

@@ -7,12 +7,12 @@ use Rattle.aos_types.specs.declared.row.TypeRow.TheVariants as row
 use Rattle.aos_types.specs.Table.{row_of}
 use Rattle.aos_typed.specs.declared.tree.TType.{TType}
 use Rattle.aos_typed.specs.declared.tree.TType.TheVariants.{Integer, Boolean, Char, Set, Any, Named}
-use Rattle.aos_typed.specs.Program.{Place, ModuleVar, Local, Passed, Field, Index, Of, Deref, Typed, Guarded, Nothing, Body, Procedure, Method, ObjectType, Module, Program}
+use Rattle.aos_typed.specs.Program.{Place, ModuleVar, Local, Passed, Field, Index, Of, Deref, Typed, Guarded, Rows, Known, Opened, Row, Spread, Longer, Nothing, Body, Procedure, Method, ObjectType, Module, Program}
 use Rattle.aos_typed.specs.Numbers.{id_of}
 use Rattle.aos_typed.specs.Formals.{pattern_in, pattern_of}
 use Rattle.aos_typed.specs.Methods.{put_at, methods_in, own_methods, base_type, on_base, or_base, nearest_by, initial_slot, initializer, slots_by, slot_of, own_procedures, methods_of, method_in}
 use Rattle.aos_typed.specs.Conditions.{awaits, awaits_in_procedures, awaits_in_methods, body_renumbered, procedure_renumbered, procedures_renumbered, methods_renumbered, modules_renumbered, objects_renumbered}
-use Rattle.aos_typed.specs.WellTyped.{variable_type, procedure_in, IsConstantText}
+use Rattle.aos_typed.specs.WellTyped.{variable_type, procedure_in, IsConstantText, IsNoConstant, AreVariables}
 
 -- this procedure is there, with whatever body
 abbrev pub Has : Option Procedure → Procedure → Type 0
@@ -130,6 +130,17 @@ module _ (p : Program) (n k i j : ℕ) where
   constant_stays (Deref e u) l h = h
   constant_stays (Typed x v) l h = h
   constant_stays (Guarded x v) l h = h
+
+  no_constant_stays : (x : Place) → IsNoConstant p x → IsNoConstant q x
+  no_constant_stays (ModuleVar m v) h = (h.0, variable_stays m v h.0 h.1)
+  no_constant_stays x h = h
+
+  pub variables_stay : (r : Rows) → AreVariables p r → AreVariables q r
+  variables_stay (Known x ns) h = no_constant_stays x h
+  variables_stay (Opened v d) h = h
+  variables_stay (Row r of e) h = variables_stay r h
+  variables_stay (Spread e d) h = h
+  variables_stay (Longer r ns) h = variables_stay r h
 
   pub pattern_stays : (t : TType) (x : Procedure) → pattern_of p t ≡ Some x → Has (pattern_of q t) x
   pattern_stays (Named t) x e = by (row_of p.types (id_of (Named t))) e

@@ -1,7 +1,8 @@
--- A program whose parts are well typed is well typed once its AWAITs are numbered.
-use Rattle.std.proofs.Common.{◌≡◌, ◌≢◌, refl, sym, ap, subst, ◌∙◌, ℕ, suc, ◌+◌, ◌<◌, ◌≤◌, ◌⊎◌, inl, inr, List, [], ◌∷◌, length, map, sum_by, true, false, All, AllPairs, get_or, slice_get, Option, Some, None, arith}
+-- A program whose parts are well typed, and which keeps the rules beside types, is well typed once its AWAITs are numbered.
+use Rattle.std.proofs.Common.{◌≡◌, ◌≢◌, refl, sym, ap, subst, ◌∙◌, ℕ, suc, ◌+◌, ◌<◌, ◌≤◌, ◌⊎◌, inl, inr, List, [], ◌∷◌, length, map, sum_by, count_by, cond, true, false, All, AllPairs, get_or, slice_get, Option, Some, None, arith}
 use Rattle.std.proofs.lemmas.List.{get_or-map}
 use Rattle.std.proofs.lemmas.List.Elements.{All-nil, All-cons, All-head, All-tail, All-weaker}
+use Rattle.std.proofs.lemmas.List.Sums.{sum_by-cons}
 use Rattle.aos_types.specs.declared.TheConstants.{MOST_SCALARS}
 use Rattle.aos_types.specs.declared.row.TypeRow.{TypeRow}
 use Rattle.aos_types.specs.declared.row.TypeRow.TheVariants as row
@@ -9,13 +10,15 @@ use Rattle.aos_types.specs.Table.{row_of, is_object}
 use Rattle.aos_typed.specs.declared.tree.TType.{TType}
 use Rattle.aos_typed.specs.declared.tree.TType.TheVariants.{Named}
 use Rattle.aos_typed.specs.Numbers.{id_of, predeclared_types}
-use Rattle.aos_typed.specs.Program.{Variable, Procedure, Method, ObjectType, Module, Program}
+use Rattle.aos_typed.specs.Program.{Variable, Body, Procedure, Method, ObjectType, Module, Program}
 use Rattle.aos_typed.specs.Methods.{put_at, on_base, base_type, methods_of, slot_of}
 use Rattle.aos_typed.specs.Conditions.{awaits, awaits_in_procedures, awaits_in_methods, body_renumbered, procedure_renumbered, procedures_renumbered, methods_renumbered, modules_renumbered, objects_renumbered, numbered}
-use Rattle.aos_typed.specs.WellTyped.{AreStatements, is_ident, IsVariableType, IsResult, IsProcedure, Overrides, IsMethod, AreSlots, IsBeside, IsObjectType, AreObjectTypes, module_scalars, HasTypedParts, IsWellTyped}
+use Rattle.aos_typed.specs.Rules.{BodyKeepsRules, ModuleKeepsRules, ObjectKeepsRules}
+use Rattle.aos_typed.specs.WellTyped.{AreStatements, is_ident, IsVariableType, IsResult, IsProcedure, Overrides, IsMethod, AreSlots, IsBeside, IsObjectType, AreObjectTypes, module_scalars, HasTypedParts, ProgramKeepsRules, IsWellTyped}
 use Rattle.aos_typed.proofs.Conditions.{numbers_in_order}
 use Rattle.aos_typed.proofs.Headings.{module_renumbered, object_renumbered, program_renumbered, as_many_modules, as_many_objects, AreLike, as_long, like_at, put_like, methods_like}
 use Rattle.aos_typed.proofs.Retyped.{stats_typed}
+use Rattle.aos_typed.proofs.Rules.{all_keep}
 
 -- what holds of each module, type, procedure or method, and of how it is numbered
 modules_all : (P Q : Module → Type 0) → ((x : Module) (n k : ℕ) → P x → Q (module_renumbered n k x)) → (n k : ℕ) (xs : List Module) → All P xs → All Q (modules_renumbered n k xs)
@@ -66,6 +69,40 @@ differ_still n k xs h =
 beside_still : (t : ℕ) (x : Procedure) (k : ℕ) (r : Option TypeRow) → IsBeside t x r → IsBeside t (procedure_renumbered k x) r
 beside_still t x k (Some (row.Procedure formals r)) h = record { own = h.own; parameters = h.parameters; result = h.result }
 beside_still t x k r h = record { own = h.own; plain = h.plain; proper = h.proper }
+
+-- The rules beside types.
+
+body_keeps : (b : Body) (m : ℕ) → BodyKeepsRules b → BodyKeepsRules (body_renumbered m b)
+body_keeps b m h = all_keep b.statements m b.is_exclusive false h
+
+module_keeps : (x : Module) (n k : ℕ) → ModuleKeepsRules x → ModuleKeepsRules (module_renumbered n k x)
+module_keeps x n k h =
+    record {
+      body = body_keeps x.body n h.body;
+      procedures = procedures_all (λ y. BodyKeepsRules y.body) (λ y. BodyKeepsRules y.body) (λ y m is. body_keeps y.body m is) k x.procedures h.procedures;
+      initializers = procedures_all (λ y. y.is_initializer ≡ false) (λ y. y.is_initializer ≡ false) (λ y m is. is) k x.procedures h.initializers;
+    }
+
+-- 1 for an initializer
+abbrev initial : Method → ℕ
+initial m = cond m.procedure.is_initializer 1 0
+
+initials_same : (k : ℕ) (ms : List Method) → count_by (λ (m : Method). m.procedure.is_initializer) (methods_renumbered k ms) ≡ count_by (λ (m : Method). m.procedure.is_initializer) ms
+initials_same k [] = refl
+initials_same k (m ∷ ms) =
+    let k' : ℕ = k + awaits m.procedure.body in
+    let x : Method = record m { procedure = procedure_renumbered k m.procedure } in
+    sum_by-cons initial x (methods_renumbered k' ms) ∙ ap (λ a. initial m + a) (initials_same k' ms) ∙ sym (sum_by-cons initial m ms)
+
+object_keeps : (o : ObjectType) (n k : ℕ) → ObjectKeepsRules o → ObjectKeepsRules (object_renumbered n k o)
+object_keeps o n k h =
+    record {
+      body = body_keeps o.body.body n h.body;
+      methods = methods_all (λ y. BodyKeepsRules y.body) (λ y. BodyKeepsRules y.body) (λ y m is. body_keeps y.body m is) k o.methods h.methods;
+      initializers = subst (λ a. a ≤ 1) (sym (initials_same k o.methods)) h.initializers;
+      active = h.active;
+      priority = h.priority;
+    }
 
 module _ (p : Program) (n k i j : ℕ) where
   abbrev q : Program
@@ -147,9 +184,30 @@ module _ (p : Program) (n k i j : ℕ) where
             n k p.modules h.procedures;
       }
 
-pub numbered_typed : (p : Program) → HasTypedParts p → IsWellTyped (numbered p)
-numbered_typed p h =
+  scalars_same : (a b : ℕ) (xs : List Module) → sum_by (module_scalars q) (modules_renumbered a b xs) ≡ sum_by (module_scalars p) xs
+  scalars_same a b [] = refl
+  scalars_same a b (x ∷ xs) =
+      let a' : ℕ = a + awaits x.body in
+      let b' : ℕ = b + awaits_in_procedures x in
+      sum_by-cons (module_scalars q) (module_renumbered a b x) (modules_renumbered a' b' xs) ∙ ap (λ m. module_scalars p x + m) (scalars_same a' b' xs)
+      ∙ sym (sum_by-cons (module_scalars p) x xs)
+
+  rules_still : ProgramKeepsRules p → ProgramKeepsRules q
+  rules_still h =
+      record {
+        modules = modules_all ModuleKeepsRules ModuleKeepsRules module_keeps n k p.modules h.modules;
+        objects = objects_all ObjectKeepsRules ObjectKeepsRules object_keeps i j p.objects h.objects;
+        rows = h.rows;
+        scalars = subst (λ m. m ≤ MOST_SCALARS) (sym (scalars_same n k p.modules)) h.scalars;
+      }
+
+pub numbered_typed : (p : Program) → HasTypedParts p → ProgramKeepsRules p → IsWellTyped (numbered p)
+numbered_typed p h rules =
     let beside : ℕ = sum_by (λ x. awaits x.body) p.modules in
     let procedures : ℕ = beside + sum_by (λ o. awaits o.body.body) p.objects in
     let methods : ℕ = procedures + sum_by awaits_in_procedures p.modules in
-    record { parts = parts_still p 0 procedures beside methods h; conditions = numbers_in_order p }
+    record {
+      parts = parts_still p 0 procedures beside methods h;
+      conditions = numbers_in_order p;
+      rules = rules_still p 0 procedures beside methods rules;
+    }

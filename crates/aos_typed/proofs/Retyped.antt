@@ -12,7 +12,7 @@ use Rattle.aos_typed.specs.Program.{Place, ModuleVar, Local, Passed, Field, Inde
 use Rattle.aos_typed.specs.Conditions.{awaited, awaited_in, renumbered, stats_renumbered, arms_renumbered, cases_renumbered}
 use Rattle.aos_typed.specs.Methods.{initializer}
 use Rattle.aos_typed.specs.WellTyped.{Fits, IsProcedural, amount_type, labels_of, AreApart, Takes, IsParameter, IsLocal, IsPlaceOf, IsObjectAt, AreRows, AreArguments, IsCalled, IsOf, IsNamed, AreObjects, AreLengthsOf, IsCall, IsInitialized, IsReturn, IsStatement, AreStatements, AreArms, AreCases, NamesType, IsGiven}
-use Rattle.aos_typed.proofs.Headings.{program_renumbered, as_many_objects, variable_stays, procedure_stays, constant_stays, pattern_stays, method_stays, initializer_stays}
+use Rattle.aos_typed.proofs.Headings.{program_renumbered, as_many_objects, variable_stays, procedure_stays, constant_stays, variables_stay, pattern_stays, method_stays, initializer_stays}
 
 -- an operator takes operands of which more is said
 takes_more : (op : BinaryOperator) (A B C D : TType → Type 0) → ((t : TType) → A t → C t) → ((t : TType) → B t → D t) → Takes op A B → Takes op C D
@@ -104,7 +104,7 @@ module _ (p : Program) (n k i j : ℕ) where
       place_stays (Passed l) t h = (h.0, parameter_stays l h.0 h.1, h.2)
       place_stays (Field x of l) t h = (either (λ a. (place_stays x of a.0, a.1)) (object_stays x of) h.0, h.1)
       place_stays (Index x m of e) t h = (h.0, place_stays x h.0 h.1, h.2, value_stays e (Integer W64) h.3, h.4)
-      place_stays (Of r) t h = rows_stay r 0 t h
+      place_stays (Of r) t h = (rows_stay r 0 t h.0, variables_stay p n k i j r h.1)
       place_stays (Deref e u) t h = (h.0, value_stays e h.0 h.1, h.2, h.3, h.4)
       place_stays (Typed x l) t h = (place_stays x (Named l) h.0, h.1, h.2)
       place_stays (Guarded x l) t h = (h.0, place_stays x h.0 h.1, names_stay x h.0 h.2, h.3, h.4)
@@ -132,7 +132,8 @@ module _ (p : Program) (n k i j : ℕ) where
       arguments_stay (Scalar e more) as' h = (h.0, h.1, h.2, h.3, h.4, value_stays e h.0.of h.5, arguments_stay more h.1 h.6)
       arguments_stay (Whole x more) as' h =
           (h.0, h.1, h.2, (h.3.0, place_stays x h.3.0 h.3.1, given_stays h.0 x h.3.0 h.3.2), arguments_stay more h.1 h.4)
-      arguments_stay (Opening r more) as' h = (h.0, h.1, h.2, h.3, h.4, h.5, rows_stay r h.2 h.3 h.6, h.7, arguments_stay more h.1 h.8)
+      arguments_stay (Opening r more) as' h =
+          (h.0, h.1, h.2, h.3, h.4, h.5, rows_stay r h.2 h.3 h.6, h.7, arguments_stay more h.1 h.8, λ by_reference. variables_stay p n k i j r (h.9 by_reference))
 
       called_stays : (c : Callee) (x : Procedure) → IsCalled p own c x → (b : Body) × IsCalled q so c (record x { body = b })
       called_stays (Plain m l) x h = procedure_stays p n k i j m l x h
@@ -207,7 +208,7 @@ module _ (p : Program) (n k i j : ℕ) where
       stat_typed : (s : Stat) (m : ℕ) → IsStatement p own s → IsStatement q so (renumbered m s)
       stat_typed (Assign at t x e) m h = (place_stays x t h.0, h.1, value_stays e t h.2)
       stat_typed (Copy at t x y) m h = (place_stays x t h.0, (h.1.0, place_stays y h.1.0 h.1.1, h.1.2), h.2)
-      stat_typed (PutText at strict x y) m h = (rows_stay x 1 TChar h.0, rows_stay y 1 TChar h.1, h.2)
+      stat_typed (PutText at strict x y) m h = (rows_stay x 1 TChar h.0, rows_stay y 1 TChar h.1, h.2, variables_stay p n k i j y h.3)
       stat_typed (If at arms) m h = arms_typed arms m h
       stat_typed (Case at e cases) m h =
           (either (value_stays e (Integer W64)) (value_stays e TChar) h.0, subst AreApart (sym (labels_same cases m)) h.1, cases_typed cases m h.2)

@@ -9,6 +9,7 @@ pub mod Source
 pub mod Numbers
 pub mod Routines
 pub mod Conditions
+pub mod Rules
 pub mod WellTyped
 pub mod Sort
 pub mod Text

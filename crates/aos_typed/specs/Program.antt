@@ -148,10 +148,11 @@ pub record Body : Type 0 where
   pub is_exclusive : Bool
   pub statements : Stats
 
--- a procedure, with its body; a proper one has no result. A method or an object's body is of a type, by the
--- type's number in the program; and a method may be an initializer
+-- a procedure, with the place of its name, 0:0 where it has none, and its body; a proper one has no result. A method or an object's
+-- body is of a type, by the type's number in the program; and a method may be an initializer
 pub record Procedure : Type 0 where
   pub name : List ℕ
+  pub at : Pos
   pub of : Option ℕ
   pub is_initializer : Bool
   pub parameters : List Parameter
@@ -164,11 +165,14 @@ pub record Method : Type 0 where
   pub slot : ℕ
   pub procedure : Procedure
 
--- what stands beside a type: its name, the number of its module, the body of its objects, where it has one, which an activity of the
--- object's own carries out where it is active, and at which priority, and its own methods. The body of a procedure type is none: it has
--- the type's formals, and stands for all procedures that have them
+-- what stands beside a type: its name, which is empty where it has none, with its place, 0:0 then, the names of the fields that a type
+-- with a name declares itself, the number of its module, the body of its objects, where it has one, which an activity of the object's own
+-- carries out where it is active, and at which priority, and its own methods. The body of a procedure type is none: it has the type's
+-- formals, and stands for all procedures that have them
 pub record ObjectType : Type 0 where
   pub name : List ℕ
+  pub at : Pos
+  pub fields : List (List ℕ)
   pub home : ℕ
   pub has_body : Bool
   pub is_active : Bool

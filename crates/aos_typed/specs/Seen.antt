@@ -165,6 +165,7 @@ abbrev pub seen_procedure : TProcedure → Procedure
 seen_procedure p =
     record {
       name = string_bytes p.name;
+      at = p.at;
       of = p.of;
       is_initializer = p.is_initializer;
       parameters = map seen_parameter p.parameters.items;
@@ -180,6 +181,8 @@ abbrev pub seen_object : TObject → ObjectType
 seen_object o =
     record {
       name = string_bytes o.name;
+      at = o.at;
+      fields = map (λ s. string_bytes s) o.fields.items;
       home = o.home;
       has_body = o.has_body;
       is_active = o.is_active;

@@ -1,9 +1,10 @@
--- Programs whose expressions have the types that their places ask for (Oberon-2 report, 8.2 and 9.1; Reali 2002, section on
--- basic types): each operator has operands of the types that it takes, an index is an integer, what is read and assigned is of a
--- basic type, an assigned value is of the variable's type, a whole record or array is copied to a variable of its type, what a loop
--- tests is a truth value, what AWAIT awaits is one that is found without a call, and NEW makes an object of its variable's type. No type
--- contains itself, and none has more scalars than a type may have (Oberon-2 report, 6.2 and 6.3), nor have the variables of a module; only parameters are of open
--- arrays, and a function gives a scalar (Oberon-2 report, 10.1). The predeclared types stand first in the table.
+-- Programs whose expressions have the types that their places ask for (Oberon-2 report, 8.2 and 9.1; Reali 2002, section on basic
+-- types): each operator has operands of the types that it takes, an index is an integer, what is read and assigned is of a basic type,
+-- an assigned value is of the variable's type, a whole record or array is copied to a variable of its type, what a loop tests is a
+-- truth value, what AWAIT awaits is one that is found without a call, NEW makes an object of its variable's type, and no string
+-- constant is written. No type contains itself, and none has more scalars than a type may have (Oberon-2 report, 6.2 and 6.3), nor have
+-- the variables of a module; only parameters are of open arrays, and a function gives a scalar (Oberon-2 report, 10.1). The predeclared
+-- types stand first in the table.
 use Rattle.std.specs.Prelude.{◌≡◌, ◌≢◌, ◌⊎◌, ℕ, zero, suc, ℤ, pos, ◌≤◌, ◌<◌, ◌+◌, ◌==◌, ◌^◌, nat_le, int_le, List, [], ◌∷◌, ◌++◌, length, All, Bool, true, false, ◌&&◌, ◌||◌, Option, Some, None, slice_get, sum_by, is_some, option_map, option_and_then, map}
 use Rattle.std.specs.List.{AllPairs, list_all, list_any}
 use Rattle.std.specs.Char.{is_ascii_digit, is_ascii_alphabetic}
@@ -40,6 +41,7 @@ use Rattle.aos_typed.specs.Methods.{initializer, put_at, slot_of, on_base, base_
 use Rattle.aos_typed.specs.Conditions.{HasNoCalls, HasNumbers}
 use Rattle.aos_typed.specs.Routines.{self_type, result_of}
 use Rattle.aos_typed.specs.Numbers.{id_of, predeclared_types, predeclared_rows}
+use Rattle.aos_typed.specs.Rules.{RowsKeepRules, ModuleKeepsRules, ObjectKeepsRules}
 
 -- Types.
 
@@ -280,6 +282,19 @@ module _ (p : Program) where
   IsConstantText (ModuleVar m k) n = (x : Module) × (slice_get p.modules m ≡ Some x) × IsString x k n
   IsConstantText _ n = ⊥
 
+  -- no string constant: a variable of a module is one that it declares
+  abbrev pub IsNoConstant : Place → Type 0
+  IsNoConstant (ModuleVar m k) = (t : TType) × (variable_type m k ≡ Some t)
+  IsNoConstant _ = Unit {0}
+
+  -- an array that may be written
+  abbrev pub AreVariables : Rows → Type 0
+  AreVariables (Known place ns) = IsNoConstant place
+  AreVariables (Opened k j) = Unit {0}
+  AreVariables (Row r of e) = AreVariables r
+  AreVariables (Spread e j) = Unit {0}
+  AreVariables (Longer r ns) = AreVariables r
+
   -- Parameters: of an open array, by reference, or by value.
 
   abbrev pub is_open_parameter : Parameter → Bool
@@ -339,7 +354,7 @@ module _ (p : Program) where
           ((IsPlaceOf place of × (is_record (row_of p.types (id_of of)) ≡ true)) ⊎ IsObjectAt place of)
           × (field_type p.types (id_of of) k ≡ Some (id_of t))
       IsPlaceOf (Index place n of e) t = (u : TType) × IsPlaceOf place u × IsArray n (id_of of) (row_of p.types (id_of u)) × IsOf e (Integer W64) × (t ≡ of)
-      IsPlaceOf (Of r) t = AreRows r 0 t
+      IsPlaceOf (Of r) t = AreRows r 0 t × AreVariables r
       IsPlaceOf (Deref e u) t =
           (v : TType) × IsOf e v × (target p.types v ≡ Some (id_of u)) × (is_whole (row_of p.types (id_of u)) ≡ true) × (t ≡ u)
       IsPlaceOf (Typed place k) t = IsPlaceOf place (Named k) × (is_record (row_of p.types (id_of (Named k))) ≡ true) × (t ≡ Named k)
@@ -373,7 +388,7 @@ module _ (p : Program) where
       AreRows (Longer r ns) n t =
           (m : ℕ) × (u : TType) × (n ≡ m + length ns) × AreRows r m u × IsArrayOf p.types ns (id_of u) (id_of t)
 
-      -- what is handed over for these parameters
+      -- what is handed over for these parameters; for an open array with VAR one that may be written
       pub AreArguments : Arguments → List Parameter → Type 0
       AreArguments NoMore as' = as' ≡ []
       AreArguments (Scalar e more) as' =
@@ -384,7 +399,7 @@ module _ (p : Program) where
           × ((u : TType) × IsPlaceOf place u × IsGiven a place u) × AreArguments more rest
       AreArguments (Opening r more) as' =
           (a : Parameter) × (rest : List Parameter) × (n : ℕ) × (t : TType) × (as' ≡ a ∷ rest) × IsOpening a n t × AreRows r n t
-          × HaveLengths r × AreArguments more rest
+          × HaveLengths r × AreArguments more rest × (a.by_reference ≡ true → AreVariables r)
 
       -- what is called is a procedure with these parameters and this result: that of a module, the one that the type known of an
       -- object has in a slot, the one that SELF's type or a base of it has there, or any that a value of a procedure type stands for
@@ -472,7 +487,7 @@ module _ (p : Program) where
       IsStatement (Copy at t to from) =
           IsPlaceOf to t × ((u : TType) × IsPlaceOf from u × (comes_to p.types (id_of u) (id_of t) ≡ true))
           × (is_whole (row_of p.types (id_of t)) ≡ true)
-      IsStatement (PutText at strict from to) = AreRows from 1 Char × AreRows to 1 Char × HaveLengths to
+      IsStatement (PutText at strict from to) = AreRows from 1 Char × AreRows to 1 Char × HaveLengths to × AreVariables to
       IsStatement (If at arms) = AreArms arms
       IsStatement (Case at e cases) = (IsOf e (Integer W64) ⊎ IsOf e Char) × AreApart (labels_of cases) × AreCases cases
       IsStatement (While at e body) = IsOf e Boolean × AreStatements body
@@ -618,7 +633,16 @@ pub record HasTypedParts (p : Program) : Type 0 where
   pub few_scalars : All (λ m. module_scalars p m ≤ MOST_SCALARS) p.modules
   pub procedures : All (λ m. All (λ q. IsProcedure p q × (q.of ≡ None)) m.procedures) p.modules
 
--- Its parts are well typed, whatever the numbers of its conditions, and these are numbered in their order.
+-- What is asked of it beside types; the variables of all modules together have no more scalars than a type may have.
+pub record ProgramKeepsRules (p : Program) : Type 0 where
+  pub modules : All ModuleKeepsRules p.modules
+  pub objects : All ObjectKeepsRules p.objects
+  pub rows : RowsKeepRules p.types
+  pub scalars : sum_by (module_scalars p) p.modules ≤ MOST_SCALARS
+
+-- Its parts are well typed, whatever the numbers of its conditions, and these are numbered in their order; and it keeps the rules beside
+-- types.
 pub record IsWellTyped (p : Program) : Type 0 where
   pub parts : HasTypedParts p
   pub conditions : HasNumbers p
+  pub rules : ProgramKeepsRules p

@@ -6,7 +6,7 @@ pub mod laws;
 pub mod open;
 pub mod tree;
 
-pub use laws::law_of_conditions;
+pub use laws::{law_of_conditions, law_of_constants, law_of_rules};
 pub use open::{OpenArray, open_array};
 pub use tree::{
     Change, LabelRange, LabelRow, Literal, OutCall, Program, TArgument, TArm, TCallee, TCase,

@@ -401,11 +401,13 @@ pub struct TParameter {
     pub of: TType,
 }
 
-/// A procedure, with the statements of its body; a proper one has no result. A method or an object's body says of which type it
-/// is, by the type's number in the program, and an initializer that it is one. An exclusive body is a region, as an exclusive block is.
+/// A procedure, with the place of its name, 0:0 where it has none, and the statements of its body; a proper one has no result. A
+/// method or an object's body says of which type it is, by the type's number in the program, and an initializer that it is one. An
+/// exclusive body is a region, as an exclusive block is.
 #[derive(Drop)]
 pub struct TProcedure {
     pub name: String,
+    pub at: Pos,
     pub of: Option<u32>,
     pub is_initializer: bool,
     pub parameters: Vec<TParameter>,
@@ -423,13 +425,16 @@ pub struct TMethod {
     pub procedure: TProcedure,
 }
 
-/// What stands beside a type that a module defines or writes: its name, which is empty where it has none, the number of its
-/// module in load order from 0, the body of its objects, a procedure without parameters and locals, and the methods that it
-/// declares. A type that is no object type, or has no body of its own, has an empty one that nothing carries out; that of a procedure
-/// type has the type's formals, and stands for all procedures that have them.
+/// What stands beside a type that a module defines or writes: its name, which is empty where it has none, with its place, 0:0
+/// then, the names of the fields that a type with a name declares itself, the number of its module in load order from 0, the body of
+/// its objects, a procedure without parameters and locals, and the methods that it declares. A type that is no object type, or has no
+/// body of its own, has an empty one that nothing carries out; that of a procedure type has the type's formals, and stands for all
+/// procedures that have them.
 #[derive(Drop)]
 pub struct TObject {
     pub name: String,
+    pub at: Pos,
+    pub fields: Vec<String>,
     pub home: u32,
     /// Whether the body is carried out.
     pub has_body: bool,

@@ -1,7 +1,7 @@
 use Rattle.std.proofs.Common.{◌≡◌, ◌+◌, length, take}
-use Rattle.aos_symbols.specs.Declarations.{type_defs, local_types, seen_procedures}
+use Rattle.aos_symbols.specs.Declarations.{type_defs, types_of, seen_parts}
 use Rattle.aos_check_decl.proofs.pass.count_all_types.Given as goal
 
-abbrev pub invariant-loop-proc : goal.invariant-loop-proc
-invariant-loop-proc l =
-    l.count ≡ length (type_defs l.decls) + length (local_types (seen_procedures (take l.proc-index l.proc-items)))
+abbrev pub invariant-loop-part : goal.invariant-loop-part
+invariant-loop-part l =
+    l.count ≡ length (type_defs l.decls) + length (types_of (seen_parts (take l.part-index l.part-items)))

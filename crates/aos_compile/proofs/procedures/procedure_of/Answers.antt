@@ -14,6 +14,7 @@ returns c =
     let p = c.args.proc.now in
     let s = c.args.signature.now in
     let parts = c.in_ok-name in
+    let place = p.def.name.pos in
     let names = formal_names p.formals in
     let spelled = judge.spelling text p.def.name in
     let given = map (judge.parameter_of text) (zip names s.parameters) in
@@ -24,9 +25,9 @@ returns c =
     let held = map seen_variable parts.locals.items in
     let statements : Stats = seen_stats c.args.body.items in
     let body : Body = record { is_exclusive = c.is_exclusive_body.result; statements = statements } in
-    ap (λ n. record { name = n; of = None; is_initializer = begins; parameters = told; locals = held; result = gives; body = body }) parts.ensures.name
-    ∙ ap (λ ps. record { name = spelled; of = None; is_initializer = begins; parameters = ps; locals = held; result = gives; body = body }) parts.ensures.parameters
-    ∙ ap (λ vs. record { name = spelled; of = None; is_initializer = begins; parameters = given; locals = vs; result = gives; body = body }) parts.ensures.locals
-    ∙ ap (λ b. record { name = spelled; of = None; is_initializer = b; parameters = given; locals = own; result = gives; body = body }) c.is_some.ensures
-    ∙ ap (λ g. record { name = spelled; of = None; is_initializer = is_some p.initializer; parameters = given; locals = own; result = g; body = body }) c.result_of.ensures
-    ∙ ap (λ b. record { name = spelled; of = None; is_initializer = is_some p.initializer; parameters = given; locals = own; result = judge.result_of s.gives; body = record { is_exclusive = b; statements = statements } }) c.is_exclusive_body.ensures
+    ap (λ n. record { name = n; at = place; of = None; is_initializer = begins; parameters = told; locals = held; result = gives; body = body }) parts.ensures.name
+    ∙ ap (λ ps. record { name = spelled; at = place; of = None; is_initializer = begins; parameters = ps; locals = held; result = gives; body = body }) parts.ensures.parameters
+    ∙ ap (λ vs. record { name = spelled; at = place; of = None; is_initializer = begins; parameters = given; locals = vs; result = gives; body = body }) parts.ensures.locals
+    ∙ ap (λ b. record { name = spelled; at = place; of = None; is_initializer = b; parameters = given; locals = own; result = gives; body = body }) c.is_some.ensures
+    ∙ ap (λ g. record { name = spelled; at = place; of = None; is_initializer = is_some p.initializer; parameters = given; locals = own; result = g; body = body }) c.result_of.ensures
+    ∙ ap (λ b. record { name = spelled; at = place; of = None; is_initializer = is_some p.initializer; parameters = given; locals = own; result = judge.result_of s.gives; body = record { is_exclusive = b; statements = statements } }) c.is_exclusive_body.ensures

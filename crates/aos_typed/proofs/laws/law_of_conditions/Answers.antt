@@ -9,4 +9,4 @@ pub returns-clause-linked : goal.returns-clause-linked
 returns-clause-linked c p h = linked p h
 
 pub returns-clause-typed : goal.returns-clause-typed
-returns-clause-typed c p h = numbered_typed p h
+returns-clause-typed c p h rules = numbered_typed p h rules
