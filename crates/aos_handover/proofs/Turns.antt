@@ -23,7 +23,7 @@ use Rattle.aos_typed.specs.Meaning.{Question, Doing, Item, Do, Rounds, Round, Un
 use Rattle.aos_typed.specs.Source.{Frame, Turned, here_of, lock_of, locks_in, answered, done, all_rooted, goes_on, leaves, begins, writes, prints, makes, starts, awaits, copies, stores_text, is_deep, enters, called_frame, calls, makes_with, first_value, made_shape, answer, tests, finishes, settles, goes, item_turn, turn_at, calm, noted, written, ends}
 use Rattle.aos_sim.proofs.Does.{IsVisible, IsCalm, calm_seen, feed_noted, feed_noted_bind}
 use Rattle.aos_sim.proofs.Runs.{feed-append}
-use Rattle.aos_handover.specs.Kinds.{follow, settled_work, written_by, MakesNone, told_as, HasCome, IsAsking, so_far, IsNext, Stood, Followed, AnotherRound, Repeated, Behind, Stands, HasHad, Rests, Begins, GoesOn, Tested, IsStored, OneScalar, OneWhole, OneText, AtEnd, AtResult, Nowhere, Kind, Settled, Stopped, Left, Popped, Told, Written, Stored, Created, Called}
+use Rattle.aos_handover.specs.Kinds.{follow, settled_work, written_by, MakesNone, CallsNone, told_as, HasCome, IsAsking, so_far, IsNext, Stood, Followed, AnotherRound, Repeated, Behind, Stands, HasHad, Rests, Begins, GoesOn, Tested, IsStored, OneScalar, OneWhole, OneText, AtEnd, AtResult, Nowhere, Kind, Settled, Stopped, Left, Popped, Told, Written, Stored, Created, Called}
 
 module _ (p : Program) (following : List ℕ) (s : Store) (f : Frame) (fs : List Frame) where
   abbrev Is : Turned → Type 0
@@ -37,8 +37,8 @@ module _ (p : Program) (following : List ℕ) (s : Store) (f : Frame) (fs : List
       abbrev seen : Rooted (Content Value)
       seen = all_rooted (g ∷ fs) s
 
-      told : MakesNone q → Is (goes_on following (answered (told_as seen q) g ∷ fs) s)
-      told none = Told g q none stands asks (record { store_is = refl; frames_are = refl; output_is = refl; left_is = refl })
+      told : MakesNone q → CallsNone p q → Is (goes_on following (answered (told_as seen q) g ∷ fs) s)
+      told none absent = Told g q none absent stands asks (record { store_is = refl; frames_are = refl; output_is = refl; left_is = refl })
 
       prints_kind : (o : Option (List ℕ)) → written_by (all_rooted (g ∷ fs) s) q ≡ o → Is (prints following o g fs s)
       prints_kind None is = stopped 14 0
@@ -48,53 +48,58 @@ module _ (p : Program) (following : List ℕ) (s : Store) (f : Frame) (fs : List
       stored r change is = Stored g q r change stands asks is (record { store_is = refl; frames_are = refl; output_is = refl; left_is = refl })
 
     module _ (t : ℕ) (vs : List Value) (asks : IsAsking p g fs (Makes t vs)) where
-      makes_kind : (room : Bool) (ns : List ℕ) → array_lengths (map number_of vs) ≡ Some ns → (let m : Made = record { type = t; lengths = ns } in Is (makes following room m (first_content (first_value p) (made_shape p.types m)) g fs s))
-      makes_kind true ns are = Created g t vs ns stands asks are (record { store_is = refl; frames_are = refl; output_is = refl; left_is = refl })
-      makes_kind false ns are = stopped 12 0
+      abbrev made : List ℕ → Made
+      made ns = record { type = t; lengths = ns }
+
+      abbrev content : List ℕ → Content Value
+      content ns = first_content (first_value p) (made_shape p.types (made ns))
+
+      makes_kind : (room : Bool) (ns : List ℕ) → array_lengths (map number_of vs) ≡ Some ns → has_room (made ns) (content ns) s ≡ room → Is (makes following room (made ns) (content ns) g fs s)
+      makes_kind true ns are room = Created g t vs ns stands asks are room (record { store_is = refl; frames_are = refl; output_is = refl; left_is = refl })
+      makes_kind false ns are room = stopped 12 0
 
       makes_with_kind : (ns : Option (List ℕ)) → array_lengths (map number_of vs) ≡ ns → Is (makes_with p following ns t g fs s)
       makes_with_kind None are = stopped 15 0
-      makes_with_kind (Some ns) are =
-          let m : Made = record { type = t; lengths = ns } in
-          makes_kind (has_room m (first_content (first_value p) (made_shape p.types m)) s) ns are
+      makes_with_kind (Some ns) are = makes_kind (has_room (made ns) (content ns) s) ns are refl
 
     module _ (t : TType) (from to : Spot) (asks : IsAsking p g fs (Copies t from to)) where
       copies_kind : (new old : Option (Content Value)) → read from.root from.path (all_rooted (g ∷ fs) s) ≡ new → read to.root to.path (all_rooted (g ∷ fs) s) ≡ old → Is (copies following (variable_shape p.types (id_of t)) new old to (answered done g ∷ fs) s)
       copies_kind (Some new) (Some old) e e' = stored (Copies t from to) asks to.root _ (OneWhole t from to new old e e')
-      copies_kind (Some new) None e e' = told (Copies t from to) asks tt
-      copies_kind None old e e' = told (Copies t from to) asks tt
+      copies_kind (Some new) None e e' = told (Copies t from to) asks tt tt
+      copies_kind None old e e' = told (Copies t from to) asks tt tt
 
     module _ (strict : Bool) (from : Spot) (n : Value) (to : Spot) (room : Value) (asks : IsAsking p g fs (PutsText strict from n to room)) where
-      stores_text_kind : (text : Option (List ℕ)) (old : Option (Content Value)) → read to.root to.path (all_rooted (g ∷ fs) s) ≡ old → Is (stores_text following text old to g fs s)
-      stores_text_kind None old e = stopped 15 0
-      stores_text_kind (Some cs) None e = told (PutsText strict from n to room) asks tt
-      stores_text_kind (Some cs) (Some old) e = stored (PutsText strict from n to room) asks to.root _ (OneText strict from n to room cs old e)
+      stores_text_kind : (text : Option (List ℕ)) (old : Option (Content Value)) → fitted strict (unsigned_abs (number_of room)) (text_in (read from.root from.path (all_rooted (g ∷ fs) s))) ≡ text → read to.root to.path (all_rooted (g ∷ fs) s) ≡ old →
+          Is (stores_text following text old to g fs s)
+      stores_text_kind None old fits e = stopped 15 0
+      stores_text_kind (Some cs) None fits e = told (PutsText strict from n to room) asks tt tt
+      stores_text_kind (Some cs) (Some old) fits e = stored (PutsText strict from n to room) asks to.root _ (OneText strict from n to room cs old fits e)
 
     module _ (how : Manner) (n : ℕ) (vs : List Value) (asks : IsAsking p g fs (Calls how n vs)) where
       calls_kind : (r : Option Routine) → by_number n (routines p) ≡ r → Is (calls p following r vs g fs s)
-      calls_kind None there = told (Calls how n vs) asks tt
-      calls_kind (Some r) there = by (is_deep following (called_frame p following r vs (g ∷ fs) s) (g ∷ fs))
+      calls_kind None there = told (Calls how n vs) asks tt there
+      calls_kind (Some r) there = by (is_deep following (called_frame p following r vs (g ∷ fs) s) (g ∷ fs)) refl
         where
-          by : (deep : Bool) → Is (enters following deep (called_frame p following r vs (g ∷ fs) s) (g ∷ fs) s)
-          by true = stopped 11 0
-          by false = Called g how n vs r stands asks there (record { store_is = refl; frames_are = refl; output_is = refl; left_is = refl })
+          by : (deep : Bool) → is_deep following (called_frame p following r vs (g ∷ fs) s) (g ∷ fs) ≡ deep → Is (enters following deep (called_frame p following r vs (g ∷ fs) s) (g ∷ fs) s)
+          by true is = stopped 11 0
+          by false is = Called g how n vs r stands asks there is (record { store_is = refl; frames_are = refl; output_is = refl; left_is = refl })
 
     starts_kind : (v : Value) → IsAsking p g fs (Starts v) → Is (starts following v g fs s)
-    starts_kind (Object zero) asks = told (Starts (Object zero)) asks tt
+    starts_kind (Object zero) asks = told (Starts (Object zero)) asks tt tt
     starts_kind (Object (suc k)) asks = Left g (Starts (Object (suc k))) (Start (suc k)) stands asks (k, refl, refl) (record { store_is = refl; frames_are = refl; output_is = refl; left_is = refl })
-    starts_kind (Int z) asks = told (Starts (Int z)) asks tt
-    starts_kind (Flag b) asks = told (Starts (Flag b)) asks tt
-    starts_kind (Char c) asks = told (Starts (Char c)) asks tt
-    starts_kind (Set x) asks = told (Starts (Set x)) asks tt
-    starts_kind (Callable k o) asks = told (Starts (Callable k o)) asks tt
-    starts_kind (Place x) asks = told (Starts (Place x)) asks tt
+    starts_kind (Int z) asks = told (Starts (Int z)) asks tt tt
+    starts_kind (Flag b) asks = told (Starts (Flag b)) asks tt tt
+    starts_kind (Char c) asks = told (Starts (Char c)) asks tt tt
+    starts_kind (Set x) asks = told (Starts (Set x)) asks tt tt
+    starts_kind (Callable k o) asks = told (Starts (Callable k o)) asks tt tt
+    starts_kind (Place x) asks = told (Starts (Place x)) asks tt tt
 
     awaits_kind : (c : ℕ) → IsAsking p g fs (Awaits c) → (ls : List LockName) → locks_in (lock_of g) g.items ≡ ls → Is (awaits following ls c g fs s)
-    awaits_kind c asks [] e = told (Awaits c) asks tt
+    awaits_kind c asks [] e = told (Awaits c) asks tt tt
     awaits_kind c asks (l ∷ ls) e = Left g (Awaits c) (Await l c) stands asks (l, ls, e, refl) (record { store_is = refl; frames_are = refl; output_is = refl; left_is = refl })
 
     answer_kind : (q : Question) → IsVisible q → IsAsking p g fs q → Is (answer p following q g fs s)
-    answer_kind (Reads t x) visible asks = told (Reads t x) asks tt
+    answer_kind (Reads t x) visible asks = told (Reads t x) asks tt tt
     answer_kind (Stores x v) visible asks = stored (Stores x v) asks x.root (placed x.path (Scalar v)) (OneScalar x v)
     answer_kind (Makes t vs) visible asks = makes_with_kind t vs asks (array_lengths (map number_of vs)) refl
     answer_kind (Starts v) visible asks = starts_kind v asks
@@ -107,8 +112,8 @@ module _ (p : Program) (following : List ℕ) (s : Store) (f : Frame) (fs : List
     answer_kind (PutsText strict from n to room) visible asks =
         let x = all_rooted (g ∷ fs) s in
         let text = fitted strict (unsigned_abs (number_of room)) (text_in (read from.root from.path x)) in
-        stores_text_kind strict from n to room asks text (read to.root to.path x) refl
-    answer_kind (ComparesTexts r a n b m) visible asks = told (ComparesTexts r a n b m) asks tt
+        stores_text_kind strict from n to room asks text (read to.root to.path x) refl refl
+    answer_kind (ComparesTexts r a n b m) visible asks = told (ComparesTexts r a n b m) asks tt tt
     answer_kind (Calls how k vs) visible asks = calls_kind how k vs asks (by_number k (routines p)) refl
     answer_kind (PutsString a n) visible asks = prints_kind (PutsString a n) asks (Some (text_in (read a.root a.path (all_rooted (g ∷ fs) s)))) refl
     answer_kind (Awaits c) visible asks = awaits_kind c asks (locks_in (lock_of g) g.items) refl
@@ -117,9 +122,9 @@ module _ (p : Program) (following : List ℕ) (s : Store) (f : Frame) (fs : List
     answer_kind (Opens v) visible asks = absurd visible
     answer_kind (Sizes v d) visible asks = absurd visible
     answer_kind (Tests v t) visible asks = absurd visible
-    answer_kind (Ends r) visible asks = told (Ends r) asks tt
-    answer_kind Enters visible asks = told Enters asks tt
-    answer_kind Leaves visible asks = told Leaves asks tt
+    answer_kind (Ends r) visible asks = told (Ends r) asks tt tt
+    answer_kind Enters visible asks = told Enters asks tt tt
+    answer_kind Leaves visible asks = told Leaves asks tt tt
 
   ends_kind : (r : Option Value) (is : List Item) → IsNext p s f fs (Gives r ∷ is) → Is (ends following r fs s)
   ends_kind None is next = Popped None (AtResult None is next) (record { store_is = refl; frames_are = refl; output_is = refl; left_is = refl })

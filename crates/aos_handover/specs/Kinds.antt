@@ -16,12 +16,12 @@ use Rattle.aos_typed.specs.Program.{Program, Expr, Stat, Stats, Repeat}
 use Rattle.aos_typed.specs.Routines.{Routine, routines}
 use Rattle.aos_typed.specs.Sort.{variable_shape}
 use Rattle.aos_typed.specs.Spot.{Spot}
-use Rattle.aos_typed.specs.Text.{text_in, with_text}
+use Rattle.aos_typed.specs.Text.{fitted, text_in, with_text}
 use Rattle.aos_typed.specs.declared.tree.TType.{TType}
 use Rattle.aos_typed.specs.Value.{Value, Object, number_of, is_true}
-use Rattle.aos_typed.specs.Store.{Store, new_number, with_object, store_with, made_in, value_at}
+use Rattle.aos_typed.specs.Store.{Store, has_room, new_number, with_object, store_with, made_in, value_at}
 use Rattle.aos_typed.specs.Meaning.{Question, Doing, Item, Do, Round, Until, Region, End, Gives as GivesItem, After, Into, Exits, Returns, leave, leave_all, item_of, value_of}
-use Rattle.aos_typed.specs.Source.{Frame, Turned, here_of, lock_of, locks_in, all_rooted, all_frames, written, answered, done, compared, calm, noted, frames_with, with_result, called_frame, first_value, made_shape}
+use Rattle.aos_typed.specs.Source.{Frame, Turned, here_of, lock_of, locks_in, all_rooted, all_frames, written, answered, done, compared, calm, noted, frames_with, with_result, called_frame, is_deep, first_value, made_shape}
 
 -- what follows these items behind what the first of them comes to
 abbrev pub follow : After → List Item → List Item
@@ -80,6 +80,11 @@ answer_in None = done
 answer_in (Some v) = v
 
 module _ (p : Program) where
+  -- what a question calls isn't there
+  abbrev pub CallsNone : Question → Type 0
+  CallsNone (Calls how n vs) = by_number n (routines p) ≡ None
+  CallsNone q = Unit {0}
+
   -- the first of a frame's items, from the answers that it has had, has come so far
   pub record HasCome (f : Frame) (fs : List Frame) (left : Doing After) : Type 0 where
     pub item : Item
@@ -135,7 +140,8 @@ module _ (p : Program) where
     OneScalar : (a : Spot) (v : Value) → IsStored x (Stores a v) a.root (placed a.path (Scalar v))
     OneWhole : (t : TType) (from to : Spot) (new old : Content Value) → read from.root from.path x ≡ Some new → read to.root to.path x ≡ Some old
         → IsStored x (Copies t from to) to.root (placed to.path (overlay (variable_shape p.types (id_of t)) new old))
-    OneText : (strict : Bool) (from : Spot) (n : Value) (to : Spot) (room : Value) (cs : List ℕ) (old : Content Value) → read to.root to.path x ≡ Some old
+    OneText : (strict : Bool) (from : Spot) (n : Value) (to : Spot) (room : Value) (cs : List ℕ) (old : Content Value)
+        → fitted strict (unsigned_abs (number_of room)) (text_in (read from.root from.path x)) ≡ Some cs → read to.root to.path x ≡ Some old
         → IsStored x (PutsText strict from n to room) to.root (placed to.path (with_text cs old))
 
   module _ (following : List ℕ) (s : Store) (f : Frame) (fs : List Frame) where
@@ -156,8 +162,8 @@ module _ (p : Program) where
       Left : (g : Frame) (q : Question) (work : Did) → Stands s f fs g → IsAsking g fs q → IsLeftAs g q work → Gives t s (g ∷ fs) [] work → Kind t
       -- the frame ends, and its result is the answer for the one below
       Popped : (r : Option Value) → IsLeft s f fs r → Gives t s (with_result following (answer_in r) fs) [] Went → Kind t
-      -- a question is answered that changes nothing: a scalar is read, or texts are compared
-      Told : (g : Frame) (q : Question) → MakesNone q → Stands s f fs g → IsAsking g fs q → Gives t s (answered (told_as (all_rooted (g ∷ fs) s) q) g ∷ fs) [] Went → Kind t
+      -- a question is answered that changes nothing: a scalar is read, texts are compared, or what is called isn't there
+      Told : (g : Frame) (q : Question) → MakesNone q → CallsNone q → Stands s f fs g → IsAsking g fs q → Gives t s (answered (told_as (all_rooted (g ∷ fs) s) q) g ∷ fs) [] Went → Kind t
       -- what a question asks for is written out
       Written : (g : Frame) (q : Question) (bytes : List ℕ) → Stands s f fs g → IsAsking g fs q → written_by (all_rooted (g ∷ fs) s) q ≡ Some bytes
           → Gives t s (answered done g ∷ fs) bytes Went → Kind t
@@ -165,11 +171,13 @@ module _ (p : Program) where
       Stored : (g : Frame) (q : Question) (r : Root) (change : Content Value → Content Value) → Stands s f fs g → IsAsking g fs q
           → IsStored (all_rooted (g ∷ fs) s) q r change
           → Gives t (store_with r change s) (frames_with r change (answered done g ∷ fs)) [] Went → Kind t
-      -- an object is made
+      -- an object is made, for which there is room
       Created : (g : Frame) (type : ℕ) (vs : List Value) (ns : List ℕ) → Stands s f fs g → IsAsking g fs (Makes type vs)
           → array_lengths (map number_of vs) ≡ Some ns
+          → (let m : Made = record { type = type; lengths = ns } in has_room m (first_content (first_value p) (made_shape p.types m)) s ≡ true)
           → (let m : Made = record { type = type; lengths = ns } in
           Gives t (with_object m (first_content (first_value p) (made_shape p.types m)) s) (answered (Object (new_number s)) g ∷ fs) [] Went) → Kind t
-      -- a routine is called
+      -- a routine is called, where an activity may have one frame more
       Called : (g : Frame) (how : Manner) (n : ℕ) (vs : List Value) (r : Routine) → Stands s f fs g → IsAsking g fs (Calls how n vs)
-          → by_number n (routines p) ≡ Some r → Gives t s (called_frame p following r vs (g ∷ fs) s ∷ g ∷ fs) [] Went → Kind t
+          → by_number n (routines p) ≡ Some r → is_deep following (called_frame p following r vs (g ∷ fs) s) (g ∷ fs) ≡ false
+          → Gives t s (called_frame p following r vs (g ∷ fs) s ∷ g ∷ fs) [] Went → Kind t

@@ -146,7 +146,7 @@ module _ (p : Program) where
         let law = asked_law p typed s f fs n are.0 serve.0 g st _ asks in at_place g st none law.0 law.1 a (Scalar v) law.2.0.0 up'
     stored_agrees g st _ asks _ _ (OneWhole ty from to new old e e') up' none =
         let law = asked_law p typed s f fs n are.0 serve.0 g st _ asks in at_place g st none law.0 law.1 to (overlay (variable_shape p.types (id_of ty)) new old) law.2.0 up'
-    stored_agrees g st _ asks _ _ (OneText strict from i to room cs old e) up' none =
+    stored_agrees g st _ asks _ _ (OneText strict from i to room cs old fits e) up' none =
         let law = asked_law p typed s f fs n are.0 serve.0 g st _ asks in at_place g st none law.0 law.1 to (with_text cs old) law.2.0 up'
 
     step_agrees : Kind p following s f fs t → Agrees t.store t.frames.frames
@@ -154,10 +154,10 @@ module _ (p : Program) where
     step_agrees (Stopped g number code st x) = given p following s f fs Agrees t s (g ∷ fs) _ _ x (λ u e. agree_same l s)
     step_agrees (Left g q work st asks leaves x) = given p following s f fs Agrees t s (g ∷ fs) _ _ x (λ u e. agree_same l s)
     step_agrees (Popped v left x) = given p following s f fs Agrees t s _ _ _ x (λ u e. agree_same l s)
-    step_agrees (Told g q none st asks x) = given p following s f fs Agrees t s _ _ _ x (λ u e. agree_same l s)
+    step_agrees (Told g q none absent st asks x) = given p following s f fs Agrees t s _ _ _ x (λ u e. agree_same l s)
     step_agrees (Written g q bytes st asks w x) = given p following s f fs Agrees t s _ _ _ x (λ u e. agree_same l s)
-    step_agrees (Called g how q vs y st asks there x) = given p following s f fs Agrees t s _ _ _ x (λ u e. agree_same l s)
-    step_agrees (Created g type vs ks st asks are' x) = given p following s f fs Agrees t _ _ _ _ x (λ u e. agree_more l s _ _ long u)
+    step_agrees (Called g how q vs y st asks there few x) = given p following s f fs Agrees t s _ _ _ x (λ u e. agree_same l s)
+    step_agrees (Created g type vs ks st asks are' room x) = given p following s f fs Agrees t _ _ _ _ x (λ u e. agree_more l s _ _ long u)
     step_agrees (Stored g q root change st asks stored x) =
         let frames = answered done g ∷ fs in
         given p following s f fs Agrees t (store_with root change s) (frames_with root change frames) _ _ x

@@ -164,7 +164,7 @@ module _ (p : Program) where
           there = valid.1.1;
           plain = each_join IsPlain s valid.1.0 (variable_plain p.types (id_of t)) valid.1.2;
         }
-    stored_put here x _ _ _ (OneText strict from n to room cs old e) valid =
+    stored_put here x _ _ _ (OneText strict from n to room cs old fits e) valid =
         record { path = to.path; new = with_text cs old; is = refl; shape = _; there = valid.1.2; plain = each_repeated IsPlain valid.1.0 (One (Plain (id_of CharType))) tt }
 
   -- The cell of each open array that is passed by value holds a place in a frame.

@@ -1,5 +1,5 @@
--- The frames with which the machine stands fit: their code does the same, they are of their routines, and what they hold and were told is true.
-use Rattle.std.proofs.Common.{◌≡◌, ℕ, zero, suc, List, [], ◌∷◌, ◌++◌, length, true, Option, Some, None, refl, sym, ap, subst}
+-- The frames with which the machine stands fit: they are typed and of their routines, and what they hold and were told is true.
+use Rattle.std.proofs.Common.{◌≡◌, ℕ, zero, suc, List, [], ◌∷◌, ◌++◌, length, Option, Some, None, refl, sym, ap, subst}
 use Rattle.std.specs.Prelude.{is_some, option_and_then, option_map, slice_get}
 use Rattle.aos_base.specs.Question.{Awaits, Starts}
 use Rattle.aos_base.specs.Rooted.{Made, by_number}
@@ -7,80 +7,54 @@ use Rattle.aos_base.specs.declared.place.Root.{Root}
 use Rattle.aos_base.specs.declared.kernel.Did.{Did}
 use Rattle.aos_base.specs.declared.kernel.Did.TheVariants.{Went, Ended, Enter, Leave, Start, Await, Trapped}
 use Rattle.aos_concurrency.specs.Regions.{KeepsFits, KeepsRegions, Outside}
-use Rattle.aos_concurrency.specs.Simulates.{Simulates}
 use Rattle.aos_concurrency.specs.Spot.{GoesPast}
-use Rattle.aos_types.specs.Extension.{comes_to}
 use Rattle.aos_types.specs.Content.{Content, Empty, EachSort}
 use Rattle.aos_types.specs.Shape.{Shape}
 use Rattle.aos_types.specs.World.{read, shape_at}
-use Rattle.aos_types.proofs.Tables.{comes_on}
-use Rattle.aos_typed.specs.declared.tree.TType.{TType}
-use Rattle.aos_typed.specs.Numbers.{body_number, id_of, id_of_made}
+use Rattle.aos_typed.specs.Numbers.{body_number}
 use Rattle.aos_typed.specs.Program.{Module, Program}
 use Rattle.aos_typed.specs.Routines.{Routine, routine_of}
-use Rattle.aos_typed.specs.Sort.{Sort, Plain}
-use Rattle.aos_typed.specs.Spot.{Spot}
-use Rattle.aos_typed.specs.Store.{Store, made_in, scalar_in, type_of_object, value_at}
+use Rattle.aos_typed.specs.Sort.{Sort}
+use Rattle.aos_typed.specs.Store.{Store, made_in, type_of_object}
 use Rattle.aos_typed.specs.Typing.{Is, IsPlain}
 use Rattle.aos_typed.specs.Value.{Value}
 use Rattle.aos_typed.specs.Meaning.{Item, Do, Rounds, Round, Until, Region, End, Gives, items_of}
 use Rattle.aos_typed.specs.Source as S
-use Rattle.aos_typed.specs.Source.{Frame, all_rooted, body_frame, done, goes_into, here_of, made_body, next_body, object_frames, opened_by, past_all, past_by, source, turn_at}
+use Rattle.aos_typed.specs.Source.{Frame, all_rooted, body_frame, done, goes_into, here_of, made_body, next_body, object_frames, opened_by, past_all, past_by, turn_at}
 use Rattle.aos_typed.specs.WellTyped.{IsWellTyped}
-use Rattle.aos_code.specs.declared.image.Image.{Image}
-use Rattle.aos_code.specs.Machine as I
-use Rattle.aos_code.specs.Machine.{machine}
-use Rattle.aos_code.specs.Memory.{Memory}
-use Rattle.aos_places.specs.Shows.{Shows}
 use Rattle.aos_places.proofs.Grow.{objects_grow}
-use Rattle.aos_places.proofs.Places.{at_place, read_alike}
+use Rattle.aos_places.proofs.Places.{at_place}
 use Rattle.aos_sim.specs.Cells.{cell_of}
-use Rattle.aos_sim.specs.Shows.{IsCodeOf}
-use Rattle.aos_sim.proofs.Bodies.{has_shapes, routines_run}
-use Rattle.aos_sim.proofs.Does.{HasScalar, HasShapes, HasTypes, IsSelf, scheme}
+use Rattle.aos_sim.proofs.Does.{HasTypes, IsSelf, scheme}
 use Rattle.aos_sim.proofs.Grown.{turn_grown}
-use Rattle.aos_sim.proofs.Items.{items_do}
 use Rattle.aos_sim.proofs.Kept.{values_kept}
-use Rattle.aos_sim.proofs.References.{comes_same}
 use Rattle.aos_sim.proofs.Regions.{IsAt}
 use Rattle.aos_sim.proofs.Routines.{module_there, object_there}
-use Rattle.aos_sim.proofs.Runs.{tables_of}
-use Rattle.aos_sim.proofs.States.{AreFew, IsFew, RoutinesRun, SameFrames, SameStore, SameVariables, number_get, opened_same, shapes_of, world_of}
-use Rattle.aos_sim.proofs.Turns.{Together}
-use Rattle.aos_sim.proofs.Typed.{has_types}
+use Rattle.aos_sim.proofs.States.{AreFew, shapes_of, world_of}
 use Rattle.aos_handover.specs.Kinds.{IsAsking}
 use Rattle.aos_handover.proofs.Turns.{turn_kind}
 use Rattle.aos_naming.specs.Naming.{AreOf, ContentIs, ContentsAre, StoreIs}
-use Rattle.aos_naming.proofs.Named.{has_names}
 use Rattle.aos_naming.proofs.Names.{HasNames}
-use Rattle.aos_naming.proofs.Traced.{AsksFor, IsTraced, Traces, body_at, body_numbers, next_numbers, opened_are, opened_numbers, traced, traced_keeps, turned_numbers}
+use Rattle.aos_naming.proofs.Traced.{AsksFor, Traces, body_at, body_numbers, next_numbers, opened_are, opened_numbers, traced, turned_numbers}
+use Rattle.aos_preservation.proofs.Frames.{asked}
+use Rattle.aos_preservation.proofs.Keeps.{Both, Kept, kept_regions, opened_typed, self_made, names as named, typed as typed_program}
+use Rattle.aos_preservation.proofs.Stored.{Held, cells, read_is, shows, top_fits}
 use Rattle.aos_lasting.specs.Spots.{IsFree, IsTold}
-use Rattle.aos_lasting.proofs.Asked.{asked_valid}
 use Rattle.aos_lasting.proofs.Copies.{IsNoPlace, no_copies, no_places}
 use Rattle.aos_lasting.proofs.Keeps.{step_serves}
 use Rattle.aos_lasting.proofs.Serve.{AllServe, AreAnswers, FrameServes, all_grow, answer_told}
 use Rattle.aos_lasting.proofs.Statements.{ItemsServe, block_serves, text_serves}
 use Rattle.aos_lasting.proofs.Told.{content_more, free_grows}
 
-module _ (p : Program) (image : Image) (well : IsWellTyped p) (ok : IsCodeOf p image) (simulates : Simulates (SameStore p) (Together p image) (Outside (source p)) (source p) (machine image)) where
-  abbrev pub typed : HasTypes p
-  typed = has_types p image.bodies.items image.conds.items image.shapes.items image.modules.items image.types.items well ok
+module _ (p : Program) (well : IsWellTyped p) where
+  abbrev typed : HasTypes p
+  typed = typed_program p well
 
-  abbrev pub names : HasNames p
-  names = has_names p well typed
-
-  pub shaped : HasShapes p (tables_of image)
-  shaped = has_shapes p image ok typed
-
-  runs : RoutinesRun p image
-  runs = routines_run p image ok well shaped
+  abbrev names : HasNames p
+  names = named p well
 
   pub record Fits (s : Store) (w : Did) (x : Traces p names) : Type 0 where
-    pub traces : IsTraced p names s w x
-    pub memory : Memory
-    pub code : I.Frames
-    pub stores : SameStore p s memory
-    pub together : Together p image s memory w x.0 code
+    pub kept : Kept p well s w x
     pub serve : AllServe p typed (made_in s) x.1 x.0.frames
     pub free : StoreIs (IsFree p (made_in s)) s
 
@@ -117,20 +91,11 @@ module _ (p : Program) (image : Image) (well : IsWellTyped p) (ok : IsCodeOf p i
       by None e = tt
       by (Some x) e = (module_serves made m x e, tt)
 
-  -- What is read where a scalar stands is of its type.
-  pub read_typed : (s : Store) (memory : Memory) (fs : List Frame) (gs : List I.Frame) → SameStore p s memory → SameVariables p s.made fs gs → (t : TType) (a : Spot) → HasScalar p (world_of p s.made (shapes_of fs)) a (Plain (id_of t)) →
-      Is p (world_of p s.made (shapes_of fs)) (Plain (id_of t)) (value_at a (all_rooted fs s))
-  read_typed s memory fs gs stores shown t a has =
-      let shows : Shows (Is p) cell_of (scheme p) s.made (shapes_of fs) (all_rooted fs s) (I.rooted gs memory) = record { of_frames = shown; of_modules = stores.of_modules; of_objects = stores.of_objects } in
-      let r = read_alike (Is p) cell_of IsPlain (values_kept p) (scheme p) s.made (shapes_of fs) (all_rooted fs s) (I.rooted gs memory) a.root a.path (Plain (id_of t)) shows has in
-      subst (Is p (world_of p s.made (shapes_of fs)) (Plain (id_of t))) (sym (ap scalar_in r.source)) r.is
-
   -- Where a shape of plain scalars stands, no places are.
-  plain_read : (s : Store) (memory : Memory) (fs : List Frame) (gs : List I.Frame) → SameStore p s memory → SameVariables p s.made fs gs → (r : Root) (path : List ℕ) (shape : Shape Sort) → shape_at (world_of p s.made (shapes_of fs)) r path ≡ Some shape → EachSort IsPlain shape →
+  plain_read : (s : Store) (fs : List Frame) → Held p s fs → (r : Root) (path : List ℕ) (shape : Shape Sort) → shape_at (world_of p s.made (shapes_of fs)) r path ≡ Some shape → EachSort IsPlain shape →
       (old : Content Value) × (read r path (all_rooted fs s) ≡ Some old) × ContentIs IsNoPlace old
-  plain_read s memory fs gs stores shown r path shape there plain =
-      let shows : Shows (Is p) cell_of (scheme p) s.made (shapes_of fs) (all_rooted fs s) (I.rooted gs memory) = record { of_frames = shown; of_modules = stores.of_modules; of_objects = stores.of_objects } in
-      let q = at_place (Is p) cell_of IsPlain (values_kept p) (scheme p) s.made (shapes_of fs) (all_rooted fs s) (I.rooted gs memory) r path shape shows there in
+  plain_read s fs held r path shape there plain =
+      let q = at_place (Is p) cell_of IsPlain (values_kept p) (scheme p) s.made (shapes_of fs) (all_rooted fs s) (cells p typed s fs held) r path shape (shows p typed s fs held) there in
       (q.inner, q.got, no_places p (world_of p s.made (shapes_of fs)) shape q.inner plain q.fits)
 
   -- A turn.
@@ -139,15 +104,15 @@ module _ (p : Program) (image : Image) (well : IsWellTyped p) (ok : IsCodeOf p i
   Turns following s fs ns =
       let t = turn_at p following fs s in AllServe p typed (made_in t.store) (turned_numbers p names following s fs ns) t.frames.frames × StoreIs (IsFree p (made_in t.store)) t.store
 
-  turn_serves : (following : List ℕ) (s : Store) (memory : Memory) (fs : List Frame) (ns : List ℕ) (gs : List I.Frame) → AreOf p ns fs → AllServe p typed (made_in s) ns fs → StoreIs (IsFree p (made_in s)) s → SameStore p s memory →
-      SameFrames p image s.made fs gs → SameVariables p s.made fs gs → Turns following s fs ns
-  turn_serves following s memory [] ns gs are serve free stores same shown = (tt, free)
-  turn_serves following s memory (f ∷ fs) [] gs are serve free stores same shown = absurd are
-  turn_serves following s memory (f ∷ fs) (n ∷ ns) [] are serve free stores same shown = absurd same
-  turn_serves following s memory (f ∷ fs) (n ∷ ns) (g ∷ gs) are serve free stores same shown =
+  turn_serves : (following : List ℕ) (s : Store) (fs : List Frame) (ns : List ℕ) → AreOf p ns fs → Both p well s ns fs → AllServe p typed (made_in s) ns fs → StoreIs (IsFree p (made_in s)) s → Turns following s fs ns
+  turn_serves following s [] ns are both serve free = (tt, free)
+  turn_serves following s (f ∷ fs) [] are both serve free = absurd are
+  turn_serves following s (f ∷ fs) (n ∷ ns) are both serve free =
       let t = turn_at p following (f ∷ fs) s in
       let up = turn_up following (f ∷ fs) s in
-      let all = step_serves p typed names following s f fs t n ns are serve free (asked_valid p typed image shaped (items_do p) s memory f fs g gs same.0 same.1 stores shown) (read_typed s memory (f ∷ fs) (g ∷ gs) stores shown) (plain_read s memory (f ∷ fs) (g ∷ gs) stores shown) (turn_kind p following s f fs) in (
+      let held = both.1 in
+      let hold = top_fits p s.made f fs held.frames in
+      let all = step_serves p typed names following s f fs t n ns are serve free (λ x st q asks. (asked p typed s f fs n are.0 both.0.0 hold x st q asks).0) (read_is p typed s (f ∷ fs) held) (plain_read s (f ∷ fs) held) (turn_kind p following s f fs) in (
         all_grow p typed (made_in s) (made_in t.store) up (turned_numbers p names following s (f ∷ fs) (n ∷ ns)) t.frames.frames all.0,
         store_grows s t.store up t.store all.1,
       )
@@ -218,25 +183,10 @@ module _ (p : Program) (image : Image) (well : IsWellTyped p) (ok : IsCodeOf p i
   past_serves s (Await l c) x ms (f ∷ fs) (n ∷ ns) goes at asks h = (past_begun (made_in s) n f fs (Awaits c) asks h.0 tt, h.1)
   past_serves s (Start o) x ms (f ∷ fs) (n ∷ ns) goes at asks h = (past_begun (made_in s) n f fs (Starts _) asks h.0 tt, h.1)
 
-  goes_same : (w : Did) (x : Traces p names) → GoesPast (Outside (traced p names)) w x → GoesPast (Outside (source p)) w x.0
-  goes_same Went x h = h
-  goes_same Ended x h = h
-  goes_same (Enter l) x h = h
-  goes_same (Leave l) x h = h
-  goes_same (Await l c) x h = h
-  goes_same (Start o) x h = h
-  goes_same (Trapped n c) x h = h
-
   -- The body of an object.
 
-  self_made : (made : List Made) → AreFew p made → (o : ℕ) (m : Made) (t b : ℕ) → by_number o made ≡ Some m → m.type ≡ suc t → comes_to p.types (id_of_made (suc t)) (id_of_made (suc b)) ≡ true → IsSelf p (λ o. by_number o made) (Some b) o
-  self_made made few zero m t b e type_is extends = absurd (cc e)
-  self_made made few (suc k) m t b e type_is extends =
-      let own = subst (λ z. comes_to p.types (id_of_made m.type) (id_of_made z) ≡ true) type_is (comes_same p.types (id_of_made m.type)) in
-      (k, m, refl, e, (number_get (IsFew p) (suc k) made m few e).1, comes_on p.types typed.ranked (id_of_made m.type) (id_of_made (suc t)) (id_of_made (suc b)) own extends)
-
-  object_serves : (s : Store) (memory : Memory) (o : ℕ) → SameStore p s memory → AllServe p typed (made_in s) (body_numbers p names (body_at p names s o) (option_and_then (λ t. slice_get p.objects t) (body_at p names s o))) (S.body_of p s o).frames
-  object_serves s memory o stores = by (by_number o s.made) refl
+  object_serves : (s : Store) (o : ℕ) → AreFew p s.made → AllServe p typed (made_in s) (body_numbers p names (body_at p names s o) (option_and_then (λ t. slice_get p.objects t) (body_at p names s o))) (S.body_of p s o).frames
+  object_serves s o few = by (by_number o s.made) refl
     where
       Serves_it : Option ℕ → Type 0
       Serves_it b = AllServe p typed (made_in s) (body_numbers p names b (option_and_then (λ t. slice_get p.objects t) b)) (object_frames o (option_and_then (λ t. slice_get p.objects t) b)).frames
@@ -251,7 +201,7 @@ module _ (p : Program) (image : Image) (well : IsWellTyped p) (ok : IsCodeOf p i
               routine = routine_of x.home x.body;
               there = object_there p b x has.there;
               function = sym (ap is_some has.body.proper);
-              self = subst (λ z. IsSelf p (made_in s) z o) (sym has.body.own) (self_made s.made stores.few o m t b e is has.extends);
+              self = subst (λ z. IsSelf p (made_in s) z o) (sym has.body.own) (self_made p well s.made few o m t b e is has.extends);
               variables = tt;
               copies = no_copies p (Some x.body) Empty has.body.plain;
               items = block_serves p typed (made_in s) (body_number p b) (routine_of x.home x.body) x.body.body.is_exclusive x.body.body.statements;
@@ -268,72 +218,43 @@ module _ (p : Program) (image : Image) (well : IsWellTyped p) (ok : IsCodeOf p i
       by None e = subst (λ z. Serves_it (option_and_then (made_body p) (option_map (λ (m : Made). m.type) z))) (sym e) tt
       by (Some m) e = subst (λ z. Serves_it (option_and_then (made_body p) (option_map (λ (m : Made). m.type) z))) (sym e) (of_type m m.type e refl)
 
-  -- the frames of another activity don't see the memory that they are shown by
-  shown_still : (s : Store) (memory memory' : Memory) (w : Did) (x : S.Frames) (y : I.Frames) → Together p image s memory w x y → Together p image s memory' w x y
-  shown_still s memory memory' w x y h = record { now = h.now; behind = h.behind; awaited = h.awaited }
-
-  abbrev k : KeepsRegions (traced p names) (IsTraced p names)
-  k = traced_keeps p names
+  abbrev k : KeepsRegions (traced p names) (Kept p well)
+  k = kept_regions p well
 
   fits : KeepsFits (traced p names) (Outside (traced p names)) Fits
   fits =
       let k' = k.fits in
       record {
-        turn = λ s x h.
-            let a = simulates.turn s h.memory x.0 h.code h.stores h.together in
-            let b = turned s x h in
-            record { traces = k'.turn s x h.traces; memory = _; code = _; stores = a.stores; together = a.frames; serve = b.0; free = b.1 };
+        turn = λ s x h. let b = turned s x h in record { kept = k'.turn s x h.kept; serve = b.0; free = b.1 };
         kept = λ s x h w y i.
-            let a = simulates.turn s h.memory x.0 h.code h.stores h.together in
-            let b = turned s x h in
             let up = turn_up (S.opened p x.0).following (S.opened p x.0).frames s in
-            record {
-              traces = k'.kept s x h.traces w y i.traces;
-              memory = _;
-              code = i.code;
-              stores = a.stores;
-              together = simulates.kept s h.memory x.0 h.code h.stores h.together w y.0 i.code (shown_still s i.memory h.memory w y.0 i.code i.together);
-              serve = all_grow p typed (made_in s) _ up y.1 y.0.frames i.serve;
-              free = b.1;
-            };
+            record { kept = k'.kept s x h.kept w y i.kept; serve = all_grow p typed (made_in s) _ up y.1 y.0.frames i.serve; free = (turned s x h).1 };
         past = λ s w x goes h.
-            record {
-              traces = k'.past s w x goes h.traces;
-              memory = h.memory;
-              code = _;
-              stores = h.stores;
-              together = simulates.past s h.memory w x.0 h.code (goes_same w x goes) h.stores h.together;
-              serve = let tr = h.traces in past_serves s w x x.0.following x.0.frames x.1 goes tr.stands tr.asks h.serve;
-              free = h.free;
-            };
+            let known = h.kept in
+            let tr = known.traces in
+            record { kept = k'.past s w x goes h.kept; serve = past_serves s w x x.0.following x.0.frames x.1 goes tr.stands tr.asks h.serve; free = h.free };
         body = λ s o x h.
-            record {
-              traces = k'.body s o x h.traces;
-              memory = h.memory;
-              code = _;
-              stores = h.stores;
-              together = simulates.body s h.memory o x.0 h.code h.stores h.together;
-              serve = object_serves s h.memory o h.stores;
-              free = h.free;
-            };
+            let known = h.kept in
+            let held = known.both.1 in
+            let stores = held.stores in
+            record { kept = k'.body s o x h.kept; serve = object_serves s o stores.few; free = h.free };
         anew = λ s w x y may h e. absurd (cc e);
       }
     where
       turned : (s : Store) (x : Traces p names) → Fits s Went x → let now = S.opened p x.0 in Turns now.following s now.frames (opened_numbers p names x.0.frames x.0.following x.1)
       turned s x h =
           let now = S.opened p x.0 in
-          let tr = h.traces in
-          let to = h.together in
-          let o = opened_same p image runs s.made x.0 h.code to.now in
-          turn_serves now.following s h.memory now.frames (opened_numbers p names x.0.frames x.0.following x.1) (I.opened h.code).frames (opened_are p names x.0.frames x.0.following x.1 tr.are)
-          (opened_serves (made_in s) x.0.frames x.0.following x.1 tr.are h.serve) h.free h.stores o.frames o.shown
+          let known = h.kept in
+          let tr = known.traces in
+          turn_serves now.following s now.frames (opened_numbers p names x.0.frames x.0.following x.1) (opened_are p names x.0.frames x.0.following x.1 tr.are)
+          (opened_typed p well s x.0.frames x.0.following x.1 known.both) (opened_serves (made_in s) x.0.frames x.0.following x.1 tr.are h.serve) h.free
 
   pub fits_kept : KeepsRegions (traced p names) Fits
   fits_kept =
       record {
         fits = fits;
-        turn = λ s x h. k.turn s x h.traces;
-        passes = λ s w x h. k.passes s w x h.traces;
-        body = λ s o x h. k.body s o x h.traces;
+        turn = λ s x h. k.turn s x h.kept;
+        passes = λ s w x h. k.passes s w x h.kept;
+        body = λ s o x h. k.body s o x h.kept;
         anew = λ s w x y may h e. absurd (cc e);
       }

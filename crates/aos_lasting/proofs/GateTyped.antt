@@ -17,7 +17,8 @@ use Rattle.aos_types.specs.Table.{base_of, row_of}
 use Rattle.aos_typed.specs.Numbers.{id_of, predeclared_rows}
 use Rattle.aos_typed.specs.declared.tree.TType.TheVariants.{Boolean}
 use Rattle.aos_typed.specs.Program.{Body, Procedure}
-use Rattle.aos_typed.specs.WellTyped.{AreStatements, AreTypes, HasTypedParts, IsMethod, IsObjectType, IsPlaceOf, IsProcedure, IsType, IsVariableType, IsWellTyped, is_ident, module_scalars}
+use Rattle.aos_typed.specs.Rules.{BodyKeepsRules, IsClosed, RowKeepsRules, RowsKeepRules, ModuleKeepsRules, ObjectKeepsRules}
+use Rattle.aos_typed.specs.WellTyped.{AreStatements, AreTypes, HasTypedParts, IsMethod, IsObjectType, IsPlaceOf, IsProcedure, IsType, IsVariableType, IsWellTyped, ProgramKeepsRules, is_ident, module_scalars}
 use Rattle.aos_sim.proofs.Lists.{get_left}
 use Rattle.aos_lasting.specs.Example.{at, gates, gate_row, gate_variable, init, init_method, opens, opens_method, procedure_with, set_up, text_of, beside_gate, gates_module, up, waits}
 
@@ -84,9 +85,9 @@ one : {X : Type 0} (P : X → Type 0) (x : X) → P x → All P (x ∷ [])
 one P x h = All-cons P x [] h (All-nil P)
 
 -- a procedure of the gate
-module _ (name : List ℕ) (initial : Bool) (body : Body) where
+module _ (name : List ℕ) (place : Pos) (initial : Bool) (body : Body) where
   abbrev own : Procedure
-  own = procedure_with name initial body
+  own = procedure_with name place initial body
 
   up_typed : IsPlaceOf gates (Some own) up Boolean
   up_typed = (inr ((0, refl, refl, inl refl), refl, refl), refl)
@@ -100,20 +101,20 @@ module _ (name : List ℕ) (initial : Bool) (body : Body) where
   }
 
 -- one that sets the field
-module _ (name : List ℕ) (initial is_exclusive : Bool) (p : Pos) (b : Bool) where
-  setting_typed : IsMethod gates 0 (procedure_with name initial (text_of is_exclusive (set_up p b)))
+module _ (name : List ℕ) (place : Pos) (initial is_exclusive : Bool) (p : Pos) (b : Bool) where
+  setting_typed : IsMethod gates 0 (procedure_with name place initial (text_of is_exclusive (set_up p b)))
   setting_typed =
       let body = text_of is_exclusive (set_up p b) in
-      (procedure_typed name initial body ((up_typed name initial body, refl, inl tt), tt), refl, λ _. refl)
+      (procedure_typed name place initial body ((up_typed name place initial body, refl, inl tt), tt), refl, λ _. refl)
 
 gate_typed : IsObjectType gates 0 beside_gate
 gate_typed = record {
-  body = procedure_typed waits.name false waits.body (((up_typed waits.name false waits.body, refl, inl refl), tt), tt);
+  body = procedure_typed waits.name waits.at false waits.body (((up_typed waits.name waits.at false waits.body, refl, inl refl), tt), tt);
   beside = record { own = refl; plain = refl; proper = refl };
   bare = refl;
   methods =
-      All-cons (λ m. IsMethod gates 0 m.procedure) init_method (opens_method ∷ []) (setting_typed init.name true false (at 6 11) false)
-      (one (λ m. IsMethod gates 0 m.procedure) opens_method (setting_typed opens.name false true (at 8 23) true));
+      All-cons (λ m. IsMethod gates 0 m.procedure) init_method (opens_method ∷ []) (setting_typed init.name init.at true false (at 6 11) false)
+      (one (λ m. IsMethod gates 0 m.procedure) opens_method (setting_typed opens.name opens.at false true (at 8 23) true));
   slots = (inl refl, (inl refl, tt));
   others = inl refl;
 }
@@ -153,5 +154,44 @@ parts =
           (All-nil (λ q. IsProcedure gates q × (q.of ≡ None)));
     }
 
+-- The rules beside types.
+
+gate_keeps : ObjectKeepsRules beside_gate
+gate_keeps =
+    let least : 1 ≤ 1 = omega arith in
+    record {
+      body = (refl, tt);
+      methods =
+          All-cons (λ m. BodyKeepsRules m.procedure.body) init_method (opens_method ∷ []) (tt, tt) (one (λ m. BodyKeepsRules m.procedure.body) opens_method (tt, tt));
+      initializers = least;
+      active = λ _. refl;
+      priority = λ _. refl;
+    }
+
+module_keeps : ModuleKeepsRules gates_module
+module_keeps = record {
+  body = (tt, (tt, tt));
+  procedures = All-nil (λ q. BodyKeepsRules q.body);
+  initializers = All-nil (λ q. q.is_initializer ≡ false);
+}
+
+-- a row, if there is one
+abbrev OnRow : Option TypeRow → Type 0
+OnRow None = Unit {0}
+OnRow (Some r) = RowKeepsRules rows r
+
+rows_keep : RowsKeepRules rows
+rows_keep k r is = subst OnRow is (each_row OnRow (λ b. tt) tt (one (IsClosed rows) boolean refl) tt k)
+
+rules_kept : ProgramKeepsRules gates
+rules_kept =
+    let few : 1 ≤ 16777216 = omega arith in
+    record {
+      modules = one ModuleKeepsRules gates_module module_keeps;
+      objects = one ObjectKeepsRules beside_gate gate_keeps;
+      rows = rows_keep;
+      scalars = few;
+    }
+
 pub typed : IsWellTyped gates
-typed = record { parts = parts; conditions = ((tt, (tt, tt)), ((refl, tt), ((tt, tt), ((tt, tt), tt)))) }
+typed = record { parts = parts; conditions = ((tt, (tt, tt)), ((refl, tt), ((tt, tt), ((tt, tt), tt)))); rules = rules_kept }

@@ -11,7 +11,6 @@ use Rattle.aos_base.specs.declared.kernel.LockName.TheVariants as lock
 use Rattle.aos_concurrency.specs.Acting.{KeepsTidy, ByTurn, ByGoingPast, ByStart, ByTrap, ByEnd}
 use Rattle.aos_concurrency.specs.Handover.{GuardsBy, HandsOver}
 use Rattle.aos_concurrency.specs.Regions.{Outside, times}
-use Rattle.aos_concurrency.specs.Simulates.{Simulates}
 use Rattle.aos_concurrency.specs.Sound.{Sound}
 use Rattle.aos_concurrency.proofs.Begin.{start_sound}
 use Rattle.aos_concurrency.proofs.Changes.{execution_tidy}
@@ -22,16 +21,11 @@ use Rattle.aos_typed.specs.Program.{Module, Program}
 use Rattle.aos_typed.specs.Store.{Store, made_in}
 use Rattle.aos_typed.specs.Typing.{Is}
 use Rattle.aos_typed.specs.Source as S
-use Rattle.aos_typed.specs.Source.{Frame, first_store, next_body, opened_by, regions_of, source, turn_at}
+use Rattle.aos_typed.specs.Source.{Frame, first_store, next_body, opened_by, regions_of, turn_at}
 use Rattle.aos_typed.specs.WellTyped.{IsWellTyped}
-use Rattle.aos_code.specs.declared.image.Image.{Image}
-use Rattle.aos_code.specs.Machine as I
-use Rattle.aos_code.specs.Machine.{machine}
 use Rattle.aos_sim.specs.Cells.{cell_of}
-use Rattle.aos_sim.specs.Shows.{IsCodeOf}
 use Rattle.aos_sim.proofs.Does.{scheme}
-use Rattle.aos_sim.proofs.States.{SameStore, world_of}
-use Rattle.aos_sim.proofs.Turns.{Together}
+use Rattle.aos_sim.proofs.States.{world_of}
 use Rattle.aos_uses.specs.Guarded.{IsQuiet}
 use Rattle.aos_handover.proofs.Turns.{turn_kind}
 use Rattle.aos_naming.specs.Naming.{AreOf, Builds, HideAll}
@@ -40,6 +34,7 @@ use Rattle.aos_naming.proofs.Beginning.{first_is_store, first_tidy}
 use Rattle.aos_naming.proofs.Names.{HasNames}
 use Rattle.aos_naming.proofs.Tidying.{IsTidy, keeps_tidy}
 use Rattle.aos_naming.proofs.Traced.{Traces, next_numbers, opened_are, opened_numbers, traced}
+use Rattle.aos_preservation.proofs.Keeps.{first_kept, names, typed}
 use Rattle.aos_lasting.specs.Agree.{AgreeOn, IsLocalAt}
 use Rattle.aos_lasting.specs.Lasts.{Lasts}
 use Rattle.aos_lasting.specs.Spots.{IsFree}
@@ -47,25 +42,25 @@ use Rattle.aos_lasting.proofs.Told.{free_simply}
 use Rattle.aos_lasting.proofs.Reading.{reads}
 use Rattle.aos_lasting.proofs.Transfer.{source_hands_over}
 use Rattle.aos_lasting.proofs.Agreeing.{agree_same, agree_then, hidden_regions, shown_long, turn_agrees}
-use Rattle.aos_lasting.proofs.Fitting.{Fits, fits_kept, names, opened_serves, turn_up, typed}
+use Rattle.aos_lasting.proofs.Fitting.{Fits, fits_kept, opened_serves, turn_up}
 use Rattle.aos_lasting.proofs.Serve.{AllServe}
 
-module _ (p : Program) (image : Image) (well : IsWellTyped p) (ok : IsCodeOf p image) (simulates : Simulates (SameStore p) (Together p image) (Outside (source p)) (source p) (machine image)) (first_stores : SameStore p (first_store p) (I.first_memory image)) (first_together : Together p image (first_store p) (I.first_memory image) Went (S.first_frames p) (I.first_frames image)) where
+module _ (p : Program) (well : IsWellTyped p) where
   abbrev named : HasNames p
-  named = names p image well ok simulates
+  named = names p well
 
   abbrev X : Type 0
   X = Traces p named
 
   abbrev Fit : Store → Did → X → Type 0
-  Fit = Fits p image well ok simulates
+  Fit = Fits p well
 
   -- who names an object, where all frames fit
   tidy_kept : KeepsTidy (traced p named) (Outside (traced p named)) Fit (IsTidy p named)
-  tidy_kept _ _ _ _ (ByTurn s t a x is fits) tidy = keeps_tidy p named _ _ _ _ (ByTurn s t a x is fits.traces) tidy
-  tidy_kept _ _ _ _ (ByGoingPast s t a w x is goes fits) tidy = keeps_tidy p named _ _ _ _ (ByGoingPast s t a w x is goes fits.traces) tidy
-  tidy_kept _ _ _ _ (ByStart s t new a b x none is fits) tidy = keeps_tidy p named _ _ _ _ (ByStart s t new a b x none is fits.traces) tidy
-  tidy_kept _ _ _ _ (ByTrap s t a w x is may fits) tidy = keeps_tidy p named _ _ _ _ (ByTrap s t a w x is may fits.traces) tidy
+  tidy_kept _ _ _ _ (ByTurn s t a x is fits) tidy = keeps_tidy p named _ _ _ _ (ByTurn s t a x is fits.kept.traces) tidy
+  tidy_kept _ _ _ _ (ByGoingPast s t a w x is goes fits) tidy = keeps_tidy p named _ _ _ _ (ByGoingPast s t a w x is goes fits.kept.traces) tidy
+  tidy_kept _ _ _ _ (ByStart s t new a b x none is fits) tidy = keeps_tidy p named _ _ _ _ (ByStart s t new a b x none is fits.kept.traces) tidy
+  tidy_kept _ _ _ _ (ByTrap s t a w x is may fits) tidy = keeps_tidy p named _ _ _ _ (ByTrap s t a w x is may fits.kept.traces) tidy
   tidy_kept _ _ _ _ (ByEnd s t a x is) tidy = keeps_tidy p named _ _ _ _ (ByEnd s t a x is) tidy
 
   -- the topmost frame is that of no quiet initializer on the object of the lock
@@ -90,25 +85,27 @@ module _ (p : Program) (image : Image) (well : IsWellTyped p) (ok : IsCodeOf p i
       by None e = tt
       by (Some x) e = λ quiet same. let k = named in k.modules m (slice_get_within p.modules m x e) quiet
 
-  frames_agree : (l : LockName) (following : List ℕ) (s : Store) (fs : List Frame) (ns : List ℕ) → AreOf p ns fs → AllServe p (typed p image well ok simulates) (made_in s) ns fs → length s.objects ≡ length s.made → NotBuilding l ns fs →
+  frames_agree : (l : LockName) (following : List ℕ) (s : Store) (fs : List Frame) (ns : List ℕ) → AreOf p ns fs → AllServe p (typed p well) (made_in s) ns fs → length s.objects ≡ length s.made → NotBuilding l ns fs →
       times l (regions_of (turn_at p following fs s).frames.frames) ≡ 0 → AgreeOn p l s (turn_at p following fs s).store
   frames_agree l following s [] ns are serve long not none = agree_same p l s
   frames_agree l following s (f ∷ fs) [] are serve long not none = absurd are
   frames_agree l following s (f ∷ fs) (n ∷ ns) are serve long not none =
-      turn_agrees p (typed p image well ok simulates) following s f fs (turn_at p following (f ∷ fs) s) n ns are serve long (turn_up p image well ok simulates following (f ∷ fs) s) l not (turn_kind p following s f fs) none
+      turn_agrees p (typed p well) following s f fs (turn_at p following (f ∷ fs) s) n ns are serve long (turn_up p well following (f ∷ fs) s) l not (turn_kind p following s f fs) none
 
   -- a turn of one that is in no region of a lock, while another is in one
   outside : (s : Store) (t : ℕ → Option X) (l : LockName) (a b : ℕ) (f g : X) → IsTidy p named s t → a ≢ b → t a ≡ Some f → 0 < times l (regions_of f.0.frames) → t b ≡ Some g → Fit s Went g → Outside (traced p named) l g → AgreeOn p l s (S.turn p s g.0).store
   outside s t l a b f g tidy ne at_a inside at_b fits out =
       let x = g.0 in
       let now = S.opened p x in
-      let tr = fits.traces in
-      let stores = fits.stores in
-      let keeps = fits_kept p image well ok simulates in
-      let long : length s.objects ≡ length s.made = shown_long (Is p) cell_of (world_of p s.made []) (map (scheme p).made s.made) s.objects (let mem = fits.memory in mem.objects) stores.of_objects ∙ length-map s.made (scheme p).made in
+      let known = fits.kept in
+      let tr = known.traces in
+      let held = known.both.1 in
+      let stores = held.stores in
+      let keeps = fits_kept p well in
+      let long : length s.objects ≡ length s.made = shown_long (Is p) cell_of (world_of p s.made []) (map (scheme p).made s.made) s.objects (let mem = held.memory in mem.objects) stores.of_objects ∙ length-map s.made (scheme p).made in
       let hide : (o : ℕ) → Builds p o g.1 x.frames → HideAll o f.0.frames = λ o builds. let k = tidy.built b g o at_b builds in k.others a f ne at_a in
       frames_agree l now.following s now.frames (opened_numbers p named x.frames x.following g.1) (opened_are p named x.frames x.following g.1 tr.are)
-      (opened_serves p image well ok simulates (made_in s) x.frames x.following g.1 tr.are fits.serve) long
+      (opened_serves p well (made_in s) x.frames x.following g.1 tr.are fits.serve) long
       (opened_not l x.frames x.following g.1 (not_building l f.0.frames inside g.1 x.frames hide))
       (ap (times l) (keeps.turn s g fits) ∙ out)
 
@@ -117,11 +114,7 @@ module _ (p : Program) (image : Image) (well : IsWellTyped p) (ok : IsCodeOf p i
   first_fits : Fit (first_store p) Went (first p named)
   first_fits =
       record {
-        traces = record { stands = tt; are = tt; asks = tt };
-        memory = I.first_memory image;
-        code = I.first_frames image;
-        stores = first_stores;
-        together = first_together;
+        kept = first_kept p well;
         serve = tt;
         free = first_is_store p (IsFree p (made_in (first_store p))) (free_simply p (made_in (first_store p)));
       }
@@ -133,12 +126,12 @@ module _ (p : Program) (image : Image) (well : IsWellTyped p) (ok : IsCodeOf p i
         then_ = agree_then p;
         tidy = tidy_kept;
         outside = outside;
-        reads = reads p image well ok simulates;
+        reads = reads p well;
       }
 
   traced_hands_over : (budget : ℕ) (before others : List Choice) (entry : Choice) (a : ℕ) (l : LockName) (c : ℕ) → HandsOver (traced p named) (IsLocalAt p) (execution (traced p named) before (start p named budget)) entry a l c others
   traced_hands_over budget before others entry a l c =
-      let keeps = fits_kept p image well ok simulates in
+      let keeps = fits_kept p well in
       let sound : Sound (traced p named) Fit (start p named budget) = start_sound (first_store p) (first p named) budget (traced p named) Fit first_fits refl in
       hands_over (traced p named) Fit (IsTidy p named) (AgreeOn p) (IsLocalAt p) keeps guards (execution (traced p named) before (start p named budget)) entry a l c others (execution_sound (traced p named) Fit keeps before (start p named budget) sound)
       (execution_tidy (traced p named) (Outside (traced p named)) Fit keeps.fits (IsTidy p named) tidy_kept before (start p named budget) (sound_always (traced p named) Fit keeps (start p named budget) sound) (sound_fitting (traced p named) Fit (start p named budget) sound) (first_tidy p named budget))

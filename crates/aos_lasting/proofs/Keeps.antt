@@ -17,7 +17,7 @@ use Rattle.aos_typed.specs.Typing.{Is, IsPlain}
 use Rattle.aos_typed.specs.Value.{Value}
 use Rattle.aos_typed.specs.Meaning.{Question}
 use Rattle.aos_typed.specs.Source.{Frame, Turned, all_rooted, answered, arguments_in, called_frame, done, first_value, frames_with, here_of, with_result}
-use Rattle.aos_sim.proofs.Does.{HasTypes, HasScalar, Given, IsCalledOn, IsVisible, Valid}
+use Rattle.aos_sim.proofs.Does.{HasTypes, HasScalar, Given, IsCalledOn, Valid}
 use Rattle.aos_sim.proofs.States.{shapes_of, world_of}
 use Rattle.aos_handover.specs.Kinds.{answer_in, told_as, written_by, IsAsking, IsStored, OneScalar, OneWhole, OneText, Kind, Settled, Stopped, Left, Popped, Told, Written, Stored, Created, Called, MakesNone, Stands}
 use Rattle.aos_naming.specs.Naming.{AreOf, ContentIs, StandsOnAll, StoreIs, VariablesAre}
@@ -25,9 +25,10 @@ use Rattle.aos_naming.proofs.Building.{SameTexts, NoFrames, OneMore, numbers_aft
 use Rattle.aos_naming.proofs.Names.{HasNames}
 use Rattle.aos_naming.proofs.Steps.{given}
 use Rattle.aos_naming.proofs.Values.{first_is, found_same, object_added, overlay_is, placed_is, read_is, sort_begins, store_is, text_is, value_is, vars_with}
+use Rattle.aos_preservation.proofs.Steps.{self_called}
 use Rattle.aos_lasting.specs.Spots.{IsFree, IsTold}
 use Rattle.aos_lasting.proofs.Copies.{FramesKeep, IsNoPlace, copies_kept, frames_kept, stored_put}
-use Rattle.aos_lasting.proofs.Serve.{AllServe, FrameServes, answered_serves, asked_law, called_copies, called_free, left_serves, result_told, self_called, stands_serves}
+use Rattle.aos_lasting.proofs.Serve.{AllServe, FrameServes, answered_serves, asked_law, called_copies, called_free, left_serves, result_told, stands_serves}
 use Rattle.aos_lasting.proofs.Serving.{is_serves, plain_serves}
 use Rattle.aos_lasting.proofs.Statements.{ResultServes, block_serves}
 use Rattle.aos_lasting.proofs.Told.{free_simply}
@@ -88,7 +89,7 @@ module _ (p : Program) (typed : HasTypes p) (names : HasNames p) where
   stored_told : (made : ℕ → Option Made) (own : Option Procedure) (x : Rooted (Content Value)) (q : Question) (root : Root) (change : Content Value → Content Value) → IsStored p x q root change → IsTold p made own q done
   stored_told made own x _ _ _ (OneScalar a v) = tt
   stored_told made own x _ _ _ (OneWhole t from to new old e e') = tt
-  stored_told made own x _ _ _ (OneText strict from n to room cs old e) = tt
+  stored_told made own x _ _ _ (OneText strict from n to room cs old fits e) = tt
 
   module _ (following : List ℕ) (s : Store) (f : Frame) (fs : List Frame) (t : Turned) (n : ℕ) (ns : List ℕ) (are : AreOf p (n ∷ ns) (f ∷ fs)) (serve : AllServe p typed (made_in s) (n ∷ ns) (f ∷ fs)) (store : StoreIs (IsFree p (made_in s)) s) where
     abbrev made : ℕ → Option Made
@@ -134,14 +135,14 @@ module _ (p : Program) (typed : HasTypes p) (names : HasNames p) where
     stored_free g st _ asks _ _ (OneWhole ty from to new old e e') d c =
         let read_at = λ (a : Spot). read_is C a.root a.path (g ∷ fs) s (variables g st) store in
         placed_is C to.path _ d (overlay_is C _ new old (found_same C _ new e (read_at from)) (found_same C _ old e' (read_at to))) c
-    stored_free g st _ asks _ _ (OneText strict from i to room cs old e) d c =
+    stored_free g st _ asks _ _ (OneText strict from i to room cs old fits e) d c =
         placed_is C to.path _ d (text_is p C (free_simply p made) cs old (found_same C _ old e (read_is C to.root to.path (g ∷ fs) s (variables g st) store))) c
 
-    module _ (valid : (x : Frame) → Stands p s f fs x → (q : Question) → IsVisible q → IsAsking p x fs q → Valid p (here_of f fs) now q) (typed_at : (ty : TType) (a : Spot) → HasScalar p now a (Plain (id_of ty)) → Is p now (Plain (id_of ty)) (value_at a (all_rooted (f ∷ fs) s)))
+    module _ (valid : (x : Frame) → Stands p s f fs x → (q : Question) → IsAsking p x fs q → Valid p (here_of f fs) now q) (typed_at : (ty : TType) (a : Spot) → HasScalar p now a (Plain (id_of ty)) → Is p now (Plain (id_of ty)) (value_at a (all_rooted (f ∷ fs) s)))
         (plain_at : (r : Root) (path : List ℕ) (shape : Shape Sort) → shape_at now r path ≡ Some shape → EachSort IsPlain shape → (old : Content Value) × (read r path (all_rooted (f ∷ fs) s) ≡ Some old) × ContentIs IsNoPlace old) where
       told_true : (g : Frame) → Stands p s f fs g → (q : Question) → IsAsking p g fs q → MakesNone q → IsTold p made k.routine.own q (told_as (all_rooted (g ∷ fs) s) q)
       told_true g st (Reads ty a) asks none =
-          let seen = valid g st (Reads ty a) tt asks in
+          let seen = valid g st (Reads ty a) asks in
           let same = ap (λ (y : Frame). value_at a (all_rooted (y ∷ fs) s)) st.same.is in
           is_serves p typed now ty (value_at a (all_rooted (g ∷ fs) s)) (subst (Is p now (Plain (id_of ty))) (sym same) (typed_at ty a seen.1))
           (value_is p C (free_simply p made) a (g ∷ fs) s (variables g st) store)
@@ -169,7 +170,7 @@ module _ (p : Program) (typed : HasTypes p) (names : HasNames p) where
 
       called_serves : (g : Frame) → Stands p s f fs g → (how : Manner) (q : ℕ) (vs : List Value) → IsAsking p g fs (Calls how q vs) → (y : Routine) → by_number q (routines p) ≡ Some y → FrameServes p typed made q (called_frame p following y vs (g ∷ fs) s) (suc (length fs))
       called_serves g st how q vs asks y there =
-          let seen = valid g st (Calls how q vs) tt asks in
+          let seen = valid g st (Calls how q vs) asks in
           let both : Some seen.0 ≡ Some y = sym seen.1 ∙ there in
           let same : seen.0 ≡ y = cc both in
           let given = subst (λ (z : Routine). Given p now (parameters_of z.own) (arguments_in (has_self z.own) vs)) same seen.2 in
@@ -179,7 +180,7 @@ module _ (p : Program) (typed : HasTypes p) (names : HasNames p) where
             routine = y;
             there = there;
             function = refl;
-            self = self_called p typed made y vs on;
+            self = self_called p made y vs on;
             variables = called_free p typed s (g ∷ fs) now (variables g st) store following y vs (may y there) given;
             copies = called_copies p typed s (g ∷ fs) now (variables g st) store following y vs;
             items = block_serves p typed made q y y.body.is_exclusive y.body.statements;
@@ -187,19 +188,14 @@ module _ (p : Program) (typed : HasTypes p) (names : HasNames p) where
           }
 
       -- where something is stored no places stood
-      stored_keeps : (g : Frame) (st : Stands p s f fs g) (q : Question) → IsVisible q → IsAsking p g fs q → (root : Root) (change : Content Value → Content Value) → IsStored p (all_rooted (g ∷ fs) s) q root change
+      stored_keeps : (g : Frame) (st : Stands p s f fs g) (q : Question) → IsAsking p g fs q → (root : Root) (change : Content Value → Content Value) → IsStored p (all_rooted (g ∷ fs) s) q root change
           → FramesKeep (answered done g ∷ fs) (frames_with root change (answered done g ∷ fs))
-      stored_keeps g st q seen asks root change stored =
-          let x = stored_put p now (here_of f fs) (all_rooted (g ∷ fs) s) q root change stored (valid g st q seen asks) in
+      stored_keeps g st q asks root change stored =
+          let x = stored_put p now (here_of f fs) (all_rooted (g ∷ fs) s) q root change stored (valid g st q asks) in
           let old = plain_at root x.path x.shape x.there x.plain in
           let same = ap (λ (y : Frame). read root x.path (all_rooted (y ∷ fs) s)) st.same.is in
           subst (λ z. FramesKeep (answered done g ∷ fs) (frames_with root z (answered done g ∷ fs))) (sym x.is)
           (frames_kept x.path x.new old.0 old.2 root (answered done g ∷ fs) s (same ∙ old.1))
-
-      stored_visible : (x : Rooted (Content Value)) (q : Question) (root : Root) (change : Content Value → Content Value) → IsStored p x q root change → IsVisible q
-      stored_visible x _ _ _ (OneScalar a v) = tt
-      stored_visible x _ _ _ (OneWhole ty from to new old e e') = tt
-      stored_visible x _ _ _ (OneText strict from i to room cs old e) = tt
 
       pub step_serves : (kind : Kind p following s f fs t) → Is_it (numbers_after p names following s f fs t kind n ns) t.store t.frames.frames
       step_serves (Settled g st fresh x) = given p following s f fs (Is_it (n ∷ ns)) t s (g ∷ fs) _ _ x (standing g st, store)
@@ -207,7 +203,7 @@ module _ (p : Program) (typed : HasTypes p) (names : HasNames p) where
       step_serves (Left g q work st asks leaves x) = given p following s f fs (Is_it (n ∷ ns)) t s (g ∷ fs) _ _ x (standing g st, store)
       step_serves (Popped v left x) =
           given p following s f fs (Is_it ns) t s (with_result following (answer_in v) fs) _ _ x (below_serves v (left_serves p typed s f fs n are.0 k v left) ns fs are.1.0 serve.1, store)
-      step_serves (Told g q none st asks x) =
+      step_serves (Told g q none absent st asks x) =
           given p following s f fs (Is_it (n ∷ ns)) t s (answered _ g ∷ fs) _ _ x (answering g st q asks _ (told_true g st q asks none), store)
       step_serves (Written g q bytes st asks w x) =
           given p following s f fs (Is_it (n ∷ ns)) t s (answered done g ∷ fs) _ _ x (answering g st q asks done (written_told made k.routine.own _ q bytes w), store)
@@ -215,15 +211,15 @@ module _ (p : Program) (typed : HasTypes p) (names : HasNames p) where
           let ok = stored_free g st q asks root change stored in
           let frames = answered done g ∷ fs in
           let all = answering g st q asks done (stored_told made k.routine.own _ q root change stored) in
-          let keep = stored_keeps g st q (stored_visible _ q root change stored) asks root change stored in
+          let keep = stored_keeps g st q asks root change stored in
           given p following s f fs (Is_it (n ∷ ns)) t (store_with root change s) (frames_with root change frames) _ _ x (
             serve_moved made (n ∷ ns) frames (frames_with root change frames) (texts_with root change frames) keep (vars_with C change ok root frames (serve_variables made (n ∷ ns) frames all)) all,
             store_is C change ok root s store,
           )
-      step_serves (Created g type vs ks st asks are' x) =
+      step_serves (Created g type vs ks st asks are' room x) =
           given p following s f fs (Is_it (n ∷ ns)) t _ (answered _ g ∷ fs) _ _ x (
             answering g st (Makes type vs) asks _ tt,
             record { modules = store.modules; objects = object_added C s.objects _ store.objects (first_is C (first_value p) _ (sort_begins p C (free_simply p made))) },
           )
-      step_serves (Called g how q vs y st asks there x) =
+      step_serves (Called g how q vs y st asks there few x) =
           given p following s f fs (Is_it (q ∷ n ∷ ns)) t s (called_frame p following y vs (g ∷ fs) s ∷ g ∷ fs) _ _ x ((called_serves g st how q vs asks y there, standing g st), store)

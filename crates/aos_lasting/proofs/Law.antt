@@ -717,7 +717,7 @@ module _ (p : Program) (typed : HasTypes p) (made : ℕ → Option Made) (n : �
         let uses = part Ok (expr_uses p e) (place_uses p q) us in
         law_bind (λ s. At s (target_of p q)) (λ s. At s (target_of p q)) (place_of p here q) _ (place_law q h.0 h.1 uses.1) (λ s a.
         law_bind (Are (type.Integer W64)) (λ s. At s (target_of p q)) (value_of p here e) _ (value_law e (type.Integer W64) h.3 uses.0) (λ v c. element_law i v s (target_of p q) a))
-    place_law (Of a) t h us = law_bind (RowsAt (rows_target p a) 0) (λ s. At s (rows_target p a)) (rows_of p here a) _ (rows_law a 0 t h us) (λ y f. f.0)
+    place_law (Of a) t h us = law_bind (RowsAt (rows_target p a) 0) (λ s. At s (rows_target p a)) (rows_of p here a) _ (rows_law a 0 t h.0 us) (λ y f. f.0)
     place_law (Deref e u) t h us = deref_law e u t h (value_law e h.0 h.1 us.1)
     place_law (Typed q k) t h us = law_bind (λ s. At s (target_of p q)) (λ s. At s (target_of p q)) (place_of p here q) _ (place_law q (type.Named k) h.0 us) (λ s a. at_typed p made own here.self (target_of p q) s (suc k) a)
     place_law (Guarded q k) t h us =

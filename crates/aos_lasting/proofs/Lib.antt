@@ -1,5 +1,4 @@
 pub mod GateTyped
-pub mod GateCode
 pub mod GateGuards
 pub mod GateRun
 pub mod Fields
@@ -8,7 +7,6 @@ pub mod Law
 pub mod Statements
 pub mod Copies
 pub mod Told
-pub mod Asked
 pub mod Serve
 pub mod Keeps
 pub mod Fitting

@@ -8,7 +8,7 @@ use Rattle.aos_base.specs.declared.kernel.LockName.TheVariants as lock
 use Rattle.aos_base.specs.declared.kernel.Verdict.{Verdict}
 use Rattle.aos_base.specs.declared.place.Root.{Root}
 use Rattle.aos_base.specs.declared.place.Root.TheVariants as root
-use Rattle.aos_types.specs.Content.{Content, element, found}
+use Rattle.aos_types.specs.Content.{Content, Fits, element, found}
 use Rattle.aos_types.specs.World.{World, read}
 use Rattle.aos_typed.specs.declared.tree.TType.{TType}
 use Rattle.aos_typed.specs.Conditions.{Condition}
@@ -20,17 +20,10 @@ use Rattle.aos_typed.specs.Spot.{Spot}
 use Rattle.aos_typed.specs.Store.{Store, made_in, scalar_in, value_at}
 use Rattle.aos_typed.specs.Typing.{Is}
 use Rattle.aos_typed.specs.Value.{Value}
-use Rattle.aos_typed.specs.Meaning.{Here, Question, Doing, object_in}
-use Rattle.aos_typed.specs.Source.{Frame, all_rooted, calm, compared, has_type_in, here_of, judged, known, length_in, lock_of, object_place, own_lock}
-use Rattle.aos_code.specs.declared.image.Image.{Image}
-use Rattle.aos_code.specs.declared.instr.Cell.{Cell}
-use Rattle.aos_places.proofs.Grow.{grows_same}
-use Rattle.aos_sim.specs.Cells.{cell_of}
-use Rattle.aos_sim.proofs.Does.{HasScalar, HasShapes, HasTypes, IsSelf, IsWhole, Valid, Conforms, Does, Calmly, placed, calm_does}
-use Rattle.aos_sim.proofs.Runs.{Run, tables_of}
-use Rattle.aos_sim.proofs.Runs as runs
+use Rattle.aos_typed.specs.Meaning.{Here, Doing, object_in}
+use Rattle.aos_typed.specs.Source.{Frame, all_rooted, compared, has_type_in, here_of, judged, known, length_in, lock_of, made_shape, object_place, own_lock}
+use Rattle.aos_sim.proofs.Does.{HasScalar, HasTypes, IsSelf}
 use Rattle.aos_sim.proofs.States.{shapes_of, top_shape, world_of}
-use Rattle.aos_places.specs.Shows.{Shown}
 use Rattle.aos_uses.specs.Guarded.{IsGuarded, Lets, MayRead, Spares, is_by_value, is_of_module}
 use Rattle.aos_uses.specs.declared.uses.Target.{Target}
 use Rattle.aos_uses.specs.declared.uses.Use.{Use}
@@ -39,6 +32,8 @@ use Rattle.aos_uses.specs.declared.uses.Variable.{Variable}
 use Rattle.aos_uses.specs.declared.uses.Variable.TheVariants as variable
 use Rattle.aos_naming.specs.Naming.{StoreIs, VariablesAre}
 use Rattle.aos_naming.proofs.Values.{known_is, length_is, value_is}
+use Rattle.aos_preservation.proofs.Quiet.{lengths_told, made_shaped, places_told, sizes_told, opens_told as opens_typed, tests_told as tests_typed}
+use Rattle.aos_preservation.proofs.Trees.{Typed}
 use Rattle.aos_lasting.specs.Agree.{AgreeOn, AreSame, IsSame}
 use Rattle.aos_lasting.specs.Spots.{HasFields, IsAt, IsFree, field_of}
 use Rattle.aos_lasting.proofs.Copies.{HoldCopies, known_copied}
@@ -72,8 +67,7 @@ looks_spare p d n r (used.Finds t k) h v g = tt
 looks_spare p d n r used.Binds h v g = tt
 looks_spare p d n r used.Makes h v g = tt
 
-module _ (p : Program) (typed : HasTypes p) (image : Image) (shaped : HasShapes p (tables_of image)) (s t : Store) (f : Frame) (fs : List Frame) (cells : List Cell)
-    (shown : Shown (Is p) cell_of (world_of p s.made (shapes_of (f ∷ fs))) f.shape f.variables cells) (whole : IsWhole p (world_of p s.made (shapes_of (f ∷ fs))))
+module _ (p : Program) (typed : HasTypes p) (s t : Store) (f : Frame) (fs : List Frame) (fits : Fits (Is p (world_of p s.made (shapes_of (f ∷ fs)))) f.shape f.variables)
     (typed_at : (ty : TType) (a : Spot) → HasScalar p (world_of p s.made (shapes_of (f ∷ fs))) a (Plain (id_of ty)) → Is p (world_of p s.made (shapes_of (f ∷ fs))) (Plain (id_of ty)) (value_at a (all_rooted (f ∷ fs) s)))
     (variables : VariablesAre (IsFree p (made_in s)) (f ∷ fs)) (store : StoreIs (IsFree p (made_in s)) s) where
   abbrev now : World Sort
@@ -88,15 +82,11 @@ module _ (p : Program) (typed : HasTypes p) (image : Image) (shaped : HasShapes 
   abbrev c : Content Value
   c = f.variables
 
-  -- what is answered at once is of the sort that is asked for
-  abbrev Answered : Question → World Sort → Value → Run → Type 0
-  Answered q w v m = Conforms p w q v
+  at : now.shape (root.Frame here.below) ≡ Some f.shape
+  at = top_shape p s.made f fs
 
-  alone_does : (q : Question) → Valid p here now q → Does p here (Answered q) now (Asks (placed p now q) (λ x. Traps 0 0)) (Asks q (λ v. Val v))
-  alone_does q valid = ((λ x. Traps 0 0), refl, valid, λ w up v conforms. conforms)
-
-  quiet : (q : Question) → Valid p here now q → Calmly p here (Answered q) image.types.items cells now (runs.calm image.types.items made cells (Asks (placed p now q) (λ x. Traps 0 0))) (calm p.types made c (Asks q (λ v. Val v)))
-  quiet q valid = calm_does p here now f.shape c cells (top_shape p s.made f fs) shown whole (tables_of image) shaped (Answered q) (Asks (placed p now q) (λ x. Traps 0 0)) (Asks q (λ v. Val v)) (alone_does q valid)
+  abbrev shaped : (o : ℕ) (m : Made) → now.made o ≡ Some m → now.shape (root.Object o) ≡ Some (made_shape p.types m)
+  shaped = made_shaped p s.made (shapes_of (f ∷ fs))
 
   module _ (l : LockName) (agree : AgreeOn p l s t) (d : Condition) (n : ℕ) (r : Routine) (own : r.own ≡ d.own) (is_self_of : IsSelf p made (self_type r.own) here.self) (copies : HoldCopies p r.own f.variables) (x : Bool) (lock_is : l ≡ lock_of f) (home : d.home ≡ f.home) (alone : has_self d.own ≡ false → f.object ≡ 0) where
     abbrev LawAt : {A : Type 0} → (A → Type 0) → Doing A → Type 0
@@ -152,49 +142,49 @@ module _ (p : Program) (typed : HasTypes p) (image : Image) (shaped : HasShapes 
     same_made o m e = e ∙ sym (agree.made o m e)
 
     -- evaluated question by question
-    pub judged_same : (R : World Sort → Value → Run → Type 0) (Q : Value → Type 0) (m : Run) (e : Doing Value) → Does p here R now m e → LawAt Q e → JudgedAt s e ≡ JudgedAt t e
-    judged_same R Q m (Val v) does law = refl
-    judged_same R Q m (Traps i code) does law = refl
-    judged_same R Q m (Asks (Reads ty a) k) does law =
+    pub judged_same : (R Q : Value → Type 0) (e : Doing Value) → Typed p now here R e → LawAt Q e → JudgedAt s e ≡ JudgedAt t e
+    judged_same R Q (Val v) h law = refl
+    judged_same R Q (Traps i code) h law = refl
+    judged_same R Q (Asks (Reads ty a) k) h law =
         let v = value_at a (all_rooted (f ∷ fs) s) in
-        let is = typed_at ty a does.2.1 in
+        let is = typed_at ty a h.0.1 in
         let serves = is_serves p typed now ty v is (value_is p (IsFree p made) (free_simply p made) a (f ∷ fs) s variables store) in
-        judged_same R Q (does.0 (cell_of now v)) (k v) (does.3 now (grows_same now) v is) (law.1 v serves)
+        judged_same R Q (k v) (h.1 v is) (law.1 v serves)
         ∙ ap (λ z. JudgedAt t (k (scalar_in z))) (same_read a law.0)
-    judged_same R Q m (Asks (ComparesTexts o a i b j) k) does law =
+    judged_same R Q (Asks (ComparesTexts o a i b j) k) h law =
         let v = compared o (read a.root a.path (all_rooted (f ∷ fs) s)) (read b.root b.path (all_rooted (f ∷ fs) s)) in
-        judged_same R Q (does.0 (cell_of now v)) (k v) (does.3 now (grows_same now) v tt) (law.1 v (_, refl))
+        judged_same R Q (k v) (h.1 v tt) (law.1 v (_, refl))
         ∙ (λ q. JudgedAt t (k (compared o (same_read a law.0.0 q) (same_read b law.0.1 q))))
-    judged_same R Q m (Asks (Places a) k) does law =
+    judged_same R Q (Asks (Places a) k) h law =
         let v = known c a in
-        judged_same R Q (does.0 (cell_of now v)) (k v) (does.3 now (grows_same now) v (quiet (Places a) does.2).2) (law.1 v (known_is p (IsFree p made) (free_simply p made) made c variables.0 a, known_copied p r.own c copies a))
-    judged_same R Q m (Asks (Lengths a) k) does law =
+        judged_same R Q (k v) (h.1 v (places_told p now here f.shape c at fits shaped a h.0)) (law.1 v (known_is p (IsFree p made) (free_simply p made) made c variables.0 a, known_copied p r.own c copies a))
+    judged_same R Q (Asks (Lengths a) k) h law =
         let v = known c a in
-        judged_same R Q (does.0 (cell_of now v)) (k v) (does.3 now (grows_same now) v (quiet (Lengths a) does.2).2) (law.1 v (known_is p (IsFree p made) (free_simply p made) made c variables.0 a))
-    judged_same R Q m (Asks (Opens u) k) does law =
+        judged_same R Q (k v) (h.1 v (lengths_told p now here f.shape c at fits shaped a h.0)) (law.1 v (known_is p (IsFree p made) (free_simply p made) made c variables.0 a))
+    judged_same R Q (Asks (Opens u) k) h law =
         let v = object_place (object_in u) (made (object_in u)) in
-        judged_same R Q (does.0 (cell_of now v)) (k v) (does.3 now (grows_same now) v (quiet (Opens u) does.2).2) (law.1 v (opens_told p made r.own u law.0.0 law.0.1))
+        judged_same R Q (k v) (h.1 v (opens_typed p now here f.shape c at fits shaped u h.0)) (law.1 v (opens_told p made r.own u law.0.0 law.0.1))
         ∙ ap (λ z. JudgedAt t (k (object_place (object_in u) z))) (same_made (object_in u) law.0.0 law.0.1)
-    judged_same R Q m (Asks (Sizes u i) k) does law =
+    judged_same R Q (Asks (Sizes u i) k) h law =
         let v = length_in i (made (object_in u)) in
-        judged_same R Q (does.0 (cell_of now v)) (k v) (does.3 now (grows_same now) v (quiet (Sizes u i) does.2).2) (law.1 v (length_is p (IsFree p made) (free_simply p made) made c variables.0 i (made (object_in u))))
+        judged_same R Q (k v) (h.1 v (sizes_told p now here f.shape c at fits shaped u i h.0)) (law.1 v (length_is p (IsFree p made) (free_simply p made) made c variables.0 i (made (object_in u))))
         ∙ ap (λ z. JudgedAt t (k (length_in i z))) (same_made (object_in u) law.0.0 law.0.1)
-    judged_same R Q m (Asks (Tests u ty) k) does law =
+    judged_same R Q (Asks (Tests u ty) k) h law =
         let v = has_type_in p.types made c ty (made (object_in u)) in
-        judged_same R Q (does.0 (cell_of now v)) (k v) (does.3 now (grows_same now) v (quiet (Tests u ty) does.2).2) (law.1 v (tests_told p made r.own c u ty law.0.0 law.0.1))
+        judged_same R Q (k v) (h.1 v (tests_typed p now here f.shape c at fits shaped u ty h.0)) (law.1 v (tests_told p made r.own c u ty law.0.0 law.0.1))
         ∙ ap (λ z. JudgedAt t (k (has_type_in p.types made c ty z))) (same_made (object_in u) law.0.0 law.0.1)
-    judged_same R Q m (Asks (Stores a v) k) does law = refl
-    judged_same R Q m (Asks (Copies ty a b) k) does law = refl
-    judged_same R Q m (Asks (PutsText strict a i b j) k) does law = refl
-    judged_same R Q m (Asks (Calls how i vs) k) does law = refl
-    judged_same R Q m (Asks (Ends v) k) does law = refl
-    judged_same R Q m (Asks (Makes ty vs) k) does law = refl
-    judged_same R Q m (Asks (Starts v) k) does law = refl
-    judged_same R Q m (Asks Enters k) does law = refl
-    judged_same R Q m (Asks Leaves k) does law = refl
-    judged_same R Q m (Asks (Awaits i) k) does law = refl
-    judged_same R Q m (Asks (PutsInt v i) k) does law = refl
-    judged_same R Q m (Asks (PutsChar v) k) does law = refl
-    judged_same R Q m (Asks (PutsString a i) k) does law = refl
-    judged_same R Q m (Asks PutsNothing k) does law = refl
-    judged_same R Q m (Asks PutsLn k) does law = refl
+    judged_same R Q (Asks (Stores a v) k) h law = refl
+    judged_same R Q (Asks (Copies ty a b) k) h law = refl
+    judged_same R Q (Asks (PutsText strict a i b j) k) h law = refl
+    judged_same R Q (Asks (Calls how i vs) k) h law = refl
+    judged_same R Q (Asks (Ends v) k) h law = refl
+    judged_same R Q (Asks (Makes ty vs) k) h law = refl
+    judged_same R Q (Asks (Starts v) k) h law = refl
+    judged_same R Q (Asks Enters k) h law = refl
+    judged_same R Q (Asks Leaves k) h law = refl
+    judged_same R Q (Asks (Awaits i) k) h law = refl
+    judged_same R Q (Asks (PutsInt v i) k) h law = refl
+    judged_same R Q (Asks (PutsChar v) k) h law = refl
+    judged_same R Q (Asks (PutsString a i) k) h law = refl
+    judged_same R Q (Asks PutsNothing k) h law = refl
+    judged_same R Q (Asks PutsLn k) h law = refl

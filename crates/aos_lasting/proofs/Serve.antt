@@ -18,8 +18,8 @@ use Rattle.aos_typed.specs.Sort.{Sort, Plain, Variable, Alias, variable_shape}
 use Rattle.aos_typed.specs.Store.{Store, made_in}
 use Rattle.aos_typed.specs.Value.{Value, Int, Place, is_true}
 use Rattle.aos_typed.specs.Meaning.{Here, Question, Doing, Item, Do, Rounds, Round, Until, Region, End, Gives, After, Into, Exits, Returns, leave, leave_all, item_of, value_of}
-use Rattle.aos_typed.specs.Source.{Frame, all_rooted, answered, arguments_in, called_frame, here_of, local_part, noted, self_of, told}
-use Rattle.aos_sim.proofs.Does.{HasTypes, Given, Handles, IsCalledOn, IsSelf, self_grows}
+use Rattle.aos_typed.specs.Source.{Frame, all_rooted, answered, arguments_in, called_frame, here_of, local_part, noted, told}
+use Rattle.aos_sim.proofs.Does.{HasTypes, Given, Handles, IsSelf, self_grows}
 use Rattle.aos_uses.specs.Guarded.{IsGuarded, Spares}
 use Rattle.aos_uses.specs.declared.uses.Use.{Use}
 use Rattle.aos_uses.specs.declared.uses.Variable.{Variable as GuardedVariable}
@@ -292,13 +292,6 @@ module _ (p : Program) (typed : HasTypes p) where
     left_serves _ (Nowhere vs e none) = absurd (subst (λ a. AreAnswers made r.own here a []) e (subst (λ js. AreAnswers made r.own here f.answers js) none k.answers))
 
   -- The frame of a call.
-
-  pub self_called : (made : ℕ → Option Made) (y : Routine) (vs : List Value) → IsCalledOn p made (self_type y.own) vs → IsSelf p made (self_type y.own) (self_of (has_self y.own) vs)
-  self_called made y vs h = by (self_type y.own) h
-    where
-      by : (t : Option ℕ) → IsCalledOn p made t vs → IsSelf p made t (self_of (is_some t) vs)
-      by None h = tt
-      by (Some t) h = subst (λ us. IsSelf p made (Some t) (self_of true us)) (sym h.2) h.3
 
   module _ (s : Store) (fs : List Frame) (w : World Sort) (vars : VariablesAre (IsFree p (made_in s)) fs) (store : StoreIs (IsFree p (made_in s)) s) where
     abbrev C : Value → Type 0

@@ -30,8 +30,6 @@ use Rattle.aos_typed.specs.Program.{Place, ModuleVar, Field, Deref, NoMore, Disp
 use Rattle.aos_typed.specs.Routines.{Routine, routines}
 use Rattle.aos_typed.specs.Source.{Frame, Frames, first_state, source}
 use Rattle.aos_typed.specs.Store.{Store}
-use Rattle.aos_code.specs.declared.image.Image.{Image}
-use Rattle.aos_sim.specs.Shows.{IsCodeOf}
 
 abbrev pub at : (line col : ℕ) → Pos
 at l c = record { line = l; col = c }
@@ -53,10 +51,11 @@ abbrev pub text_of : (is_exclusive : Bool) → Stats → Body
 text_of x ss = record { is_exclusive = x; statements = ss }
 
 -- a method of a gate, or its body
-abbrev pub procedure_with : (name : List ℕ) → (is_initializer : Bool) → Body → Procedure
-procedure_with name initial body =
+abbrev pub procedure_with : (name : List ℕ) → Pos → (is_initializer : Bool) → Body → Procedure
+procedure_with name place initial body =
     record {
       name = name;
+      at = place;
       of = Some 0;
       is_initializer = initial;
       parameters = [];
@@ -66,13 +65,13 @@ procedure_with name initial body =
     }
 
 abbrev pub init : Procedure
-init = procedure_with (codes "Init") true (text_of false (set_up (at 6 11) false))
+init = procedure_with (codes "Init") (at 5 17) true (text_of false (set_up (at 6 11) false))
 
 abbrev pub opens : Procedure
-opens = procedure_with (codes "Open") false (text_of true (set_up (at 8 23) true))
+opens = procedure_with (codes "Open") (at 7 15) false (text_of true (set_up (at 8 23) true))
 
 abbrev pub waits : Procedure
-waits = procedure_with [] false (text_of true (Then (Await (at 9 29) 0 is_up) Nothing))
+waits = procedure_with [] (at 0 0) false (text_of true (Then (Await (at 9 29) 0 is_up) Nothing))
 
 abbrev pub init_method : Method
 init_method = record { slot = 0; procedure = init }
@@ -84,6 +83,8 @@ abbrev pub beside_gate : ObjectType
 beside_gate =
     record {
       name = codes "Gate";
+      at = at 3 3;
+      fields = codes "up" ∷ [];
       home = 0;
       has_body = true;
       is_active = true;
@@ -126,10 +127,6 @@ gates =
 -- what is awaited
 abbrev pub condition : Condition
 condition = record { home = 0; own = Some waits; at = at 9 29; expression = is_up }
-
--- an image has its code
-abbrev pub IsCoded : Type 0
-IsCoded = (image : Image) × IsCodeOf gates image
 
 -- Worker 0 carries out the module's body, which makes a gate, up to the call of its initializer.
 abbrev pub up_to_the_call : List Choice

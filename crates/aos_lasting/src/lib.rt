@@ -5,12 +5,10 @@ pub mod example;
 
 ghost use Rattle.aos_typed.specs.Program.{Program};
 ghost use Rattle.aos_typed.specs.WellTyped.{IsWellTyped};
-ghost use Rattle.aos_code.specs.declared.image.Image.{Image};
-ghost use Rattle.aos_sim.specs.Shows.{IsCodeOf};
 ghost use Rattle.aos_lasting.specs.Lasts.{Lasts};
 
-/// Of every execution of a well-typed program of which an image has the code: from the entry that passes a lock to a waiter whose condition
-/// holds, up to the waiter's next turn, it owns the lock, and a local condition still holds.
+/// Of every execution of a well-typed program: from the entry that passes a lock to a waiter whose condition holds, up to the waiter's next
+/// turn, it owns the lock, and a local condition still holds.
 pub fn conditions_last()
-    ensures { (p : Program) (image : Image) → IsWellTyped p → IsCodeOf p image → Lasts p }
+    ensures { (p : Program) → IsWellTyped p → Lasts p }
 {}

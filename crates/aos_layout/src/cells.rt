@@ -40,7 +40,7 @@ pub(crate) fn id_of(of: TType) -> TypeId
 }
 
 /// Whether it is an open array.
-pub(crate) fn is_open(types: &Types, t: TypeId) -> bool
+pub fn is_open(types: &Types, t: TypeId) -> bool
     ensures { result ≡ table.is_open (table.row_of types.now t) }
 {
     matches!(row_of(types, t), Some(TypeRow::Open(_)))

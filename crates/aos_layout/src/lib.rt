@@ -11,8 +11,9 @@ mod part;
 mod work;
 
 pub use block::{BlockShape, block_shape};
+pub use cells::is_open;
 pub use frame::{FrameShape, frame_shape, parameter_kinds};
 pub use laws::{law_of_blocks, law_of_frames, law_of_records};
 pub use layout::{base_number, made_kinds, offset, shape};
 pub use made::made_types;
-pub use part::width;
+pub use part::{base_of, row_of, scalars, variable_scalars, width};

@@ -19,7 +19,7 @@ pub(crate) struct Part {
 }
 
 /// The row of a type, where it was added.
-pub(crate) fn row_of(types: &Types, t: TypeId) -> Option<&TypeRow>
+pub fn row_of(types: &Types, t: TypeId) -> Option<&TypeRow>
     ensures { option_copied result ≡ table.row_of types.now t }
 {
     if (t.0 as usize) < types.len() {
@@ -30,7 +30,7 @@ pub(crate) fn row_of(types: &Types, t: TypeId) -> Option<&TypeRow>
 }
 
 /// The base of a record or an object type.
-pub(crate) fn base_of(types: &Types, t: TypeId) -> Option<TypeId>
+pub fn base_of(types: &Types, t: TypeId) -> Option<TypeId>
     ensures { result ≡ table.base_of (table.row_of types.now t) }
 {
     match row_of(types, t) {
@@ -41,7 +41,7 @@ pub(crate) fn base_of(types: &Types, t: TypeId) -> Option<TypeId>
 }
 
 /// How many cells a type has, where they are no more than a type may have.
-pub(crate) fn scalars(types: &Types, t: TypeId) -> u32
+pub fn scalars(types: &Types, t: TypeId) -> u32
     requires none_contains_itself { NoneContainsItself types.now }
     requires sizes { contents.scalars types.now t ≤ MOST_SCALARS }
     ensures { result ≡ contents.scalars types.now t }
@@ -54,7 +54,7 @@ pub(crate) fn scalars(types: &Types, t: TypeId) -> u32
 }
 
 /// How many cells a variable of a type has, where they are no more than a type may have.
-pub(crate) fn variable_scalars(types: &Types, t: TypeId) -> u32
+pub fn variable_scalars(types: &Types, t: TypeId) -> u32
     requires none_contains_itself { NoneContainsItself types.now }
     requires sizes { contents.variable_scalars types.now t ≤ MOST_SCALARS }
     ensures { result ≡ contents.variable_scalars types.now t }

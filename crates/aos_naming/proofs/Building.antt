@@ -355,11 +355,11 @@ module _ (p : Program) (names : HasNames p) (following : List ℕ) (s : Store) (
   numbers_after (Stopped g number code st x) n ns = n ∷ ns
   numbers_after (Left g q work st asks leaves x) n ns = n ∷ ns
   numbers_after (Popped v left x) n ns = ns
-  numbers_after (Told g q none st asks x) n ns = n ∷ ns
+  numbers_after (Told g q none absent st asks x) n ns = n ∷ ns
   numbers_after (Written g q bytes st asks w x) n ns = n ∷ ns
   numbers_after (Stored g q root change st asks stored x) n ns = n ∷ ns
-  numbers_after (Created g type vs ks st asks are x) n ns = n ∷ ns
-  numbers_after (Called g how q vs y st asks there x) n ns = q ∷ n ∷ ns
+  numbers_after (Created g type vs ks st asks are room x) n ns = n ∷ ns
+  numbers_after (Called g how q vs y st asks there few x) n ns = q ∷ n ∷ ns
 
   abbrev More : Store → List Frame → Type 0
   More store frames = new_number s ≤ new_number store
@@ -373,15 +373,15 @@ module _ (p : Program) (names : HasNames p) (following : List ℕ) (s : Store) (
   step_grows (Stopped g number code st x) = given p following s f fs More t s (g ∷ fs) _ _ x none_more
   step_grows (Left g q work st asks leaves x) = given p following s f fs More t s (g ∷ fs) _ _ x none_more
   step_grows (Popped v left x) = given p following s f fs More t s _ _ _ x none_more
-  step_grows (Told g q none st asks x) = given p following s f fs More t s _ _ _ x none_more
+  step_grows (Told g q none absent st asks x) = given p following s f fs More t s _ _ _ x none_more
   step_grows (Written g q bytes st asks w x) = given p following s f fs More t s _ _ _ x none_more
   step_grows (Stored g q root change st asks stored x) =
       let e = number_with root change s in given p following s f fs More t (store_with root change s) _ _ _ x (omega (arith, e))
-  step_grows (Created g type vs ks st asks are x) =
+  step_grows (Created g type vs ks st asks are room x) =
       let m : Made = record { type = type; lengths = ks } in
       let c = first_content (first_value p) (made_shape p.types m) in
       let e = object_number s m c in given p following s f fs More t (with_object m c s) _ _ _ x (omega (arith, e))
-  step_grows (Called g how q vs y st asks there x) = given p following s f fs More t s _ _ _ x none_more
+  step_grows (Called g how q vs y st asks there few x) = given p following s f fs More t s _ _ _ x none_more
 
   -- what a question makes
   pub made_none : (q : Question) (v u : Value) → MakesNone q → made_by q v ≡ Some u → ⊥
@@ -435,7 +435,7 @@ module _ (p : Program) (names : HasNames p) (following : List ℕ) (s : Store) (
   pub stored_none : (x : _) (q : Question) (root : Root) (change : Content Value → Content Value) → IsStored p x q root change → MakesNone q
   stored_none x _ _ _ (OneScalar a v) = tt
   stored_none x _ _ _ (OneWhole ty from to new old e e') = tt
-  stored_none x _ _ _ (OneText strict from i to room cs old e) = tt
+  stored_none x _ _ _ (OneText strict from i to room cs old fits e) = tt
 
   -- A quiet initializer calls quiet ones, on the same object.
 
@@ -496,10 +496,10 @@ module _ (p : Program) (names : HasNames p) (following : List ℕ) (s : Store) (
     step_are (Stopped g number code st x) = given p following s f fs (λ store. AreOf p (n ∷ ns)) t s (g ∷ fs) _ _ x (standing_of g st)
     step_are (Left g q work st asks leaves x) = given p following s f fs (λ store. AreOf p (n ∷ ns)) t s (g ∷ fs) _ _ x (standing_of g st)
     step_are (Popped v left x) = given p following s f fs (λ store. AreOf p ns) t s _ _ _ x (below_of p following ns (answer_in v) fs are.1.1)
-    step_are (Told g q none st asks x) = given p following s f fs (λ store. AreOf p (n ∷ ns)) t s _ _ _ x (answered_are p n ns _ g fs (standing_of g st))
+    step_are (Told g q none absent st asks x) = given p following s f fs (λ store. AreOf p (n ∷ ns)) t s _ _ _ x (answered_are p n ns _ g fs (standing_of g st))
     step_are (Written g q bytes st asks w x) = given p following s f fs (λ store. AreOf p (n ∷ ns)) t s _ _ _ x (answered_are p n ns done g fs (standing_of g st))
     step_are (Stored g q root change st asks stored x) =
         given p following s f fs (λ store. AreOf p (n ∷ ns)) t _ _ _ _ x
         (are_moved p (n ∷ ns) (answered done g ∷ fs) (frames_with root change (answered done g ∷ fs)) (texts_with root change (answered done g ∷ fs)) (answered_are p n ns done g fs (standing_of g st)))
-    step_are (Created g type vs ks st asks are' x) = given p following s f fs (λ store. AreOf p (n ∷ ns)) t _ _ _ _ x (answered_are p n ns _ g fs (standing_of g st))
-    step_are (Called g how q vs y st asks there x) = given p following s f fs (λ store. AreOf p (q ∷ n ∷ ns)) t s _ _ _ x (new_of g how q vs y st asks there)
+    step_are (Created g type vs ks st asks are' room x) = given p following s f fs (λ store. AreOf p (n ∷ ns)) t _ _ _ _ x (answered_are p n ns _ g fs (standing_of g st))
+    step_are (Called g how q vs y st asks there few x) = given p following s f fs (λ store. AreOf p (q ∷ n ∷ ns)) t s _ _ _ x (new_of g how q vs y st asks there)

@@ -319,10 +319,10 @@ module _ (p : Program) (names : HasNames p) (Others : ℕ → Type 0) (following
       given p following s f fs (Keeps ns) t s (with_result following (answer_in v) fs) _ _ x
       (popped_kept p names Others following s f n o (answer_in v) ns fs are known
       (λ real i. left_is p names n r C (other_plainly p o real) s f fs fine (inr i.quiet) i.values v left))
-  step_kept loud fresh (Told g q none st asks x) = given p following s f fs (Keeps (n ∷ ns)) t s _ _ _ x (told_kept g q none st asks)
+  step_kept loud fresh (Told g q none absent st asks x) = given p following s f fs (Keeps (n ∷ ns)) t s _ _ _ x (told_kept g q none st asks)
   step_kept loud fresh (Written g q bytes st asks w x) = given p following s f fs (Keeps (n ∷ ns)) t s _ _ _ x (written_kept g q bytes w st asks)
   step_kept loud fresh (Stored g q root change st asks stored x) = given p following s f fs (Keeps (n ∷ ns)) t _ _ _ _ x (stored_kept g q root change st asks stored)
-  step_kept loud fresh (Created g type vs ks st asks made x) =
+  step_kept loud fresh (Created g type vs ks st asks made room x) =
       given p following s f fs (Keeps (n ∷ ns)) t _ _ _ _ x
       (created_kept g type vs ks _ st asks (λ D plain. first_is D (first_value p) _ (sort_begins p D (simply p D plain))) fresh)
-  step_kept loud fresh (Called g how q vs y st asks there x) = given p following s f fs (Keeps (q ∷ n ∷ ns)) t s _ _ _ x (called_kept loud g how q vs y st asks there)
+  step_kept loud fresh (Called g how q vs y st asks there few x) = given p following s f fs (Keeps (q ∷ n ∷ ns)) t s _ _ _ x (called_kept loud g how q vs y st asks there)

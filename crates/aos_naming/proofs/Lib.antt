@@ -10,5 +10,6 @@ pub mod Traced
 pub mod Tidying
 pub mod Named
 pub mod Alike
+pub mod Acting
 pub mod Beginning
 pub mod Hiding

@@ -236,7 +236,7 @@ module _ (p : Program) (names : HasNames p) (n : ℕ) (r : Routine) (C : Value �
     changes_is g here _ _ _ m (OneWhole t from to new old e e') ok h k d c =
         let read_at = λ (a : _). read_is C a.root a.path (g ∷ fs) s h k in
         placed_is C to.path _ d (overlay_is C _ new old (found_same C _ new e (read_at from)) (found_same C _ old e' (read_at to))) c
-    changes_is g here _ _ _ m (OneText strict from i to room cs old e) ok h k d c =
+    changes_is g here _ _ _ m (OneText strict from i to room cs old fits e) ok h k d c =
         placed_is C to.path _ d (text_is p C (simply p C plainly) cs old (found_same C _ old e (read_is C to.root to.path (g ∷ fs) s h k))) c
 
     abbrev Is : Store → List Frame → Type 0
@@ -248,7 +248,7 @@ module _ (p : Program) (names : HasNames p) (n : ℕ) (r : Routine) (C : Value �
     kind_values following t (Left g q work st asks leaves x) h k new = given p following s f fs Is t s (g ∷ fs) _ _ x ((stands_is g st, h), k)
     kind_values following t (Popped v left x) h k new =
         given p following s f fs Is t s (with_result following (answer_in v) fs) _ _ x (below_are C following (answer_in v) fs (left_is v left) h, k)
-    kind_values following t (Told g q none st asks x) h k new =
+    kind_values following t (Told g q none absent st asks x) h k new =
         let is' = stands_is g st in
         let v = told_as (all_rooted (g ∷ fs) s) q in
         given p following s f fs Is t s (answered v g ∷ fs) _ _ x ((answered_is C v g (told_is g q (is'.variables, variables_are C fs h) k) is', h), k)
@@ -260,11 +260,11 @@ module _ (p : Program) (names : HasNames p) (n : ℕ) (r : Routine) (C : Value �
         let ok = changes_is g (here_of g fs) q root change said.0 stored said.1.0 (is'.variables, variables_are C fs h) k in
         given p following s f fs Is t (store_with root change s) (frames_with root change (answered done g ∷ fs)) _ _ x
         (frames_are C change ok root (answered done g ∷ fs) (answered_is C done g (plainly.int (pos 0)) is', h), store_is C change ok root s k)
-    kind_values following t (Created g type vs ns st asks are x) h k new =
+    kind_values following t (Created g type vs ns st asks are room x) h k new =
         let v = Object (new_number s) in
         given p following s f fs Is t _ (answered v g ∷ fs) _ _ x
         ((answered_is C v g (new _ _ x.store_is) (stands_is g st), h), record { modules = k.modules; objects = object_added C s.objects _ k.objects (first_is C (first_value p) _ (sort_begins p C (simply p C plainly))) })
-    kind_values following t (Called g how q vs y st asks there x) h k new =
+    kind_values following t (Called g how q vs y st asks there few x) h k new =
         let is' = stands_is g st in
         let said = asked_says g st (Calls how q vs) asks in
         let args = called_are (here_of g fs) said.0 how q vs y there said.1.0 (stands_self g st) in
@@ -331,12 +331,12 @@ module _ (p : Program) (names : HasNames p) (n : ℕ) (r : Routine) (following :
       by (Stopped g number code st x) = given p following s f fs Selves t s (g ∷ fs) _ _ x (same g st)
       by (Left g q work st asks leaves x) = given p following s f fs Selves t s (g ∷ fs) _ _ x (same g st)
       by (Popped v left x) = given p following s f fs Selves t s (with_result following (answer_in v) fs) _ _ x (selves_below o following (answer_in v) fs h.selves.1)
-      by (Told g q none st asks x) = given p following s f fs Selves t s (answered _ g ∷ fs) _ _ x (same g st)
+      by (Told g q none absent st asks x) = given p following s f fs Selves t s (answered _ g ∷ fs) _ _ x (same g st)
       by (Written g q bytes st asks w x) = given p following s f fs Selves t s (answered done g ∷ fs) _ _ x (same g st)
       by (Stored g q root change st asks stored x) =
           given p following s f fs Selves t (store_with root change s) (frames_with root change (answered done g ∷ fs)) _ _ x (selves_with o root change (answered done g ∷ fs) (same g st))
-      by (Created g type vs ns st asks are x) = given p following s f fs Selves t _ (answered (Object (new_number s)) g ∷ fs) _ _ x (same g st)
-      by (Called g how q vs y st asks there x) =
+      by (Created g type vs ns st asks are room x) = given p following s f fs Selves t _ (answered (Object (new_number s)) g ∷ fs) _ _ x (same g st)
+      by (Called g how q vs y st asks there few x) =
           let C = IsOther o in
           let plainly = other_plainly p o z in
           let said = asked_says p names n r C plainly s f fs fine (inl h.selves.0) h.values.0 g st (Calls how q vs) asks in

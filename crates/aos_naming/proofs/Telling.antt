@@ -379,7 +379,7 @@ module _ (p : Program) (names : HasNames p) (n : ℕ) (here : Here) (C : Value �
           let us = part Kept (expr_uses p e) (place_uses p q) s in
           tells_bind Any Any (place_of p here q) _ (place_tells q h.0 h.1 us.1) (λ x y.
           tells_bind C Any (value_of p here e) _ (value_tells e (type.Integer W64) h.3 us.0) (λ v c. element_tells n v x))
-      place_tells (Of r) t h s = tells_bind FoundIs Any (rows_of p here r) _ (rows_tell r 0 t h s) (λ x y. tt)
+      place_tells (Of r) t h s = tells_bind FoundIs Any (rows_of p here r) _ (rows_tell r 0 t h.0 s) (λ x y. tt)
       place_tells (Deref e u) t h s = tells_bind C Any (value_of p here e) _ (value_tells e h.0 h.1 s.1) (λ v c. deref_tells v)
       place_tells (Typed q k) t h s = tells_bind Any Any (place_of p here q) _ (place_tells q (Named k) h.0 s) (λ x y. tt)
       place_tells (Guarded q k) t h s = tells_bind Any Any (place_of p here q) _ (place_tells q h.0 h.1 s) (λ x y. record_tells x k)

@@ -150,11 +150,11 @@ module _ (p : Program) (names : HasNames p) where
     step_asks (Stopped g number code st x) = asks_given _ _ _ _ x tt
     step_asks (Left g q work st asks leaves x) = asks_given _ _ _ _ x (left_asks g fs q work asks leaves)
     step_asks (Popped v left x) = asks_given _ _ _ _ x tt
-    step_asks (Told g q none st asks x) = asks_given _ _ _ _ x tt
+    step_asks (Told g q none absent st asks x) = asks_given _ _ _ _ x tt
     step_asks (Written g q bytes st asks w x) = asks_given _ _ _ _ x tt
     step_asks (Stored g q root change st asks stored x) = asks_given _ _ _ _ x tt
-    step_asks (Created g type vs ks st asks are x) = asks_given _ _ _ _ x tt
-    step_asks (Called g how q vs y st asks there x) = asks_given _ _ _ _ x tt
+    step_asks (Created g type vs ks st asks are room x) = asks_given _ _ _ _ x tt
+    step_asks (Called g how q vs y st asks there few x) = asks_given _ _ _ _ x tt
 
   turn_traced : (following : List ℕ) (s : Store) (fs : List Frame) (ns : List ℕ) → AreOf p ns fs →
       let t = turn_at p following fs s in AreOf p (turned_numbers following s fs ns) t.frames.frames × AsksFor t.left t.frames.frames

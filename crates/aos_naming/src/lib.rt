@@ -3,12 +3,10 @@
 
 ghost use Rattle.aos_typed.specs.Program.{Program};
 ghost use Rattle.aos_typed.specs.WellTyped.{IsWellTyped};
-ghost use Rattle.aos_code.specs.declared.image.Image.{Image};
-ghost use Rattle.aos_sim.specs.Shows.{IsCodeOf};
 ghost use Rattle.aos_naming.specs.Hidden.{NewAreHidden};
 
-/// In every state of every execution of a well-typed program of which an image has the code: while an initializer is about to be called on a
-/// new object, or a quiet one runs on it, neither the store nor any other activity names the object.
+/// In every state of every execution of a well-typed program: while an initializer is about to be called on a new object, or a quiet one runs
+/// on it, neither the store nor any other activity names the object.
 pub fn new_objects_are_hidden()
-    ensures { (p : Program) (image : Image) → IsWellTyped p → IsCodeOf p image → NewAreHidden p }
+    ensures { (p : Program) → IsWellTyped p → NewAreHidden p }
 {}

@@ -3,6 +3,7 @@ use Rattle.std.proofs.Common.{false, ◌≡◌, ◌≤◌, ℕ, suc, ◌+◌, Li
 use Rattle.std.specs.Prelude.{Bool, slice_get, option_map}
 use Rattle.std.proofs.lemmas.Option.{slice_get-map}
 use Rattle.aos_base.specs.Rooted.{by_number}
+use Rattle.aos_base.specs.declared.text.Pos.{Pos}
 use Rattle.aos_code.specs.declared.instr.Instr.TheVariants.{Return, Fail}
 use Rattle.aos_code.specs.declared.image.Body.{Body}
 use Rattle.aos_code.specs.declared.image.Image.{Image}
@@ -40,14 +41,14 @@ module _ (p : Program) (o : Option Procedure) (image : Image) (own depth : ℕ) 
   end_closed : (at : ℕ) → Closed image own role.Procedure depth (end_code p o) at []
   end_closed at = by o refl
     where
-      of_result : (name : List ℕ) (of : Option ℕ) (initial : Bool) (parameters : List Parameter) (locals : List Variable) (result : Option TType) (body : Carried) → o ≡ Some (record { name = name; of = of; is_initializer = initial; parameters = parameters; locals = locals; result = result; body = body }) → Closed image own role.Procedure depth (end_code p (Some (record { name = name; of = of; is_initializer = initial; parameters = parameters; locals = locals; result = result; body = body }))) at []
-      of_result name of initial parameters locals None body e =
+      of_result : (name : List ℕ) (place : Pos) (of : Option ℕ) (initial : Bool) (parameters : List Parameter) (locals : List Variable) (result : Option TType) (body : Carried) → o ≡ Some (record { name = name; at = place; of = of; is_initializer = initial; parameters = parameters; locals = locals; result = result; body = body }) → Closed image own role.Procedure depth (end_code p (Some (record { name = name; at = place; of = of; is_initializer = initial; parameters = parameters; locals = locals; result = result; body = body }))) at []
+      of_result name place of initial parameters locals None body e =
           ends image own role.Procedure depth Return at [] [] (finds_nothing (ap (λ x. option_map (λ t. cell_kind p.types (id_of t)) (result_of x)) e)) refl (omega arith) (λ whole q. refl)
-      of_result name of initial parameters locals (Some t) body e = ends image own role.Procedure depth (Fail 10) at [] [] refl refl (omega arith) (λ whole q. refl)
+      of_result name place of initial parameters locals (Some t) body e = ends image own role.Procedure depth (Fail 10) at [] [] refl refl (omega arith) (λ whole q. refl)
 
       by : (x : Option Procedure) → o ≡ x → Closed image own role.Procedure depth (end_code p x) at []
       by None e = ends image own role.Procedure depth Return at [] [] (finds_nothing (ap (λ x. option_map (λ t. cell_kind p.types (id_of t)) (result_of x)) e)) refl (omega arith) (λ whole q. refl)
-      by (Some q) e = of_result q.name q.of q.is_initializer q.parameters q.locals q.result q.body e
+      by (Some q) e = of_result q.name q.at q.of q.is_initializer q.parameters q.locals q.result q.body e
 
   -- a routine is sound with room for as many operands as its statements need, where it keeps what they keep
   pub body_sound : (b : Carried) → keeps_in (numbered image.shapes.items own) ≡ keeps_of b.statements → AreStatements p o b.statements → (home : ℕ) → AreLinked (conditions p) home o b.statements → body_need b.statements ≤ depth → IsSound image own role.Procedure (body_code p o b) depth
@@ -80,7 +81,7 @@ module _ (p : Program) (image : Image) (well : IsWellTyped p) (ok : IsCodeOf p i
       record {
         routine = r;
         are = s.1;
-        sound = λ need le. subst (λ c. IsSound image (k + 1) role.Procedure c need) s.2 (body_sound p r.own image (k + 1) need (has_numbers p image well ok (k + 1) r there) r.body (keeps_known p (tables_of image) (has_shapes p image ok (has_types p image.bodies.items image.conds.items image.shapes.items image.modules.items image.types.items well ok)) (k + 1) r there) typed r.home (all_get (IsLinkedIn p) (routines p) k r (linked p well.conditions) s.1) le);
+        sound = λ need le. subst (λ c. IsSound image (k + 1) role.Procedure c need) s.2 (body_sound p r.own image (k + 1) need (has_numbers p image well ok (k + 1) r there) r.body (keeps_known p (tables_of p image) (has_shapes p image ok (has_types p well)) (k + 1) r there) typed r.home (all_get (IsLinkedIn p) (routines p) k r (linked p well.conditions) s.1) le);
       }
 
   -- and each with as many operands as it says, where that is what its statements need

@@ -9,3 +9,4 @@ pub mod Statements
 pub mod Bodies
 pub mod Awaited
 pub mod Conditions
+pub mod Images

@@ -67,8 +67,8 @@ pub record HasNumbers (p : Program) (o : Option Procedure) (image : Image) (own 
   pub predeclared : HasPredeclared p
   pub objects : (k : ℕ) → is_object (row_of p.types (id_of (Named k))) ≡ true → is_some (numbered image.types.items (k + 1)) ≡ true
   pub records : (k : ℕ) → is_record (row_of p.types (id_of (Named k))) ≡ true → is_some (numbered image.types.items (k + 1)) ≡ true
-  pub shapes : HasShapes p (tables_of image)
-  pub mine : IsOwn p o (tables_of image) own
+  pub shapes : HasShapes p (tables_of p image)
+  pub mine : IsOwn p o (tables_of p image) own
   pub methods : HasMethods p
   pub slots : (t k n : ℕ) → t < length p.objects → slice_get (slots_of p (own_numbers p) t) k ≡ Some n → has_slot image.types.items k ≡ true
   pub plain : (m k : ℕ) (q : Procedure) → procedure_in p m k ≡ Some q → q.of ≡ None
@@ -241,7 +241,7 @@ called_on p image own r x is known s e = ap is_method is ∙ by r.own (ap (λ z.
 -- so it is where the image has the code of the program
 pub has_numbers : (p : Program) (image : Image) → IsWellTyped p → IsCodeOf p image → (own : ℕ) (r : Routine) → by_number own (routines p) ≡ Some r → HasNumbers p r.own image own
 has_numbers p image well ok own r there =
-    let types = has_types p image.bodies.items image.conds.items image.shapes.items image.modules.items image.types.items well ok in
+    let types = has_types p well in
     let shaped = has_shapes p image ok types in
     let x = shaped.shapes own r there in
     record {
@@ -256,7 +256,7 @@ has_numbers p image well ok own r there =
       slots = λ t k n lt e. slot_there image.types.items t k n (shaped.methods t k n lt e);
       plain = types.plain;
       selfs = λ s e. called_on p image own r x.0 x.1 x.2 s e;
-      mine = own_known p (tables_of image) shaped own r there;
+      mine = own_known p (tables_of p image) shaped own r there;
       locals = λ k t h. (part_in p image own r x.0 x.1 x.2 k (cells_for p.types (id_of t)) (local_part p r.own k t h)).place;
       conditions = sym (length-map image.conds.items (λ (b : Body). b.code.items)) ∙ ap length ok.conditions
           ∙ length-map (conditions p) (λ (c : Condition). condition_code p c.own c.expression);

@@ -1,7 +1,7 @@
 -- The code of each place and each expression is a piece that gives one operand more, and that of what a call hands over one that gives
 -- what the call takes.
 use Rattle.std.proofs.Common.{◌≡◌, ◌≤◌, ◌<◌, ◌⊎◌, inl, inr, zero, suc, true, ℕ, ◌+◌, pos, List, [], ◌∷◌, ◌++◌, Option, Some, length, map, refl, sym, ap, ◌∙◌, arith, append_assoc, length-append}
-use Rattle.std.specs.Prelude.{IsTrue, Bool, false, is_some as has_type, replicate, reverse, option_map, nat_lt, not, ◌&&◌}
+use Rattle.std.specs.Prelude.{IsTrue, Bool, false, is_some as has_type, replicate, reverse, option_map, nat_lt, ◌&&◌}
 use Rattle.std.proofs.lemmas.Bool.{lt-ltb}
 use Rattle.std.proofs.lemmas.List.{length-replicate, length-reverse}
 use Rattle.aos_base.specs.Operators.{flag}
@@ -21,7 +21,7 @@ use Rattle.aos_types.specs.Shape.{size}
 use Rattle.aos_typed.specs.Open.{open_dimensions}
 use Rattle.aos_sound.specs.declared.effect.Next.TheVariants.{On}
 use Rattle.aos_sound.specs.declared.stand.Role.{Role}
-use Rattle.aos_sound.specs.Sound.{Kinds, row, without, topped, given, object_below, called, sent, applied, is_some, is_method, is_plain, has_slot, is_type_or_none, frame_cells, is_procedure, next_of, after, may_stand}
+use Rattle.aos_sound.specs.Sound.{Kinds, row, without, topped, given, object_below, called, sent, applied, is_some, has_slot, is_type_or_none, frame_cells, is_procedure, next_of, after, may_stand}
 use Rattle.aos_base.specs.Rooted.{by_number}
 use Rattle.aos_typed.specs.Methods.{method_number}
 use Rattle.aos_typed.specs.Formals.{pattern_of}
@@ -210,9 +210,6 @@ module _ (p : Program) (o : Option Procedure) (image : Image) (own : ℕ) (role 
   pub number_there : (n home : ℕ) (q : Procedure) → by_number n (routines p) ≡ Some (routine_of home q) → is_some (numbered image.shapes.items n) ≡ true
   number_there n home q there = ap is_some (has.shapes.shapes n (routine_of home q) there).1
 
-  method_shape : (n home : ℕ) (q : Procedure) → by_number n (routines p) ≡ Some (routine_of home q) → has_type q.of ≡ true → is_method (numbered image.shapes.items n) ≡ true
-  method_shape n home q there is = let x = has.shapes.shapes n (routine_of home q) there in ap is_method x.1 ∙ ap (λ z. z.method) x.2 ∙ is
-
   applied_takes : (n home : ℕ) (q : Procedure) → by_number n (routines p) ≡ Some (routine_of home q) → (s : Kinds) → applied (numbered image.shapes.items n) (handed_for q ++ (C ∷ s)) ≡ given (given_by q) (Some s)
   applied_takes n home q there s =
       let x = has.shapes.shapes n (routine_of home q) there in
@@ -220,10 +217,6 @@ module _ (p : Program) (o : Option Procedure) (image : Image) (own : ℕ) (role 
       ap (λ f. applied f (ks ++ (C ∷ s))) x.1
       ∙ (λ j. given ((x.2 j).result) (without (reverse (kinds_of (x.2 j).params) ++ C ∷ []) (ks ++ (C ∷ s))))
       ∙ ap (given (given_by q)) (taken_all ks (C ∷ []) s)
-
-  -- a procedure of a module is called on no object
-  plain_shape : (n home : ℕ) (q : Procedure) → by_number n (routines p) ≡ Some (routine_of home q) → has_type q.of ≡ false → is_plain (numbered image.shapes.items n) ≡ true
-  plain_shape n home q there is = let x = has.shapes.shapes n (routine_of home q) there in ap is_plain x.1 ∙ ap (λ z. not z.method) x.2 ∙ ap not is
 
   -- what stands for the procedures of a procedure type has its body's number
   pattern_number : (t : ℕ) (q : Procedure) → pattern_of p (Named t) ≡ Some q → (home : ℕ) × (by_number (body_number p t) (routines p) ≡ Some (routine_of home q))
@@ -259,8 +252,8 @@ module _ (p : Program) (o : Option Procedure) (image : Image) (own : ℕ) (role 
   call_stands (Dispatched e t k) q h whole at =
       let f = has.methods.found t k q h.2 in
       let n = method_number p t k in
-      ap (λ b. b && (is_method (numbered image.shapes.items n) && has_slot image.types.items k)) performs
-      ∙ ap (λ b. b && has_slot image.types.items k) (method_shape n f.home q f.there (ap has_type f.is))
+      ap (λ b. b && (is_some (numbered image.shapes.items n) && has_slot image.types.items k)) performs
+      ∙ ap (λ b. b && has_slot image.types.items k) (number_there n f.home q f.there)
       ∙ has.slots t k n f.below f.number
   call_stands (Upper t k) q h whole at =
       let f = has.methods.found t k q h.3 in
@@ -315,7 +308,7 @@ module _ (p : Program) (o : Option Procedure) (image : Image) (own : ℕ) (role 
         one (i.Frame (own_cell p o k)) refl refl (omega (arith, room)) (λ whole q. elim h [ inl l ↦ has.locals k t l | inr a ↦ (has.parameters k a.0 a.1).place ])
     place_piece (Passed k) t h at s room = param_piece k h.0 h.1 (omega (arith, passed_size p.types h.0 h.2.0 h.2.1)) at s (omega (arith, room))
     place_piece (Of r) t h at s room =
-        left_with (ap (λ j. opened j s) (dimensions_are p o r 0 t h)) (rows_piece r 0 t h at s room)
+        left_with (ap (λ j. opened j s) (dimensions_are p o r 0 t h.0)) (rows_piece r 0 t h.0 at s room)
     place_piece (Deref e u) t h at s room =
         let k = some_need e in
         then_one (as_kind (target_kind p has.predeclared h.0 (id_of u) h.2) (value_piece e h.0 h.1 at s room)) (i.Deref 0) refl refl (omega (arith, room, k)) (λ whole q. refl)
@@ -503,7 +496,7 @@ module _ (p : Program) (o : Option Procedure) (image : Image) (own : ℕ) (role 
     value_piece (ProcedureOf m k) t h at s room =
         let n = procedure_number p m k in
         as_kind (sym (pattern_kind p has.predeclared t h.2.0 h.2.1))
-        (one (i.Proc n) refl refl (omega (arith, room)) (λ whole q. plain_shape n m h.0 (routine_there p m k h.0 h.1) (ap has_type (has.plain m k h.0 h.1))))
+        (one (i.Proc n) refl refl (omega (arith, room)) (λ whole q. number_there n m h.0 (routine_there p m k h.0 h.1)))
     value_piece (MethodOf a j k) t h at s room =
         let some = some_need a in
         let f = has.methods.found j k h.2.0 h.2.1 in
@@ -524,7 +517,7 @@ module _ (p : Program) (o : Option Procedure) (image : Image) (own : ℕ) (role 
     named_piece (Lit l) h at s room =
         recoded (ap (λ x. literal_code x ∷ []) (sym h)) (one i.NilCall refl refl (omega (arith, room)) (λ whole q. refl))
     named_piece (ProcedureOf m k) h at s room =
-        one (i.Proc (procedure_number p m k)) refl refl (omega (arith, room)) (λ whole q. plain_shape (procedure_number p m k) m h.0 (routine_there p m k h.0 h.1) (ap has_type (has.plain m k h.0 h.1)))
+        one (i.Proc (procedure_number p m k)) refl refl (omega (arith, room)) (λ whole q. number_there (procedure_number p m k) m h.0 (routine_there p m k h.0 h.1))
     named_piece (MethodOf a j k) h at s room =
         let some = some_need a in
         let f = has.methods.found j k h.2.0 h.2.1 in

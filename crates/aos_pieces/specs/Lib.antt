@@ -1,2 +1,3 @@
 pub mod Piece
 pub mod Bodies
+pub mod Images

@@ -7,6 +7,7 @@ ghost use Rattle.aos_typed.specs.WellTyped.{IsWellTyped};
 ghost use Rattle.aos_sim.specs.Need.{HasDepthsOf};
 ghost use Rattle.aos_sim.specs.Shows.{IsCodeOf};
 ghost use Rattle.aos_pieces.specs.Bodies.{AreBodiesSound, AreSound, AreConditionsSound};
+ghost use Rattle.aos_pieces.specs.Images.{IsSoundImageOf};
 
 /// Each body of an image that has a well-typed program's code is sound as the procedure of its
 /// number, with room for as many operands as its statements need; and so with as many as it says,
@@ -21,4 +22,11 @@ pub fn law_of_soundness()
 /// evaluated, with room for as many operands as its expression needs.
 pub fn law_of_conditions()
     ensures { (p : Program) (image : Image) → IsWellTyped p → IsCodeOf p image → AreConditionsSound p image }
+{}
+
+/// An image that has a well-typed program's code, and for each body and condition as many operands as it needs, is sound as a whole: its
+/// bodies as the procedures of their numbers, its conditions as those of the procedures over whose frames they are evaluated, each with
+/// room for as many operands as it says; and each procedure that it names has a body.
+pub fn law_of_images()
+    ensures { (p : Program) (image : Image) → IsWellTyped p → IsCodeOf p image → HasDepthsOf p image → IsSoundImageOf p image }
 {}

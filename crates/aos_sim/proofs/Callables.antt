@@ -38,7 +38,7 @@ use Rattle.aos_sim.proofs.Objects.{object_target}
 use Rattle.aos_sim.proofs.Sends.{no_type}
 
 -- what stands for others is no NIL
-called_by : (program : Program) (w : World Sort) (q : Option Procedure) (n o : ℕ) → StandsFor program w q n o → IsCalledBy program w q n o
+pub called_by : (program : Program) (w : World Sort) (q : Option Procedure) (n o : ℕ) → StandsFor program w q n o → IsCalledBy program w q n o
 called_by program w q zero o h = let e = h.there in absurd (cc e)
 called_by program w q (suc n) o h = h
 
@@ -47,7 +47,7 @@ abbrev pub IsProcedureValue : World Sort → Value → Type 0
 IsProcedureValue w v = v ≡ Callable (number_in_value v) (instance_in v)
 
 -- formals of one procedure alone
-one_formals : (program : Program) (r q : Procedure) → HasFormals program.types r q → (x : Procedure) → Some q ≡ Some x → HasFormals program.types r x
+pub one_formals : (program : Program) (r q : Procedure) → HasFormals program.types r q → (x : Procedure) → Some q ≡ Some x → HasFormals program.types r x
 one_formals program r q h x e = let same : q ≡ x = cc in subst (HasFormals program.types r) same h
 
 module _ (program : Program) (own : Option Procedure) (tables : Tables) (number : ℕ) (here : Here) (code : List Instr) where

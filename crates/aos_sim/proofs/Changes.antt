@@ -50,7 +50,7 @@ amount_basic (change.Subtract w) = refl
 amount_basic change.Include = refl
 amount_basic change.Exclude = refl
 
-changed_value : (program : Program) (c : Changing) → is_value program.types (changed_type c) ≡ true
+pub changed_value : (program : Program) (c : Changing) → is_value program.types (changed_type c) ≡ true
 changed_value program (change.Add w) = refl
 changed_value program (change.Subtract w) = refl
 changed_value program change.Include = refl

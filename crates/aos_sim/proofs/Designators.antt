@@ -48,7 +48,7 @@ use Rattle.aos_sim.proofs.Runs.{Run, Onward, Tables, numbers, pushed_reverse, on
 use Rattle.aos_layout.proofs.Joins.{join_assoc}
 use Rattle.aos_sim.proofs.Extended.{whole_or, field_part, field_offset, record_no_object, no_extension, record_extension, begins_with, whole_begins}
 use Rattle.aos_sim.proofs.Parts.{own_contents, shape_on, cell_on, each_repeated, each_nested, each_join, variable_plain, object_plain, whole_ends, array_shape, element_part, element_offset, row_part, row_offset, variable_size, part_of_row, nested_size}
-use Rattle.aos_sim.proofs.Does.{HasTypes, alias_sort, IsPlaceSort, lengths_are, spot_cell, HasText, HasRoom, HasPredeclared, characters, IsReached, Given, Does, bind_val, does_bind, does_more, place_grows}
+use Rattle.aos_sim.proofs.Does.{HasFewCells, HasTypes, alias_sort, IsPlaceSort, lengths_are, spot_cell, HasText, HasRoom, HasPredeclared, characters, IsReached, Given, Does, bind_val, does_bind, does_more, place_grows}
 use Rattle.aos_sim.proofs.Variables.{basic_is_one, variable_there, variable_few, cell_there, constant_there, constant_few, constant_cell, local_there, alias_there, open_there}
 use Rattle.aos_sim.proofs.Evaluates.{OfType, number_in, pushed, OnTop, OnStack, Brings, ComesTo, Remain, Stays, Evaluates, pushed-append, front_does, piece_does, pieces_do, two_do}
 
@@ -226,7 +226,7 @@ text_cells w x = place_in w x.place ∷ (cell_of w (text_length x) ∷ [])
 
 -- An index
 
-natural_below : (n m : ℕ) (z : ℤ) → natural n z ≡ Some m → m < n
+pub natural_below : (n m : ℕ) (z : ℤ) → natural n z ≡ Some m → m < n
 natural_below n m (pos j) e = by (nat_lt j n) refl e
   where
     by : (b : Bool) → nat_lt j n ≡ b → (if b then Some j else None) ≡ Some m → m < n
@@ -234,10 +234,10 @@ natural_below n m (pos j) e = by (nat_lt j n) refl e
     by false l f = absurd (cc)
 natural_below n m (negsuc j) e = absurd (cc)
 
-element_there : (n k : ℕ) (v : Value) (p : Spot) → natural n (number_of v) ≡ Some k → element_of n v p ≡ Val (part_of k p)
+pub element_there : (n k : ℕ) (v : Value) (p : Spot) → natural n (number_of v) ≡ Some k → element_of n v p ≡ Val (part_of k p)
 element_there n k v p e = rw e refl
 
-no_element : (n : ℕ) (v : Value) (p : Spot) → natural n (number_of v) ≡ None → element_of n v p ≡ Traps 2 0
+pub no_element : (n : ℕ) (v : Value) (p : Spot) → natural n (number_of v) ≡ None → element_of n v p ≡ Traps 2 0
 no_element n v p e = rw e refl
 
 -- Lengths on the stack
@@ -280,7 +280,7 @@ counted_all (n ∷ ns) zs f s =
     ∙ counted_all ns zs (λ zs' s'. on_number (λ z s''. f (z ∷ zs') s'') s') (Num n ∷ s)
 
 -- an array type with these lengths has rows of them
-nested_shape : (rows : List TypeRow) → IsRanked rows → (ns : List ℕ) (t of : TypeId) → IsArrayOf rows ns t of → variable_shape rows t ≡ nested ns (variable_shape rows of)
+pub nested_shape : (rows : List TypeRow) → IsRanked rows → (ns : List ℕ) (t of : TypeId) → IsArrayOf rows ns t of → variable_shape rows t ≡ nested ns (variable_shape rows of)
 nested_shape rows ranked [] t of h = ap (variable_shape rows) h
 nested_shape rows ranked (n ∷ ns) t of h = array_shape rows ranked t h.0 n h.1 ∙ ap (repeated n) (nested_shape rows ranked ns h.0 of h.2)
 
@@ -337,13 +337,13 @@ module _ (program : Program) (own : Option Procedure) (tables : Tables) (number 
 
   -- Variables
 
-  pub variable_does : HasTypes program → (m k : ℕ) (t : TType) (at : ℕ) → variable_type program m k ≡ Some t → Finds ⊥ t (place_code program own (ModuleVar m k) at) (place_of program here (ModuleVar m k)) at
-  variable_does typed m k t at of w known rest keeps s =
+  pub variable_does : HasTypes program → HasFewCells program → (m k : ℕ) (t : TType) (at : ℕ) → variable_type program m k ≡ Some t → Finds ⊥ t (place_code program own (ModuleVar m k) at) (place_of program here (ModuleVar m k)) at
+  variable_does typed few m k t at of w known rest keeps s =
       record {
         is = record {
           shape = variable_shape program.types (id_of t);
           there = variable_there program w known.modules m k t of;
-          few = variable_few program w known.modules m k t of typed;
+          few = variable_few program w known.modules m k t of few;
           holds = variable_holds program typed (id_of t);
           plain = variable_plain program.types (id_of t);
           names = λ n. absurd n;
@@ -511,14 +511,14 @@ module _ (program : Program) (own : Option Procedure) (tables : Tables) (number 
       with_shape [] of s h = subst (λ v. HoldsType program v s) of h
       with_shape (n ∷ ns) of s h = holds_exactly program typed (id_of u) s (ap is_record of.1) h ∙ nested_shape program.types typed.ranked (n ∷ ns) (id_of u) (id_of t) of
 
-  pub constant_rows : HasTypes program → (bounded : Type 0) (m k n : ℕ) (at : ℕ) → (bounded → All IsLength (n ∷ [])) → IsConstantText program (ModuleVar m k) n → FindsRows bounded 1 type.Char (rows_code program own (Known (ModuleVar m k) (n ∷ [])) at) (rows_of program here (Known (ModuleVar m k) (n ∷ []))) at
-  constant_rows typed bounded m k n at bound of =
+  pub constant_rows : HasTypes program → HasFewCells program → (bounded : Type 0) (m k n : ℕ) (at : ℕ) → (bounded → All IsLength (n ∷ [])) → IsConstantText program (ModuleVar m k) n → FindsRows bounded 1 type.Char (rows_code program own (Known (ModuleVar m k) (n ∷ [])) at) (rows_of program here (Known (ModuleVar m k) (n ∷ []))) at
+  constant_rows typed few bounded m k n at bound of =
       known_does bounded (n ∷ []) type.Char (place_code program own (ModuleVar m k) at) (place_of program here (ModuleVar m k)) at bound
       (λ w known rest keeps s. record {
         is = record {
           shape = characters n;
           there = constant_there program w known.modules m k n of;
-          few = constant_few program w known.modules m k n of typed;
+          few = constant_few program w known.modules m k n of few;
           holds = ap (repeated n) (sym (basic_is_one program typed.predeclared type.Char refl));
           plain = each_repeated IsPlain n (One (Plain (id_of type.Char))) tt;
         };

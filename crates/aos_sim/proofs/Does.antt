@@ -24,7 +24,8 @@ use Rattle.aos_typed.specs.declared.tree.TType.TheVariants as type
 use Rattle.aos_typed.specs.Numbers.{id_of, id_of_made, predeclared_types, predeclared_rows}
 use Rattle.aos_typed.specs.Open.{open_dimensions, open_element}
 use Rattle.aos_typed.specs.Program.{Parameter, Procedure, Program}
-use Rattle.aos_typed.specs.Methods.{slots, own_numbers}
+use Rattle.aos_typed.specs.Methods.{slots, own_numbers, body_type, is_active}
+use Rattle.aos_code.specs.Machine.{has_active_body}
 use Rattle.aos_typed.specs.Routines.{Routine, parameters_of, self_type, has_self, result_of, routines}
 use Rattle.aos_typed.specs.Sort.{Sort, Plain, Variable, Alias, Elements, Length, variable_shape}
 use Rattle.aos_typed.specs.Spot.{Spot}
@@ -109,26 +110,40 @@ HasRoom w p v = (n : ℕ) × (v ≡ Int (pos n)) × HasCharacters w p n × (0 < 
 abbrev pub HasPredeclared : Program → Type 0
 HasPredeclared p = (k : ℕ) → k < predeclared_types → slice_get p.types k ≡ slice_get predeclared_rows k
 
+-- a module has so few scalars that their cells have numbers of 32 bits
+abbrev pub HasFewCells : Program → Type 0
+HasFewCells p = (m : ℕ) (s : Shape Sort) → slice_get (map (module_shape p) p.modules) m ≡ Some s → size s < 2 ^ 32
+
 -- what holds of a program's types, and of its modules: the predeclared types stand first, no type contains itself, a base has
--- fields, a module has so few scalars that their cells have numbers of 32 bits, a module's procedure is no method, and methods override
--- one another in their slots
+-- fields, a module's procedure is no method, and methods override one another in their slots
 pub record HasTypes (p : Program) : Type 0 where
   pub predeclared : HasPredeclared p
   pub ranked : IsRanked p.types
   pub bases : (t b : TypeId) → base_of (row_of p.types t) ≡ Some b → has_fields (row_of p.types b) ≡ true
   pub record_bases : (t b : TypeId) → base_of (row_of p.types t) ≡ Some b → is_record (row_of p.types b) ≡ is_record (row_of p.types t)
   pub beside : length p.types ≡ length p.objects + predeclared_types
-  pub few : (m : ℕ) (s : Shape Sort) → slice_get (map (module_shape p) p.modules) m ≡ Some s → size s < 2 ^ 32
   pub plain : (m k : ℕ) (q : Procedure) → procedure_in p m k ≡ Some q → q.of ≡ None
   pub methods : HasMethods p
 
 -- the shapes are those of the program's routines, in the order of their numbers, and types extend one another as the program's do,
--- have cells of the same kinds, and the methods with the same numbers
+-- have cells of the same kinds, the methods with the same numbers, and active bodies where the program's do; and modules have few
+-- cells
 pub record HasShapes (p : Program) (tables : Tables) : Type 0 where
   pub shapes : (q : ℕ) (r : Routine) → by_number q (routines p) ≡ Some r → (x : ProcShape) × (numbered tables.procedures q ≡ Some x) × (seen_shape x ≡ shape_of p.types r)
   pub extend : (d t : ℕ) → extends tables.types d (suc t) ≡ comes_to p.types (id_of_made d) (id_of_made (suc t))
   pub kinds : (k : ℕ) → k < length p.objects → (d : TypeDesc) × (numbered tables.types (suc k) ≡ Some d) × (d.kinds.items ≡ made_kinds p.types (id_of_made (suc k)))
   pub methods : (t k n : ℕ) → t < length p.objects → slice_get (slots p (own_numbers p) t) k ≡ Some n → method_at tables.types (suc t) k ≡ Some n
+  pub few : HasFewCells p
+  pub dimensions : (t : ℕ) → tables.dimensions t ≡ open_dimensions p.types (id_of_made t)
+  pub starts : (t b : ℕ) → body_type p t ≡ Some b → is_active p b ≡ true → has_active_body (numbered tables.types (suc t)) ≡ true
+
+-- the type of what is made so has an active body
+pub record HasActiveBody (p : Program) (m : Made) : Type 0 where
+  pub of : ℕ
+  pub body : ℕ
+  pub made : m.type ≡ suc of
+  pub has : body_type p of ≡ Some body
+  pub active : is_active p body ≡ true
 
 -- What code knows of a world: the shapes of the program's modules, and that of its own frame.
 
@@ -296,7 +311,8 @@ module _ (program : Program) where
   module _ (here : Here) where
     -- a question is at places that there are, and its values are of the sorts that it takes: what is read is a scalar, whose cell
     -- is of the kind that its code takes, what is copied is a record or an array, a text is so many characters, of which one that is
-    -- put somewhere has room for a 0X, what is called gets what its parameters take, a condition is one over the frame, and what a
+    -- put somewhere has room for a 0X, what is called gets what its parameters take, what is started has an active body, a condition is
+    -- one over the frame, and what a
     -- parameter stands for is asked of the frame itself; no program asks for an end, which follows its statements, nor for a region
     abbrev pub Valid : World Sort → source.Question → Type 0
     Valid w (Reads t p) = (is_value program.types t ≡ true) × HasScalar w p (Plain (id_of t))
@@ -305,7 +321,7 @@ module _ (program : Program) where
     Valid w (Makes t vs) =
         (k : ℕ) × (t ≡ suc k) × (k < length program.objects) × (length vs ≡ open_dimensions program.types (id_of_made t)) × AreIntegers vs
         × (is_made program.types (id_of_made t) ≡ true)
-    Valid w (Starts v) = IsMade v
+    Valid w (Starts v) = (k : ℕ) × (v ≡ Object (suc k)) × (m : Made) × (w.made (suc k) ≡ Some m) × HasActiveBody program m
     Valid w Enters = ⊥
     Valid w Leaves = ⊥
     Valid w (Awaits c) =
@@ -476,7 +492,7 @@ module _ (program : Program) (here : Here) where
     placed_same (Reads t p) h = ap (Reads (kind_of program.types t)) (addr_grows p (One (Plain (id_of t))) h.1)
     placed_same (Stores p v) h = λ i. Stores (addr_grows p (One h.0) h.2 i) ((values_kept program).cells w w' g h.0 v h.3 i)
     placed_same (Makes t vs) h = ap (Makes t) (integers_cells vs h.4)
-    placed_same (Starts v) h = ap Starts (made_cell v h)
+    placed_same (Starts v) h = ap Starts (made_cell v (h.0, h.1))
     placed_same Enters h = absurd h
     placed_same Leaves h = absurd h
     placed_same (Awaits c) h = refl
@@ -504,7 +520,7 @@ module _ (program : Program) (here : Here) where
     valid_grows (Reads t p) h = (h.0, place_grows p (One (Plain (id_of t))) h.1)
     valid_grows (Stores p v) h = (h.0, h.1, place_grows p (One h.0) h.2, (values_kept program).is w w' g h.0 v h.3)
     valid_grows (Makes t vs) h = h
-    valid_grows (Starts v) h = h
+    valid_grows (Starts v) h = (h.0, h.1, h.2, g.made (suc h.0) h.2 h.3, h.4)
     valid_grows Enters h = absurd h
     valid_grows Leaves h = absurd h
     valid_grows (Awaits c) h = (h.0, h.1, h.2, h.3, knows_grows program h.0.own here w w' g h.4)

@@ -91,7 +91,7 @@ module _ (rows : List TypeRow) (home : ℕ) (body : Body) where
   abbrev known_of : Option Procedure → Known
   known_of own = shape_of rows (record { home = home; own = own; body = body })
 
-  abbrev parts_of : Option Procedure → List (Shape Kind)
+  abbrev pub parts_of : Option Procedure → List (Shape Kind)
   parts_of own = map (parameter_cells rows) (parameters_of own) ++ variable_cells rows (locals_of own)
 
   pub known_parameters : (own : Option Procedure) → (known_of own).params ≡ map (parameter_kind rows) (parameters_of own)
@@ -230,7 +230,7 @@ module _ (program : Program) where
 
   -- A call
 
-  module _ (ranked : IsRanked program.types) (ps ms : List ℕ) (made : List Made) (fs : List S.Frame) (s : Store) (y : Rooted (List Cell)) (shows : Shows (Is program) cell_of (scheme program) made (shapes_of fs) (S.all_rooted fs s) y) (r : Routine) (vs : List Value) (given : Given program (world_of program made (shapes_of fs)) (parameters_of r.own) (S.arguments_in (has_self r.own) vs)) (n : ℕ) (shape : ProcShape) (is : seen_shape shape ≡ shape_of program.types r) where
+  module _ (ranked : IsRanked program.types) (ps ms : List ℕ) (made : List Made) (fs : List S.Frame) (s : Store) (y : Rooted (List Cell)) (shows : Shows (Is program) cell_of (scheme program) made (shapes_of fs) (S.all_rooted fs s) y) (r : Routine) (vs : List Value) (given : Given program (world_of program made (shapes_of fs)) (parameters_of r.own) (S.arguments_in (has_self r.own) vs)) (kinds : List Kind) (kinds_are : kinds ≡ leaves (row (parts_of rows r.home r.body r.own))) where
     abbrev called : S.Frame
     called = S.called_frame program ms r vs fs s
 
@@ -259,25 +259,19 @@ module _ (program : Program) where
     abbrev known_parts : List (Shape Kind)
     known_parts = parts_of rows r.home r.body r.own
 
-    abbrev kinds : List Kind
-    kinds = shape.kinds.items
-
-    pub alike : Alike program made (shapes_of fs) (S.all_rooted fs s) y shows above (frame_grows (scheme program) made called.shape (shapes_of fs)) (length fs) ps ranked (map (taken_as rows) (parameters_of r.own)) handed (I.handed ps (length fs) y (map (parameter_kind rows) (parameters_of r.own)) (map (cell_of now) us) (length kinds)) copy (length kinds)
-    alike =
+    pub call_alike : Alike program made (shapes_of fs) (S.all_rooted fs s) y shows above (frame_grows (scheme program) made called.shape (shapes_of fs)) (length fs) ps ranked (map (taken_as rows) (parameters_of r.own)) handed (I.handed ps (length fs) y (map (parameter_kind rows) (parameters_of r.own)) (map (cell_of now) us) (length kinds)) copy (length kinds)
+    call_alike =
         handed_alike program made (shapes_of fs) (S.all_rooted fs s) y shows above (frame_grows (scheme program) made called.shape (shapes_of fs)) (length fs) ps ranked (parameters_of r.own) us copy (length kinds) given
 
-    same : SameSizes front known_parts
+    pub same : SameSizes front known_parts
     same =
         same_both (shapes_in handed.parameters) (map (parameter_cells rows) (parameters_of r.own)) (shapes_in own_locals) (variable_cells rows (locals_of r.own))
-        (parameters_same (parameters_of r.own) handed.parameters alike.parts) (locals_same ms (locals_of r.own))
-
-    kinds_are : kinds ≡ leaves (row known_parts)
-    kinds_are = ap (λ z. z.kinds) is ∙ known_kinds rows r.home r.body r.own
+        (parameters_same (parameters_of r.own) handed.parameters call_alike.parts) (locals_same ms (locals_of r.own))
 
     many_kinds : length kinds ≡ size (row front)
     many_kinds = ap length kinds_are ∙ kinds_counted (row known_parts) ∙ sym (same_size front known_parts same)
 
-    split : shapes_in (handed.parameters ++ (own_locals ++ handed.copies)) ≡ front ++ shapes_in handed.copies
+    pub split : shapes_in (handed.parameters ++ (own_locals ++ handed.copies)) ≡ front ++ shapes_in handed.copies
     split =
         map-append (λ p. p.shape) handed.parameters (own_locals ++ handed.copies)
         ∙ ap (λ l. shapes_in handed.parameters ++ l) (map-append (λ p. p.shape) own_locals handed.copies)
@@ -287,22 +281,58 @@ module _ (program : Program) where
     stand =
         copies_stand above (length fs) front handed.copies (top_shape program made called fs ∙ ap (λ l. Some (row l)) split) copy (length kinds)
         (sym (length-append (shapes_in handed.parameters) (shapes_in own_locals)
-        ∙ (λ j. (length-map handed.parameters (λ p. p.shape) ∙ parameters_long (parameters_of r.own) handed.parameters alike.parts) j + length-map own_locals (λ p. p.shape) j)))
+        ∙ (λ j. (length-map handed.parameters (λ p. p.shape) ∙ parameters_long (parameters_of r.own) handed.parameters call_alike.parts) j + length-map own_locals (λ p. p.shape) j)))
         many_kinds
 
-    -- the frame's cells
+    -- the cells of its locals
     abbrev local_cells : List Cell
     local_cells = map first_cell (leaves (row (variable_cells rows (locals_of r.own))))
 
-    dropped : drop (length alike.cells) kinds ≡ leaves (row (variable_cells rows (locals_of r.own)))
+    dropped : drop (length call_alike.cells) kinds ≡ leaves (row (variable_cells rows (locals_of r.own)))
     dropped =
         let first = leaves (row (map (parameter_cells rows) (parameters_of r.own))) in
         let second = leaves (row (variable_cells rows (locals_of r.own))) in
-        let long : length first ≡ length alike.cells = kinds_counted (row (map (parameter_cells rows) (parameters_of r.own)))
-        ∙ sym (same_size (shapes_in handed.parameters) (map (parameter_cells rows) (parameters_of r.own)) (parameters_same (parameters_of r.own) handed.parameters alike.parts))
-        ∙ sym (shown_long (Is program) cell_of above (shape_of_parts handed.parameters) (content_of_parts handed.parameters) alike.cells (alike.parameters stand)) in
-        ap (drop (length alike.cells)) (kinds_are ∙ kinds_of_append (map (parameter_cells rows) (parameters_of r.own)) (variable_cells rows (locals_of r.own)))
-        ∙ drop_at first second (length alike.cells) long
+        let long : length first ≡ length call_alike.cells = kinds_counted (row (map (parameter_cells rows) (parameters_of r.own)))
+        ∙ sym (same_size (shapes_in handed.parameters) (map (parameter_cells rows) (parameters_of r.own)) (parameters_same (parameters_of r.own) handed.parameters call_alike.parts))
+        ∙ sym (shown_long (Is program) cell_of above (shape_of_parts handed.parameters) (content_of_parts handed.parameters) call_alike.cells (call_alike.parameters stand)) in
+        ap (drop (length call_alike.cells)) (kinds_are ∙ kinds_of_append (map (parameter_cells rows) (parameters_of r.own)) (variable_cells rows (locals_of r.own)))
+        ∙ drop_at first second (length call_alike.cells) long
+
+    -- the frame's cells
+    abbrev pub cells_of_call : List Cell
+    cells_of_call = call_alike.cells ++ (map first_cell (drop (length call_alike.cells) kinds) ++ call_alike.copies)
+
+    -- show its variables
+    pub call_shown : Shown (Is program) cell_of above called.shape called.variables cells_of_call
+    call_shown =
+        subst (λ l. PartsShown program above (handed.parameters ++ (own_locals ++ handed.copies)) (call_alike.cells ++ (map first_cell l ++ call_alike.copies))) (sym dropped)
+        (parts_shown program above handed.parameters (own_locals ++ handed.copies) call_alike.cells (local_cells ++ call_alike.copies) (call_alike.parameters stand)
+        (parts_shown program above own_locals handed.copies local_cells call_alike.copies (locals_shown ms above (locals_of r.own)) call_alike.copied))
+
+    -- where it has few, the procedure's parameters and locals stand in it
+    pub call_frame_of : size called.shape < 2 ^ 32 → IsFrameOf program r.own called.shape
+    call_frame_of few =
+        subst (λ l. IsFrameOf program r.own (row l)) (sym split)
+        (frame_so ms r.own handed.parameters handed.copies call_alike.parts (subst (λ l. size (row l) < 2 ^ 32) split few))
+
+  -- On the other side the kinds of the frame's cells are those of what is known of the procedure.
+  module _ (ranked : IsRanked program.types) (ps ms : List ℕ) (made : List Made) (fs : List S.Frame) (s : Store) (y : Rooted (List Cell)) (shows : Shows (Is program) cell_of (scheme program) made (shapes_of fs) (S.all_rooted fs s) y) (r : Routine) (vs : List Value) (given : Given program (world_of program made (shapes_of fs)) (parameters_of r.own) (S.arguments_in (has_self r.own) vs)) (n : ℕ) (shape : ProcShape) (is : seen_shape shape ≡ shape_of program.types r) where
+    abbrev frame : S.Frame
+    frame = S.called_frame program ms r vs fs s
+
+    abbrev given_cells : List Cell
+    given_cells = map (cell_of (world_of program made (shapes_of fs))) (S.arguments_in (has_self r.own) vs)
+
+    abbrev kinds : List Kind
+    kinds = shape.kinds.items
+
+    pub kinds_are : kinds ≡ leaves (row (parts_of rows r.home r.body r.own))
+    kinds_are = ap (λ z. z.kinds) is ∙ known_kinds rows r.home r.body r.own
+
+    abbrev alike : Alike program made (shapes_of fs) (S.all_rooted fs s) y shows (world_of program made (shapes_of (frame ∷ fs))) (frame_grows (scheme program) made frame.shape (shapes_of fs)) (length fs) ps ranked (map (taken_as rows) (parameters_of r.own))
+        (H.handed rows (length fs) (S.all_rooted fs s) (parameters_of r.own) (S.arguments_in (has_self r.own) vs) (length (parameters_of r.own) + length (locals ms (locals_of r.own)))) (I.handed ps (length fs) y (map (parameter_kind rows) (parameters_of r.own)) given_cells (length kinds))
+        (length (parameters_of r.own) + length (locals ms (locals_of r.own))) (length kinds)
+    alike = call_alike ranked ps ms made fs s y shows r vs given kinds kinds_are
 
     abbrev pub both : I.Handed ps
     both = record { cells = alike.cells; copies = alike.copies }
@@ -311,29 +341,27 @@ module _ (program : Program) where
     entered = I.called_frame ps n (S.self_of (has_self r.own) vs) shape both
 
     -- what is handed over is there, and makes this frame
-    pub handed_there : I.handed ps (length fs) y shape.params.items (map (cell_of now) us) (length kinds) ≡ Some both
+    pub handed_there : I.handed ps (length fs) y shape.params.items given_cells (length kinds) ≡ Some both
     handed_there =
-        ap (λ l. I.handed ps (length fs) y l (map (cell_of now) us) (length kinds)) (ap (λ z. z.params) is ∙ known_parameters rows r.home r.body r.own) ∙ alike.image
+        ap (λ l. I.handed ps (length fs) y l given_cells (length kinds)) (ap (λ z. z.params) is ∙ known_parameters rows r.home r.body r.own) ∙ alike.image
 
     -- whose cells show the variables of the other side's
-    pub called_shown : Shown (Is program) cell_of above called.shape called.variables entered.cells
-    called_shown =
-        subst (λ l. PartsShown program above (handed.parameters ++ (own_locals ++ handed.copies)) (alike.cells ++ (map first_cell l ++ alike.copies))) (sym dropped)
-        (parts_shown program above handed.parameters (own_locals ++ handed.copies) alike.cells (local_cells ++ alike.copies) (alike.parameters stand)
-        (parts_shown program above own_locals handed.copies local_cells alike.copies (locals_shown ms above (locals_of r.own)) alike.copied))
+    pub called_shown : Shown (Is program) cell_of (world_of program made (shapes_of (frame ∷ fs))) frame.shape frame.variables entered.cells
+    called_shown = call_shown ranked ps ms made fs s y shows r vs given kinds kinds_are
 
     -- and which counts as many scalars
-    pub called_counted : entered.counted ≡ called.counted
+    pub called_counted : entered.counted ≡ frame.counted
     called_counted =
-        let counted = ap (λ z. z.counted) is ∙ known_counted rows r.home r.body r.own ∙ sym (same_size front known_parts same) in
-        let copies = shown_long (Is program) cell_of above (shape_of_parts handed.copies) (content_of_parts handed.copies) alike.copies alike.copied in
-        (λ j. counted j + copies j) ∙ sym (size_rows front (shapes_in handed.copies)) ∙ ap (λ l. size (row l)) (sym split)
+        let h = H.handed rows (length fs) (S.all_rooted fs s) (parameters_of r.own) (S.arguments_in (has_self r.own) vs) (length (parameters_of r.own) + length (locals ms (locals_of r.own))) in
+        let front = shapes_in h.parameters ++ shapes_in (locals ms (locals_of r.own)) in
+        let sizes = same ranked ps ms made fs s y shows r vs given kinds kinds_are in
+        let counted = ap (λ z. z.counted) is ∙ known_counted rows r.home r.body r.own ∙ sym (same_size front (parts_of rows r.home r.body r.own) sizes) in
+        let copies = shown_long (Is program) cell_of (world_of program made (shapes_of (frame ∷ fs))) (shape_of_parts h.copies) (content_of_parts h.copies) alike.copies alike.copied in
+        (λ j. counted j + copies j) ∙ sym (size_rows front (shapes_in h.copies)) ∙ ap (λ l. size (row l)) (sym (split ranked ps ms made fs s y shows r vs given kinds kinds_are))
 
     -- where it has few, the procedure's parameters and locals stand in it
-    pub called_frame_of : size called.shape < 2 ^ 32 → IsFrameOf program r.own called.shape
-    called_frame_of few =
-        subst (λ l. IsFrameOf program r.own (row l)) (sym split)
-        (frame_so ms r.own handed.parameters handed.copies alike.parts (subst (λ l. size (row l) < 2 ^ 32) split few))
+    pub called_frame_of : size frame.shape < 2 ^ 32 → IsFrameOf program r.own frame.shape
+    called_frame_of few = call_frame_of ranked ps ms made fs s y shows r vs given kinds kinds_are few
 
 -- what a call leaves on the stack of its caller
 pub answer_stacked : (w : World Sort) (t : Option TType) (kind : Option Kind) (f : TType → Kind) (v : Value) (st : Stack) → kind ≡ option_map f t → (if is_some kind then cell_of w v ∷ st else st) ≡ with_answer w t v st

@@ -77,7 +77,7 @@ no_scalar (Some row.Any) e = absurd (cc)
 
 -- Types of which basic values are given.
 
-included_basic : (t : TType) (w : Width) → Includes t (type.Integer w) → is_basic t ≡ true
+pub included_basic : (t : TType) (w : Width) → Includes t (type.Integer w) → is_basic t ≡ true
 included_basic (type.Integer v) w e = refl
 included_basic type.Boolean w e = absurd (cc)
 included_basic type.Char w e = absurd (cc)
@@ -85,7 +85,7 @@ included_basic type.Set w e = absurd (cc)
 included_basic type.Any w e = absurd (cc)
 included_basic (type.Named k) w e = absurd (cc)
 
-literal_basic : (l : Literal) (t : TType) → IsLiteral l t → is_basic t ≡ true
+pub literal_basic : (l : Literal) (t : TType) → IsLiteral l t → is_basic t ≡ true
 literal_basic l (type.Integer w) h = refl
 literal_basic l type.Boolean h = refl
 literal_basic l type.Char h = refl
@@ -113,7 +113,7 @@ range_basic type.Set low high h = absurd h
 range_basic type.Any low high h = absurd h
 range_basic (type.Named k) low high h = absurd h
 
-taken_basic : (op : UnaryOperator) → is_basic (taken op) ≡ true
+pub taken_basic : (op : UnaryOperator) → is_basic (taken op) ≡ true
 taken_basic (Neg w) = refl
 taken_basic (Abs w) = refl
 taken_basic Not = refl
@@ -122,7 +122,7 @@ taken_basic Cap = refl
 taken_basic Compl = refl
 taken_basic (Range low high) = refl
 
-given_basic : (op : UnaryOperator) (t : TType) → GivenOf op t → is_basic t ≡ true
+pub given_basic : (op : UnaryOperator) (t : TType) → GivenOf op t → is_basic t ≡ true
 given_basic (Neg w) t g = included_basic t w g
 given_basic (Abs w) t g = included_basic t w g
 given_basic Not t g = ap is_basic g
@@ -131,7 +131,7 @@ given_basic Cap t g = ap is_basic g
 given_basic Compl t g = ap is_basic g
 given_basic (Range low high) t g = range_basic t low high g
 
-two_basic : (op : BinaryOperator) (t : TType) → GivesOfTwo op t → is_basic t ≡ true
+pub two_basic : (op : BinaryOperator) (t : TType) → GivesOfTwo op t → is_basic t ≡ true
 two_basic (Add w) t g = included_basic t w g
 two_basic (Sub w) t g = included_basic t w g
 two_basic (Mul w) t g = included_basic t w g
@@ -147,7 +147,7 @@ two_basic SetSpan t g = ap is_basic g
 two_basic In t g = ap is_basic g
 
 -- the code of a character is an integer
-ord_is : (v : Value) → IsValueOf type.Char v → IsValueOf (type.Integer W16) (ord v)
+pub ord_is : (v : Value) → IsValueOf type.Char v → IsValueOf (type.Integer W16) (ord v)
 ord_is v h = subst (λ x. IsValueOf (type.Integer W16) (ord x)) (sym h.1) (pos h.0, refl, record { low = omega (arith, ints, h.2); high = omega (arith, ints, h.2) })
 
 module _ (program : Program) (own : Option Procedure) (tables : Tables) (number : ℕ) (here : Here) (code : List Instr) where
@@ -482,7 +482,7 @@ module _ (program : Program) (own : Option Procedure) (tables : Tables) (number 
     RowsFound r n t at = FindsRows program own tables number here code (HaveLengths r) n t (rows_code program own r at) (rows_of program here r) at
 
     constant_known : (p : Designator) (m at : ℕ) → IsConstantText program p m → RowsFound (Known p (m ∷ [])) 1 type.Char at
-    constant_known (ModuleVar h k) m at of = constant_rows program own tables number here code typed (All IsLength (m ∷ [])) h k m at (λ b. b) of
+    constant_known (ModuleVar h k) m at of = constant_rows program own tables number here code typed shaped.few (All IsLength (m ∷ [])) h k m at (λ b. b) of
     constant_known (Local k) m at of = absurd of
     constant_known (Passed k) m at of = absurd of
     constant_known (Field p u k) m at of = absurd of
@@ -527,7 +527,7 @@ module _ (program : Program) (own : Option Procedure) (tables : Tables) (number 
     mutual
       -- a designator's place, with a variable of its type
       pub place_does : (p : Designator) (t : TType) → IsPlaceOf program own p t → (at : ℕ) → Finds program own tables number here code (NamesType program own p t) t (place_code program own p at) (place_of program here p) at
-      place_does (ModuleVar m k) t ok at = variable_does program own tables number here code typed m k t at ok
+      place_does (ModuleVar m k) t ok at = variable_does program own tables number here code typed shaped.few m k t at ok
       place_does (Local k) t ok at = local_does program own tables number here code typed k t at ok
       place_does (Passed k) t ok at = passed_does program own tables number here code typed k t at ok.0 ok.1 ok.2
       place_does (Field p u k) t (inl h, of) at =
@@ -540,7 +540,7 @@ module _ (program : Program) (own : Option Procedure) (tables : Tables) (number 
           let pb = at + length ca in
           subst (λ x. Finds program own tables number here code ⊥ x (place_code program own (Index p n u e) at) (place_of program here (Index p n u e)) at) (sym ok.4)
           (index_does program own tables number here code typed (NamesType program own p ok.0) ok.0 u n ca (value_code program own e pb) (place_of program here p) (value_of program here e) at ok.2 (place_does p ok.0 ok.1 at) (basic_value (type.Integer W64) refl e pb (yields_do e (type.Integer W64) ok.3 pb)))
-      place_does (Of r) t ok at = of_does program own tables number here code (HaveLengths r) t (rows_code program own r at) (rows_of program here r) at (rows_does r 0 t ok at)
+      place_does (Of r) t ok at = of_does program own tables number here code (HaveLengths r) t (rows_code program own r at) (rows_of program here r) at (rows_does r 0 t ok.0 at)
       place_does (Deref e u) t ok at =
           subst (λ x. Finds program own tables number here code (NamesType program own (Deref e u) x) x (place_code program own (Deref e u) at) (place_of program here (Deref e u)) at) (sym ok.4)
           (deref_does program own tables number here code typed ok.0 u (value_code program own e at) (value_of program here e) at ok.2 ok.3 (yields_do e ok.0 ok.1 at))
@@ -576,7 +576,7 @@ module _ (program : Program) (own : Option Procedure) (tables : Tables) (number 
           (row_does program own tables number here code typed (HaveLengths r) n (dimensions r) t ca (value_code program own e pb) (rows_of program here r) (value_of program here e) at (dimensions_are r (suc n) t ok.0) (rows_does r (suc n) t ok.0 at) (basic_value (type.Integer W64) refl e pb (yields_do e (type.Integer W64) ok.1 pb)))
       rows_does (Spread e j) n t ok at =
           subst (λ m. RowsFound (Spread e j) m t at) (sym ok.0)
-          (spread_does program own tables number here code typed ok.1.0 t ok.1.1 j (value_code program own e at) (value_of program here e) at ok.1.3 ok.1.4 ok.1.5 ok.1.6 (yields_do e ok.1.0 ok.1.2 at))
+          (spread_does program own tables number here code typed shaped ok.1.0 t ok.1.1 j (value_code program own e at) (value_of program here e) at ok.1.3 ok.1.4 ok.1.5 ok.1.6 (yields_do e ok.1.0 ok.1.2 at))
       rows_does (Longer r ns) n t ok at =
           subst (λ m. RowsFound (Longer r ns) m t at) (sym ok.2)
           (longer_rows program own tables number here code typed (HaveLengths r) (All IsLength ns) ok.0 ok.1 t ns (rows_code program own r at) (rows_of program here r) at (λ b. b) ok.4 (rows_does r ok.0 ok.1 ok.3 at))

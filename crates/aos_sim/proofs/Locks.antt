@@ -16,7 +16,7 @@ use Rattle.aos_sim.proofs.Does.{HasShapes, IsSelf}
 use Rattle.aos_sim.proofs.Bodies.{home_known}
 use Rattle.aos_sim.proofs.States.{locks_open, SameRegions, Placed, Waiting, SameFrames}
 
-module _ (program : Program) (image : Image) (shaped : HasShapes program (tables_of image)) (made : ℕ → Option Made) where
+module _ (program : Program) (image : Image) (shaped : HasShapes program (tables_of program image)) (made : ℕ → Option Made) where
   named_alike : (home object : ℕ) (t : Option ℕ) → IsSelf program made t object → (t ≡ None → object ≡ 0) → I.own_lock (is_some t) home object ≡ S.own_lock home object
   named_alike home object None self none = sym (ap (S.own_lock home) (none refl))
   named_alike home object (Some t) self none = subst (λ o. ObjectLock o ≡ S.own_lock home o) (sym self.2) refl
@@ -24,7 +24,7 @@ module _ (program : Program) (image : Image) (shaped : HasShapes program (tables
   pub frame_lock : (f : S.Frame) (g : I.Frame) → Placed program image made f g → I.lock_in (numbered image.shapes.items g.procedure) g ≡ S.lock_of f
   frame_lock f g h =
       let x = shaped.shapes g.procedure h.routine h.there in
-      let home : x.0.module ≡ f.home = sym (ap I.home_in x.1) ∙ home_known program (tables_of image) shaped g.procedure h.routine h.there ∙ h.home_is in
+      let home : x.0.module ≡ f.home = sym (ap I.home_in x.1) ∙ home_known program (tables_of program image) shaped g.procedure h.routine h.there ∙ h.home_is in
       let method : x.0.method ≡ has_self h.routine.own = ap (λ z. z.method) x.2 ∙ by h.routine.own in
       ap (λ o. I.lock_in o g) x.1
       ∙ (λ j. I.own_lock (method j) (home j) (h.object_is j))
@@ -34,7 +34,7 @@ module _ (program : Program) (image : Image) (shaped : HasShapes program (tables
       by None = refl
       by (Some q) = refl
 
-module _ (program : Program) (image : Image) (shaped : HasShapes program (tables_of image)) (made : List Made) where
+module _ (program : Program) (image : Image) (shaped : HasShapes program (tables_of program image)) (made : List Made) where
   waiting_regions : (result : Option TType) (fs : List S.Frame) (gs : List I.Frame) → Waiting program image made result fs gs → SameRegions fs gs → S.regions_of fs ≡ I.regions_of image gs
   waiting_regions result [] [] h regions = refl
   waiting_regions result [] (g ∷ gs) h regions = absurd h
@@ -42,7 +42,7 @@ module _ (program : Program) (image : Image) (shaped : HasShapes program (tables
   waiting_regions result (f ∷ fs) (g ∷ gs) h marks =
       let named = frame_lock program image shaped (λ o. by_number o made) f g h.0.place in
       let below = waiting_regions (result_of h.0.place.routine.own) fs gs h.1 marks.1 in
-      ap (λ ls. ls ++ S.regions_of fs) marks.0 ∙ by g.is_open named below
+      ap (λ ls. ls ++ S.regions_of fs) marks.0.0 ∙ by g.is_open named below
     where
       by : (b : Bool) → I.lock_in (numbered image.shapes.items g.procedure) g ≡ S.lock_of f → S.regions_of fs ≡ I.regions_of image gs → locks_open b (S.lock_of f) ++ S.regions_of fs ≡ (if b then I.lock_in (numbered image.shapes.items g.procedure) g ∷ I.regions_of image gs else I.regions_of image gs)
       by true named below = λ j. sym named j ∷ below j
@@ -55,7 +55,7 @@ module _ (program : Program) (image : Image) (shaped : HasShapes program (tables
   regions_same (f ∷ fs) (g ∷ gs) h marks =
       let named = frame_lock program image shaped (λ o. by_number o made) f g h.0.place in
       let below = waiting_regions (result_of h.0.place.routine.own) fs gs h.1 marks.1 in
-      ap (λ ls. ls ++ S.regions_of fs) marks.0 ∙ by g.is_open named below
+      ap (λ ls. ls ++ S.regions_of fs) marks.0.0 ∙ by g.is_open named below
     where
       by : (b : Bool) → I.lock_in (numbered image.shapes.items g.procedure) g ≡ S.lock_of f → S.regions_of fs ≡ I.regions_of image gs → locks_open b (S.lock_of f) ++ S.regions_of fs ≡ (if b then I.lock_in (numbered image.shapes.items g.procedure) g ∷ I.regions_of image gs else I.regions_of image gs)
       by true named below = λ j. sym named j ∷ below j

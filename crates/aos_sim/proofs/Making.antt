@@ -105,6 +105,14 @@ none_open rows t n e = by (row_of rows t) refl e n
     by o f e zero = refl
     by o f e (suc n) = rw (ap element_of f ∙ no_element o e) refl
 
+-- an object has as many lengths as its type has open dimensions
+pub made_long : (program : Program) (m : Made) → HasLengths program (row_of program.types (id_of_made m.type)) m → length m.lengths ≡ open_dimensions program.types (id_of_made m.type)
+made_long program m h = by (row_of program.types (id_of_made m.type)) refl h
+  where
+    by : (o : Option TypeRow) → row_of program.types (id_of_made m.type) ≡ o → HasLengths program o m → length m.lengths ≡ open_dimensions program.types (id_of_made m.type)
+    by (Some (row.Open of)) is h = h.0
+    by o is h = ap length h ∙ sym (none_open program.types (id_of_made m.type) (length program.types) (ap is_open is))
+
 -- lengths that have been found to be from 1 on
 pub some_lengths : (zs : List ℤ) (ns : List ℕ) → array_lengths zs ≡ Some ns → length ns ≡ length zs
 some_lengths [] ns e = let h : ns ≡ [] = cc in ap length h
@@ -140,7 +148,7 @@ any_there f (y ∷ xs) (suc i) x e h = ap (λ b. f y || b) (any_there f xs i x e
     by true = refl
     by false = refl
 
-target_made : (rows : List TypeRow) (k t : TypeId) (o : Option TypeRow) → row_of rows k ≡ o → target_in rows k o ≡ Some t → is_made rows t ≡ true
+pub target_made : (rows : List TypeRow) (k t : TypeId) (o : Option TypeRow) → row_of rows k ≡ o → target_in rows k o ≡ Some t → is_made rows t ≡ true
 target_made rows k t None f e = absurd (cc)
 target_made rows k t (Some (row.Basic b)) f e = absurd (cc)
 target_made rows k t (Some (row.Array n of)) f e = absurd (cc)
@@ -159,9 +167,29 @@ target_made rows k t (Some (row.Object base fields)) f e =
 target_made rows k t (Some (row.Procedure formals r)) f e = absurd (cc)
 target_made rows k t (Some row.Any) f e = absurd (cc)
 
-or_second : {c : Bool} (b : Bool) → c ≡ true → (b || c) ≡ true
+pub or_second : {c : Bool} (b : Bool) → c ≡ true → (b || c) ≡ true
 or_second true e = refl
 or_second false e = e
+
+-- what is made so is a value of a pointer to the type
+pub made_lengths : (program : Program) (t : ℕ) (es : ℕ) (vs : List Value) (ns : List ℕ) → length vs ≡ es → es ≡ open_dimensions program.types (id_of (type.Named t)) → array_lengths (map number_of vs) ≡ Some ns → All (λ n. n ≤ 16777216) ns → HasLengths program (row_of program.types (id_of (type.Named t))) (record { type = suc t; lengths = ns })
+made_lengths program t es vs ns many dims e few = by (is_open (row_of program.types id)) refl
+  where
+    id : TypeId
+    id = id_of (type.Named t)
+
+    long : length ns ≡ open_dimensions program.types (id_of (type.Named t))
+    long = some_lengths (map number_of vs) ns e ∙ length-map vs number_of ∙ many ∙ dims
+
+    empty : (ns : List ℕ) → length ns ≡ 0 → ns ≡ []
+    empty [] l = refl
+    empty (n ∷ ns) l = absurd (omega (arith, l))
+
+    by : (b : Bool) → is_open (row_of program.types (id_of (type.Named t))) ≡ b → HasLengths program (row_of program.types (id_of (type.Named t))) (record { type = suc t; lengths = ns })
+    by true is = open_lengths program (record { type = suc t; lengths = ns }) (row_of program.types (id_of (type.Named t))) is long (both_lengths ns (long_lengths (map number_of vs) ns e) few)
+    by false isnt =
+        closed_lengths program (record { type = suc t; lengths = ns }) (row_of program.types (id_of (type.Named t))) isnt
+        (empty ns (long ∙ none_open program.types (id_of (type.Named t)) (length program.types) isnt))
 
 module _ (program : Program) (own : Option Procedure) (tables : Tables) (number : ℕ) (here : Here) (code : List Instr) where
   abbrev onward : List Instr → Onward
@@ -222,26 +250,6 @@ module _ (program : Program) (own : Option Procedure) (tables : Tables) (number 
         let number_is : t + 1 ≡ suc t = omega arith in
         ap (λ a. on_run tables a (onward rest) p k) acts ∙ ap (λ j. Asks (Makes j (map (cell_of w) all)) (λ x. onward rest 0 (p + 1) k (x ∷ s))) number_is
 
-    -- what is made so is a value of a pointer to the type
-    pub made_lengths : (t : ℕ) (es : ℕ) (vs : List Value) (ns : List ℕ) → length vs ≡ es → es ≡ open_dimensions program.types (id_of (type.Named t)) → array_lengths (map number_of vs) ≡ Some ns → All (λ n. n ≤ 16777216) ns → HasLengths program (row_of program.types (id_of (type.Named t))) (record { type = suc t; lengths = ns })
-    made_lengths t es vs ns many dims e few = by (is_open (row_of program.types id)) refl
-      where
-        id : TypeId
-        id = id_of (type.Named t)
-
-        long : length ns ≡ open_dimensions program.types (id_of (type.Named t))
-        long = some_lengths (map number_of vs) ns e ∙ length-map vs number_of ∙ many ∙ dims
-
-        empty : (ns : List ℕ) → length ns ≡ 0 → ns ≡ []
-        empty [] l = refl
-        empty (n ∷ ns) l = absurd (omega (arith, l))
-
-        by : (b : Bool) → is_open (row_of program.types (id_of (type.Named t))) ≡ b → HasLengths program (row_of program.types (id_of (type.Named t))) (record { type = suc t; lengths = ns })
-        by true is = open_lengths program (record { type = suc t; lengths = ns }) (row_of program.types (id_of (type.Named t))) is long (both_lengths ns (long_lengths (map number_of vs) ns e) few)
-        by false isnt =
-            closed_lengths program (record { type = suc t; lengths = ns }) (row_of program.types (id_of (type.Named t))) isnt
-            (empty ns (long ∙ none_open program.types (id_of (type.Named t)) (length program.types) isnt))
-
   module _ (x : Ways) (d : ℕ) (k : Keeps) (after : List Item) where
     abbrev Carried : ℕ → Type 0
     Carried p = Carries program own tables number here code after p x d k
@@ -279,7 +287,7 @@ module _ (program : Program) (own : Option Procedure) (tables : Tables) (number 
             λ w3 up3 v new.
                 let up13 : Grows w1 w3 = grows_twice w1 w2 w3 up2 up3 in
                 let stay = places_stay program own tables number here code named u w1 w3 up13 a found in
-                stores w3 u a named stay.0 to v new.0 new.2 (made_lengths typed shaped t (length ns) vs new.0 are.0 has.typed.4 new.1 new.3) _ rest (p + 1)
+                stores w3 u a named stay.0 to v new.0 new.2 (made_lengths program t (length ns) vs new.0 are.0 has.typed.4 new.1 new.3) _ rest (p + 1)
                 (ap (λ z. onward (i.Store R ∷ rest) 0 (p + 1) k (cell_of w3 v ∷ (z ∷ []))) stay.1) h3 (subst Carried len c),
           )))))
         where

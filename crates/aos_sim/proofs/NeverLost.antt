@@ -103,11 +103,12 @@ binary_gives In a b = undefined_gives (set_of b) _ (λ x. trap_gives 14 _ (omega
 
 -- Expressions and statements
 
--- whatever is answered, it comes to no other trap; and it asks for no region
+-- whatever is answered, it comes to no other trap; and it asks for no region, and awaits nothing
 abbrev pub Comes : {A : Type 0} → Doing A → Type 0
 Comes (Val a) = Unit {0}
 Comes (Asks EntersRegion f) = ⊥
 Comes (Asks LeavesRegion f) = ⊥
+Comes (Asks (Awaits c) f) = ⊥
 Comes (Asks q f) = (v : Value) → Comes (f v)
 Comes (Traps n c) = IsKnown n
 
@@ -115,6 +116,7 @@ comes_then : {A B : Type 0} (t : Doing A) (k : A → Doing B) → Comes t → ((
 comes_then (Val a) k first each = each a
 comes_then (Asks EntersRegion f) k first each = absurd first
 comes_then (Asks LeavesRegion f) k first each = absurd first
+comes_then (Asks (Awaits c) f) k first each = absurd first
 comes_then (Asks q f) k first each = λ v. comes_then (f v) k (first v) each
 comes_then (Traps n c) k first each = first
 
@@ -123,8 +125,49 @@ comes_fed [] t h = h
 comes_fed (v ∷ vs) (Val a) h = omega arith
 comes_fed (v ∷ vs) (Asks EntersRegion f) h = absurd h
 comes_fed (v ∷ vs) (Asks LeavesRegion f) h = absurd h
+comes_fed (v ∷ vs) (Asks (Awaits c) f) h = absurd h
 comes_fed (v ∷ vs) (Asks q f) h = comes_fed vs (f v) (h v)
 comes_fed (v ∷ vs) (Traps n c) h = h
+
+pub never_awaits : {A : Type 0} (d : Doing A) (c : ℕ) (f : Value → Doing A) → Comes d → d ≡ Asks (Awaits c) f → ⊥
+never_awaits d c f h e = subst (λ x. Comes x) e h
+
+-- but a statement may await a condition at once, where it stands in a region
+abbrev pub AsksInside : (inside : Bool) → Doing After → Type 0
+AsksInside inside (Asks (Awaits c) f) = (inside ≡ true) × ((v : Value) → Comes (f v))
+AsksInside inside d = Comes d
+
+in_any : (inside : Bool) (d : Doing After) → Comes d → AsksInside inside d
+in_any inside (Asks (Awaits c) f) h = absurd h
+in_any inside d h = h
+
+pub asks_fed : (inside : Bool) (vs : List Value) (d : Doing After) → AsksInside inside d → AsksInside inside (feed vs d)
+asks_fed inside [] d h = h
+asks_fed inside (v ∷ vs) (Asks (Awaits c) f) h = in_any inside (feed vs (f v)) (comes_fed vs (f v) (h.1 v))
+asks_fed inside (v ∷ vs) d h = in_any inside (feed (v ∷ vs) d) (comes_fed (v ∷ vs) d h)
+
+-- what an item begins with stands in a region where that is AWAIT
+abbrev pub MayAwait : (inside : Bool) → Stat → Type 0
+MayAwait inside (Await at n e) = inside ≡ true
+MayAwait inside s = Unit {0}
+
+abbrev pub MayBegin : (inside : Bool) → Item → Type 0
+MayBegin inside (Do s) = MayAwait inside s
+MayBegin inside (Round s) = MayAwait inside s
+MayBegin inside i = Unit {0}
+
+any_awaits : (s : Stat) → MayAwait true s
+any_awaits (Await at n e) = refl
+any_awaits s = tt
+
+any_begins : (i : Item) → MayBegin true i
+any_begins (Do s) = any_awaits s
+any_begins (Round s) = any_awaits s
+any_begins i = tt
+
+abbrev is_await : Stat → Bool
+is_await (Await at n e) = true
+is_await s = false
 
 given_comes : (s : Sort) (g : Given) → Gives g → Comes (given s g)
 given_comes s (Number z) h = tt
@@ -315,49 +358,55 @@ module _ (program : Program) (here : Here) where
   arms_come (Arm e ss arms) =
       comes_then (value_of program here e) _ (value_comes e) (λ x. either_comes (is_true x) _ (arms_of program here arms) tt (arms_come arms))
 
-  stat_comes : (s : Stat) → Comes (stat_of program here s)
-  stat_comes (Assign at t p e) =
+  stat_comes : (s : Stat) → is_await s ≡ false → Comes (stat_of program here s)
+  stat_comes (Assign at t p e) other =
       comes_then (place_of program here p) _ (place_comes p) (λ s. comes_then (value_of program here e) _ (value_comes e) (λ x v. tt))
-  stat_comes (Copy at t p q) =
+  stat_comes (Copy at t p q) other =
       comes_then (place_of program here p) _ (place_comes p) (λ to. comes_then (place_of program here q) _ (place_comes q) (λ from v. tt))
-  stat_comes (PutText at strict a b) =
+  stat_comes (PutText at strict a b) other =
       comes_then (rows_of program here a) _ (rows_come a) (λ x. comes_then (rows_of program here b) _ (rows_come b) (λ y v. tt))
-  stat_comes (If at arms) = arms_come arms
-  stat_comes (Case at e cases) = comes_then (value_of program here e) _ (value_comes e) (λ x. cases_come (number_of x) cases)
-  stat_comes (While at e body) = comes_then (value_of program here e) _ (value_comes e) (λ x. tt)
-  stat_comes (Repeat at body e) = tt
-  stat_comes (Loop at body) = tt
-  stat_comes (Exit at) = tt
-  stat_comes (For at w p from to step body) = comes_then (value_of program here to) _ (value_comes to) (λ x. tt)
-  stat_comes (Block at exclusive body) = tt
-  stat_comes (Await at n e) = λ v. tt
-  stat_comes (Assert at e code) = comes_then (value_of program here e) _ (value_comes e) (λ x. either_comes (is_true x) _ _ tt (omega arith))
-  stat_comes (Halt at code) = omega arith
-  stat_comes (Change at c p e) =
+  stat_comes (If at arms) other = arms_come arms
+  stat_comes (Case at e cases) other = comes_then (value_of program here e) _ (value_comes e) (λ x. cases_come (number_of x) cases)
+  stat_comes (While at e body) other = comes_then (value_of program here e) _ (value_comes e) (λ x. tt)
+  stat_comes (Repeat at body e) other = tt
+  stat_comes (Loop at body) other = tt
+  stat_comes (Exit at) other = tt
+  stat_comes (For at w p from to step body) other = comes_then (value_of program here to) _ (value_comes to) (λ x. tt)
+  stat_comes (Block at exclusive body) other = tt
+  stat_comes (Await at n e) other = absurd (cc other)
+  stat_comes (Assert at e code) other = comes_then (value_of program here e) _ (value_comes e) (λ x. either_comes (is_true x) _ _ tt (omega arith))
+  stat_comes (Halt at code) other = omega arith
+  stat_comes (Change at c p e) other =
       comes_then (place_of program here p) _ (place_comes p)
       (λ s. comes_then (value_of program here e) _ (value_comes e) (λ n v. comes_then (changed c v n) _ (changed_comes c v n) (λ x w. tt)))
-  stat_comes (Perform at c as') = comes_then (called program here c as') _ (value_comes (Function c as')) (λ v. tt)
-  stat_comes (Return at None) = tt
-  stat_comes (Return at (Some e)) = comes_then (value_of program here e) _ (value_comes e) (λ v. tt)
-  stat_comes (New at p t as') =
+  stat_comes (Perform at c as') other = comes_then (called program here c as') _ (value_comes (Function c as')) (λ v. tt)
+  stat_comes (Return at None) other = tt
+  stat_comes (Return at (Some e)) other = comes_then (value_of program here e) _ (value_comes e) (λ v. tt)
+  stat_comes (New at p t as') other =
       comes_then (place_of program here p) _ (place_comes p)
       (λ s. comes_then (arguments_of program here as') _ (arguments_come as')
       (λ vs o. comes_then (initialized program (initializer program t) t o vs) _ (initialized_comes program (initializer program t) t o vs)
       (λ x y. comes_then (carried_out program (body_type program t) o) _ (carried_comes program (body_type program t) o) (λ z. tt))))
-  stat_comes (Make at p t ns) =
+  stat_comes (Make at p t ns) other =
       comes_then (place_of program here p) _ (place_comes p) (λ s. comes_then (values_of program here ns) _ (values_come ns) (λ vs o w. tt))
-  stat_comes (With at e body) = comes_then (value_of program here e) _ (value_comes e) (λ x. tt)
-  stat_comes (WithRecord at p body) = comes_then (place_of program here p) _ (place_comes p) (λ s. tt)
-  stat_comes (Out at call) = out_comes call
+  stat_comes (With at e body) other = comes_then (value_of program here e) _ (value_comes e) (λ x. tt)
+  stat_comes (WithRecord at p body) other = comes_then (place_of program here p) _ (place_comes p) (λ s. tt)
+  stat_comes (Out at call) other = out_comes call
 
-  pub item_comes : (i : Item) → Comes (item_of program here i)
-  item_comes (Do s) = stat_comes s
-  item_comes (Rounds at w p last step b) = comes_then _ _ (value_comes (Read (type.Integer w) p)) (λ v. tt)
-  item_comes (Round s) = stat_comes s
-  item_comes (Until at b e) = comes_then (value_of program here e) _ (value_comes e) (λ x. tt)
-  item_comes (Region ss) = tt
-  item_comes End = tt
-  item_comes (GivesItem r) = tt
+  stat_asks : (inside : Bool) (s : Stat) → MayAwait inside s → AsksInside inside (stat_of program here s)
+  stat_asks inside (Await at n e) h = (h, λ v. tt)
+  stat_asks inside s h = in_any inside (stat_of program here s) (stat_comes s refl)
+
+  pub item_asks : (inside : Bool) (i : Item) → MayBegin inside i → AsksInside inside (item_of program here i)
+  item_asks inside (Do s) h = stat_asks inside s h
+  item_asks inside (Rounds at w p last step b) h =
+      in_any inside (item_of program here (Rounds at w p last step b)) (comes_then _ _ (value_comes (Read (type.Integer w) p)) (λ v. tt))
+  item_asks inside (Round s) h = stat_asks inside s h
+  item_asks inside (Until at b e) h =
+      in_any inside (item_of program here (Until at b e)) (comes_then (value_of program here e) _ (value_comes e) (λ x. tt))
+  item_asks inside (Region ss) h = tt
+  item_asks inside End h = tt
+  item_asks inside (GivesItem r) h = tt
 
 -- what is left behind silent questions
 module _ (rows : List TypeRow) (made : ℕ → Option Made) (c : Content Value) where
@@ -388,6 +437,10 @@ module _ (rows : List TypeRow) (made : ℕ → Option Made) (c : Content Value) 
   calm_comes (Asks (PutsString a n) k) h = h
   calm_comes (Asks PutsNothing k) h = h
   calm_comes (Asks PutsLn k) h = h
+
+  pub asks_calm : (inside : Bool) (d : Doing After) → AsksInside inside d → AsksInside inside (calm rows made c d)
+  asks_calm inside (Asks (Awaits n) k) h = h
+  asks_calm inside d h = in_any inside (calm rows made c d) (calm_comes d h)
 
 -- Turns
 
@@ -504,7 +557,7 @@ module _ (program : Program) (following : List ℕ) where
   settles_known (End ∷ is) f fs s = tt
   settles_known (GivesItem r ∷ is) f fs s = ends_known following r fs s
 
-  goes_known : (d : Doing After) (rest : List Item) (f : Frame) (fs : List Frame) (s : Store) → Comes d → Known (goes program following d rest f fs s)
+  goes_known : (d : Doing After) (rest : List Item) (f : Frame) (fs : List Frame) (s : Store) → AsksInside true d → Known (goes program following d rest f fs s)
   goes_known (Val (Into is)) rest f fs s h = settles_known (is ++ rest) f fs s
   goes_known (Val Exits) rest f fs s h = settles_known (leave rest) f fs s
   goes_known (Val (Returns r)) rest f fs s h = settles_known (leave_all r rest) f fs s
@@ -518,7 +571,7 @@ module _ (program : Program) (following : List ℕ) where
       let doing = item_of program (here_of f fs) i in
       let left = feed vs doing in
       goes_known (calm program.types (made_in s) f.variables left) is (record f { answers = Some (vs ++ noted program.types (made_in s) f.variables left) }) fs s
-      (calm_comes program.types (made_in s) f.variables left (comes_fed vs doing (item_comes program (here_of f fs) i)))
+      (asks_calm program.types (made_in s) f.variables true left (asks_fed true vs doing (item_asks program (here_of f fs) true i (any_begins i))))
 
   turn_at_known : (fs : List Frame) (s : Store) → Known (turn_at program following fs s)
   turn_at_known [] s = tt

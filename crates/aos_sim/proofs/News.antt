@@ -131,7 +131,7 @@ module _ (program : Program) (own : Option Procedure) where
       }
 
 -- an object type has something beside it
-object_below : (program : Program) → HasTypes program → (t : ℕ) → is_object (row_of program.types (id_of (type.Named t))) ≡ true → t < length program.objects
+pub object_below : (program : Program) → HasTypes program → (t : ℕ) → is_object (row_of program.types (id_of (type.Named t))) ≡ true → t < length program.objects
 object_below program typed t object = by (row_of program.types (id_of (type.Named t))) refl object
   where
     by : (o : Option TypeRow) → row_of program.types (id_of (type.Named t)) ≡ o → is_object o ≡ true → t < length program.objects
@@ -160,7 +160,7 @@ module _ (program : Program) (own : Option Procedure) (tables : Tables) (number 
   then_done r = bind r (λ _. Val (Into []))
 
   -- an object lies on top, whose body is carried out
-  module _ (t b o : ℕ) (has : HasBody program t b) (made : Made) (w : World Sort) (there : w.made (suc o) ≡ Some made) (lengths : HasLengths program (row_of program.types (id_of_made made.type)) made) (comes : comes_to program.types (id_of_made made.type) (id_of (type.Named t)) ≡ true) (rest : List Instr) (p : ℕ) (k : Keeps) (behind : drop (p + 1) code ≡ rest) (cont : Carried (p + 1) k) where
+  module _ (t b o : ℕ) (has : HasBody program t b) (made : Made) (w : World Sort) (there : w.made (suc o) ≡ Some made) (lengths : HasLengths program (row_of program.types (id_of_made made.type)) made) (comes : comes_to program.types (id_of_made made.type) (id_of (type.Named t)) ≡ true) (is_made : made.type ≡ suc t) (is_body : body_type program t ≡ Some b) (rest : List Instr) (p : ℕ) (k : Keeps) (behind : drop (p + 1) code ≡ rest) (cont : Carried (p + 1) k) where
     abbrev creator_calls : ℕ
     creator_calls = body_number program b
 
@@ -181,11 +181,13 @@ module _ (program : Program) (own : Option Procedure) (tables : Tables) (number 
         (λ w2 up v m2 h. subst (λ z. GoesOn program own tables number here code after z) (sym h.run) (goes_on program own tables number here code x d k after (p + 1) rest behind cont))
 
     carried_does : (m : Run) → m ≡ onward (carry_out_instr program own b ∷ rest) 0 p k (Ref (suc o) ∷ []) → Does program here Leaves w m (then_done (carried_out program (Some b) (Object (suc o))))
-    carried_does m e = by (is_active program b) e
+    carried_does m e = by (is_active program b) refl e
       where
-        by : (c : Bool) → m ≡ onward ((if c then i.Start else i.Call creator_calls) ∷ rest) 0 p k (Ref (suc o) ∷ []) → Does program here Leaves w m (then_done (if c then ask (Starts (Object (suc o))) else ask (Calls ByCreator creator_calls (Object (suc o) ∷ []))))
-        by true e = last_asks program own tables number here code x d k after (Starts (Object (suc o))) w m p rest e (o, refl) behind cont
-        by false e = called_by_creator m e
+        by : (c : Bool) → is_active program b ≡ c → m ≡ onward ((if c then i.Start else i.Call creator_calls) ∷ rest) 0 p k (Ref (suc o) ∷ []) → Does program here Leaves w m (then_done (if c then ask (Starts (Object (suc o))) else ask (Calls ByCreator creator_calls (Object (suc o) ∷ []))))
+        by true active e =
+            last_asks program own tables number here code x d k after (Starts (Object (suc o))) w m p rest e
+            (o, refl, made, there, record { of = t; body = b; made = is_made; has = is_body; active = active }) behind cont
+        by false active e = called_by_creator m e
 
   module _ (t : ℕ) (object : is_object (row_of program.types (id_of (type.Named t))) ≡ true) (room : Fits (suc d)) (a : Spot) (names : Type 0) (o : ℕ) where
     abbrev object_id : TypeId
@@ -227,7 +229,7 @@ module _ (program : Program) (own : Option Procedure) (tables : Tables) (number 
           e ∙ keeps_one tables number here code d R (Ref (suc o)) (i.Store R ∷ behind) (p + 1) k (Ref (suc o) ∷ (place_in w a ∷ [])) room refl,
           may_store w found made,
           λ w2 up u y.
-              carried_does t b o (typed.methods.bodies t b is) (as_made t) w2 (up.made (suc o) (as_made t) made) lengths_of (comes_same program.types object_id) rest (p3 + 1) k' h5
+              carried_does t b o (typed.methods.bodies t b is) (as_made t) w2 (up.made (suc o) (as_made t) made) lengths_of (comes_same program.types object_id) refl is rest (p3 + 1) k' h5
               (subst (λ j. Carried j k') five (cont k' (kept_below d d (Ref (suc o)) k (omega arith)))) (onward behind 0 p3 k' [])
               (takes_one tables number here code d R (Ref (suc o)) (carry ∷ rest) p3 k' [] room refl (kept_here d (Ref (suc o)) k)),
         )

@@ -2,9 +2,9 @@
 -- records whose place names their type.
 use Rattle.std.proofs.Common.{◌≡◌, ℕ, suc, pos, ◌+◌, ◌<◌, ◌^◌, Bool, true, false, List, [], ◌∷◌, ◌++◌, length, map, Option, Some, None, if◌then◌else◌, refl, sym, ap, ◌∙◌, subst, arith, length-append}
 use Rattle.std.proofs.Common.{◌⊎◌, inl, inr}
-use Rattle.std.specs.Prelude.{All, ◌==◌, slice_get, option_and_then}
+use Rattle.std.specs.Prelude.{All, ◌==◌, nat_eq, slice_get, option_and_then}
 use Rattle.std.specs.Option.{unwrap_or}
-use Rattle.std.proofs.lemmas.Bool.{false≢true, lt-ltb}
+use Rattle.std.proofs.lemmas.Bool.{false≢true, lt-ltb, eq-eqb}
 use Rattle.aos_base.specs.declared.place.Root.TheVariants.{Object as ObjectRoot}
 use Rattle.aos_base.specs.Operators.{flag}
 use Rattle.aos_base.specs.Question.{Val, Traps, bind}
@@ -37,7 +37,7 @@ use Rattle.aos_code.specs.declared.instr.Instr.TheVariants as i
 use Rattle.aos_code.specs.Silent.{Stack, gives_place, Goes, Stops, Fails}
 use Rattle.aos_sim.specs.Cells.{place_in, cell_of}
 use Rattle.aos_sim.specs.Code.{operands_code}
-use Rattle.aos_sim.proofs.Runs.{Run, Onward, Tables, on_run, runs, at_cell, at_elements, asks_sizes, if_passed}
+use Rattle.aos_sim.proofs.Runs.{Run, Onward, Tables, on_run, runs, at_cell, at_elements, asks_sizes, if_as_many, if_passed}
 use Rattle.aos_sim.proofs.Types.{IsValueOf, number_cell}
 use Rattle.aos_sim.proofs.Parts.{each_nested, each_rest, variable_plain, whole_ends, own_contents}
 use Rattle.aos_sim.proofs.Extended.{object_fields, begins_object, object_made, record_no_object, record_extension, record_made, array_made, rows_made, open_made}
@@ -54,7 +54,7 @@ pub some_same : {A : Type 0} (x y : A) → Some x ≡ Some y → x ≡ y
 some_same x y e = cc
 
 -- an open array has its lengths
-open_lengths : (program : Program) (m : Made) (o : Option TypeRow) → is_open o ≡ true → HasLengths program o m → (length m.lengths ≡ open_dimensions program.types (id_of_made m.type)) × All IsLength m.lengths
+pub open_lengths : (program : Program) (m : Made) (o : Option TypeRow) → is_open o ≡ true → HasLengths program o m → (length m.lengths ≡ open_dimensions program.types (id_of_made m.type)) × All IsLength m.lengths
 open_lengths program m None e h = absurd (cc)
 open_lengths program m (Some (row.Basic b)) e h = absurd (cc)
 open_lengths program m (Some (row.Array n of)) e h = absurd (cc)
@@ -199,8 +199,8 @@ module _ (program : Program) (own : Option Procedure) (tables : Tables) (number 
         )),
   )
 
-  pub spread_does : HasTypes program → (v t : TType) (u : TypeId) (j : ℕ) (xs : List Instr) (r : Doing Value) (at : ℕ) → target rows v ≡ Some u → is_open (row_of rows u) ≡ true → j ≡ open_dimensions rows u → open_element rows u ≡ id_of t → Yields program own tables number here code v xs r at → FindsRows program own tables number here code (Unit {0}) j t (xs ++ i.OpenRef j ∷ []) (bind r (λ x. spread x j)) at
-  spread_does typed v t u j xs r at to opens many element h w known rest k s =
+  pub spread_does : HasTypes program → HasShapes program tables → (v t : TType) (u : TypeId) (j : ℕ) (xs : List Instr) (r : Doing Value) (at : ℕ) → target rows v ≡ Some u → is_open (row_of rows u) ≡ true → j ≡ open_dimensions rows u → open_element rows u ≡ id_of t → Yields program own tables number here code v xs r at → FindsRows program own tables number here code (Unit {0}) j t (xs ++ i.OpenRef j ∷ []) (bind r (λ x. spread x j)) at
+  spread_does typed shaped v t u j xs r at to opens many element h w known rest k s =
       let x = i.OpenRef j in
       let p = at + length xs in
       let q = at + length (xs ++ x ∷ []) in
@@ -222,22 +222,24 @@ module _ (program : Program) (own : Option Procedure) (tables : Tables) (number 
 
       -- what follows the answer
       opened_so : (p q : ℕ) → p + 1 ≡ q → (w2 : World Sort) (o : ℕ) (made : Made) → w2.made (suc o) ≡ Some made → id_of_made made.type ≡ u → (length made.lengths ≡ j) → All IsLength made.lengths → w2.shape (ObjectRoot (suc o)) ≡ Some (made_shape rows made) → (y : Value) → y ≡ object_place (suc o) (Some made) → OnPlace (IsReached w2) y →
-          Does program here (Reached q) w2 (asks_sizes (cell.Ref (suc o)) 0 j (λ st. onward rest 0 (p + 1) k st) (at_elements (cell_of w2 y) ∷ s)) (bind (sizes_from (Object (suc o)) 0 j) (λ ns. found (record (source.place_in y) { type = 0 }) ns))
+          Does program here (Reached q) w2 (if_as_many tables j (cell_of w2 y) (asks_sizes (cell.Ref (suc o)) 0 j (λ st. onward rest 0 (p + 1) k st) (at_elements (cell_of w2 y) ∷ s))) (bind (sizes_from (Object (suc o)) 0 j) (λ ns. found (record (source.place_in y) { type = 0 }) ns))
       opened_so p q behind w2 o made there same long lengths shape y is reached =
-          subst (λ z. OnPlace (IsReached w2) z → Does program here (Reached q) w2 (asks_sizes (cell.Ref (suc o)) 0 j (λ st. onward rest 0 (p + 1) k st) (at_elements (cell_of w2 z) ∷ s)) (bind (sizes_from (Object (suc o)) 0 j) (λ ns. found (record (source.place_in z) { type = 0 }) ns))) (sym is)
+          subst (λ z. OnPlace (IsReached w2) z → Does program here (Reached q) w2 (if_as_many tables j (cell_of w2 z) (asks_sizes (cell.Ref (suc o)) 0 j (λ st. onward rest 0 (p + 1) k st) (at_elements (cell_of w2 z) ∷ s))) (bind (sizes_from (Object (suc o)) 0 j) (λ ns. found (record (source.place_in z) { type = 0 }) ns))) (sym is)
           (λ on.
           let at = elements_at w2 (suc o) made same shape on in
           let spot : Spot = record (spot_of (suc o) made) { type = 0 } in
           let st : Stack = place_in w2 spot ∷ s in
           let go : Stack → Run = λ st. onward rest 0 (p + 1) k st in
-          subst (λ n. Does program here (Reached q) w2 (asks_sizes (cell.Ref (suc o)) 0 n go st) (bind (sizes_from (Object (suc o)) 0 n) (λ ns. found spot ns))) long
+          let as_many : nat_eq j (tables.dimensions made.type) ≡ true = eq-eqb j (tables.dimensions made.type) (many ∙ sym (shaped.dimensions made.type ∙ ap (open_dimensions rows) same)) in
+          subst (λ b. Does program here (Reached q) w2 (if b then asks_sizes (cell.Ref (suc o)) 0 j go st else Traps 16 0) (bind (sizes_from (Object (suc o)) 0 j) (λ ns. found spot ns))) (sym as_many)
+          (subst (λ n. Does program here (Reached q) w2 (asks_sizes (cell.Ref (suc o)) 0 n go st) (bind (sizes_from (Object (suc o)) 0 n) (λ ns. found spot ns))) long
           (does_bind program here (WithSizes made.lengths go st) (Reached q) w2 (asks_sizes (cell.Ref (suc o)) 0 (length made.lengths) go st) (sizes_from (Object (suc o)) 0 (length made.lengths)) (λ ns. found spot ns)
           (sizes_do o made go made.lengths 0 (λ i. let z : i ≡ 0 + i = omega arith in ap (slice_get made.lengths) z) (omega arith) w2 there st)
           (λ w3 up vs m h. record {
             is = record { lengths = made.lengths; are = h.0; many = long; at = rows_grow program w2 w3 up made.lengths t spot at; bound = λ b. lengths };
             run = h.1 ∙ ap (λ n. onward rest 0 n k (pushed (map (cell_of w3) vs) st)) behind
                 ∙ ap (λ c. onward rest 0 q k (pushed (map (cell_of w3) vs) (c ∷ s))) (spot_cell w2 w3 up spot at.shape at.there);
-          }))) reached
+          })))) reached
 
       by : (p q : ℕ) → p + 1 ≡ q → (w1 : World Sort) (y : Value) (m : Run) → (y ≡ Object 0) ⊎ IsMadeAs program w1 (Extends program u) y → m ≡ onward (i.OpenRef j ∷ rest) 0 p k (cell_of w1 y ∷ s) → Does program here (Reached q) w1 m (spread y j)
       by p q behind w1 y m (inl nil) e =
@@ -250,7 +252,7 @@ module _ (program : Program) (own : Option Procedure) (tables : Tables) (number 
           let long : length a.made.lengths ≡ j = l.0 ∙ ap (open_dimensions rows) same ∙ sym many in
           subst (λ z. m ≡ onward (i.OpenRef j ∷ rest) 0 p k (cell_of w1 z ∷ s) → Does program here (Reached q) w1 m (spread z j)) (sym a.object.is)
           (λ f. (
-            (λ c. asks_sizes (cell.Ref (suc o)) 0 j (λ st. onward rest 0 (p + 1) k st) (at_elements c ∷ s)),
+            (λ c. if_as_many tables j c (asks_sizes (cell.Ref (suc o)) 0 j (λ st. onward rest 0 (p + 1) k st) (at_elements c ∷ s))),
             f,
             (a.made, obj),
             λ w2 up x conforms.

@@ -93,7 +93,7 @@ Each P (Val a) = P a
 Each P (Asks q k) = (v : Value) → Each P (k v)
 Each P (Traps n c) = Unit {0}
 
-each_bind : {A B : Type 0} (P : B → Type 0) (d : Doing A) (k : A → Doing B) → ((a : A) → Each P (k a)) → Each P (bind d k)
+pub each_bind : {A B : Type 0} (P : B → Type 0) (d : Doing A) (k : A → Doing B) → ((a : A) → Each P (k a)) → Each P (bind d k)
 each_bind P (Val a) k h = h a
 each_bind P (Asks q f) k h = λ v. each_bind P (f v) k h
 each_bind P (Traps n c) k h = tt

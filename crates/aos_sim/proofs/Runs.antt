@@ -1,14 +1,16 @@
 -- What code does, as a tree of questions; and machine-independent facts on trees.
 use Rattle.std.proofs.Common.{◌≡◌, ℕ, zero, suc, ◌+◌, List, [], ◌∷◌, ◌++◌, Some, length, drop, refl, sym, ap, ◌∙◌, arith, Bool, true, false, if◌then◌else◌}
-use Rattle.std.proofs.Common.{append_assoc}
+use Rattle.std.proofs.Common.{append_assoc, eqb-true}
 use Rattle.std.proofs.lemmas.Grind.{reverse_onto}
-use Rattle.std.proofs.Math.Dec.{leb-zero, leb-suc-zero, leb-suc-suc}
-use Rattle.std.specs.Prelude.{ℤ, pos, nat_le, Option, None, is_some, slice_get, map, reverse, take}
+use Rattle.std.specs.Prelude.{ℤ, pos, nat_eq, Option, None, is_some, slice_get, map, reverse}
 use Rattle.aos_base.specs.declared.text.Pos.{Pos}
 use Rattle.aos_base.specs.Question.{Tree, Val, Asks, Traps, feed, Reads, Stores, Copies, PutsText, ComparesTexts, ByName, Calls, Ends, Makes, Starts, Enters, Leaves, Awaits, PutsInt, PutsChar, PutsString, PutsNothing, PutsLn, Places, Lengths, Opens, Sizes, Tests}
 use Rattle.aos_base.specs.Rooted.{Made}
 use Rattle.aos_base.specs.declared.place.Root.TheVariants.{Object as ObjectRoot}
 use Rattle.aos_base.specs.Operators.{flag}
+use Rattle.aos_typed.specs.Program.{Program}
+use Rattle.aos_typed.specs.Numbers.{id_of_made}
+use Rattle.aos_typed.specs.Open.{open_dimensions}
 use Rattle.aos_typed.specs.Meaning.{Here}
 use Rattle.aos_code.specs.declared.instr.Cell.{Cell}
 use Rattle.aos_code.specs.declared.instr.Cell.TheVariants.{Num, Ref, Call as CallCell, Place}
@@ -44,9 +46,11 @@ gives_result (Some f) = is_some f.result
 pub record Tables : Type 0 where
   pub procedures : List ProcShape
   pub types : List TypeDesc
+  pub dimensions : (type : ℕ) → ℕ  -- how many lengths an object has that is made as the type
 
-abbrev pub tables_of : Image → Tables
-tables_of image = record { procedures = image.shapes.items; types = image.types.items }
+abbrev pub tables_of : Program → Image → Tables
+tables_of p image =
+    record { procedures = image.shapes.items; types = image.types.items; dimensions = λ t. open_dimensions p.types (id_of_made t) }
 
 -- where the code stands whose statements are carried out here
 abbrev pub in_code : Here → CodeHere
@@ -100,9 +104,13 @@ binds Unheard k s = Traps 16 0
 
 -- of an image's procedures and types this is known
 module _ (tables : Tables) where
+  -- what stands at the place has so many dimensions
+  abbrev pub if_as_many : ℕ → Cell → Run → Run
+  if_as_many j v r = if nat_eq j (tables.dimensions (type_at v)) then r else Traps 16 0
+
   abbrev pub looked : Look → (object : ℕ) → (Question → Run) → (Stack → Run) → Stack → Run
   looked (AtCell c) o call k s = Asks (Opens (Ref o)) (λ x. k (at_cell c x ∷ s))
-  looked (AtElements j) o call k s = Asks (Opens (Ref o)) (λ x. asks_sizes (Ref o) 0 j k (at_elements x ∷ s))
+  looked (AtElements j) o call k s = Asks (Opens (Ref o)) (λ x. if_as_many j x (asks_sizes (Ref o) 0 j k (at_elements x ∷ s)))
   looked (IsType t) o call k s = Asks (Tests (Ref o) t) (λ x. k (x ∷ s))
   looked (AsType t) o call k s = Asks (Tests (Ref o) t) (λ x. if_passed x (k (Ref o ∷ s)))
   looked (AsMethod c) o call k s = Asks (Opens (Ref o)) (λ x. binds (bound (method_at tables.types (type_at x) c) o) k s)
@@ -305,37 +313,33 @@ module _ (tables : Tables) (made : ℕ → Option Made) (cells : List Cell) (o :
   told_run (Invokes q vs) s = calmed (call (Calls ByName q vs))
   told_run Unheard s = Traps 16 0
 
-  module _ (m : Made) (is : made o ≡ Some m) where
+  module _ (m : Made) (is : made o ≡ Some m) (long : length m.lengths ≡ tables.dimensions m.type) where
     size_known : (d n x : ℕ) (s : Stack) → slice_get m.lengths d ≡ Some x → calmed (asks_sizes (Ref o) d (suc n) k s) ≡ calmed (asks_sizes (Ref o) (suc d) n k (Num (pos x) ∷ s))
     size_known d n x s e =
         calm_answered types made cells (Sizes (Ref o) d) (λ y. asks_sizes (Ref o) (suc d) n k (y ∷ s)) (Num (pos x))
         (ap (told_as (λ m. or_unknown (slice_get m.lengths d))) is ∙ ap or_unknown e)
 
-    size_unknown : (d n : ℕ) (s : Stack) → slice_get m.lengths d ≡ None → calmed (asks_sizes (Ref o) d (suc n) k s) ≡ Traps 16 0
-    size_unknown d n s e =
-        calm_unknown types made cells (Sizes (Ref o) d) (λ y. asks_sizes (Ref o) (suc d) n k (y ∷ s))
-        (ap (told_as (λ m. or_unknown (slice_get m.lengths d))) is ∙ ap or_unknown e)
-
-    sizes_told : (n d : ℕ) (ns : List ℕ) (s : Stack) → ((j : ℕ) → slice_get ns j ≡ slice_get m.lengths (d + j)) → calmed (asks_sizes (Ref o) d n k s) ≡ (if nat_le n (length ns) then calmed (k (pushed (numbers (take n ns)) s)) else Traps 16 0)
-    sizes_told zero d ns s e = rw (leb-zero (length ns)) refl
-    sizes_told (suc n) d [] s e =
+    sizes_told : (d : ℕ) (ns : List ℕ) (s : Stack) → ((j : ℕ) → slice_get ns j ≡ slice_get m.lengths (d + j)) → calmed (asks_sizes (Ref o) d (length ns) k s) ≡ calmed (k (pushed (numbers ns) s))
+    sizes_told d [] s e = refl
+    sizes_told d (x ∷ ns) s e =
         let z : d + 0 ≡ d = omega arith in
-        size_unknown d n s (ap (slice_get m.lengths) (sym z) ∙ sym (e 0)) ∙ ap (λ b. if b then calmed (k s) else Traps 16 0) (sym (leb-suc-zero n))
-    sizes_told (suc n) d (x ∷ ns) s e =
-        let z : d + 0 ≡ d = omega arith in
-        size_known d n x s (ap (slice_get m.lengths) (sym z) ∙ sym (e 0))
-        ∙ sizes_told n (suc d) ns (Num (pos x) ∷ s) (λ j. let f : d + suc j ≡ suc d + j = omega arith in e (suc j) ∙ ap (slice_get m.lengths) f)
-        ∙ ap (λ b. if b then calmed (k (pushed (numbers (take n ns)) (Num (pos x) ∷ s))) else Traps 16 0) (sym (leb-suc-suc n (length ns)))
+        size_known d (length ns) x s (ap (slice_get m.lengths) (sym z) ∙ sym (e 0))
+        ∙ sizes_told (suc d) ns (Num (pos x) ∷ s) (λ j. let f : d + suc j ≡ suc d + j = omega arith in e (suc j) ∙ ap (slice_get m.lengths) f)
 
-    elements_told : (j : ℕ) (s : Stack) → calmed (asks_sizes (Ref o) 0 j k (Place (ObjectRoot o) 0 0 ∷ s)) ≡ told_run (told_by tables.procedures types (AtElements j) o (Some m)) s
+    -- all lengths are told where they are so many
+    elements_told : (j : ℕ) (s : Stack) → calmed (if_as_many tables j (Place (ObjectRoot o) 0 m.type) (asks_sizes (Ref o) 0 j k (Place (ObjectRoot o) 0 0 ∷ s))) ≡ told_run (told_by tables.procedures types (AtElements j) o (Some m)) s
     elements_told j s =
-        sizes_told j 0 m.lengths (Place (ObjectRoot o) 0 0 ∷ s) (λ i. let z : i ≡ 0 + i = omega arith in ap (slice_get m.lengths) z) ∙ by (nat_le j (length m.lengths))
+        let st = Place (ObjectRoot o) 0 0 ∷ s in
+        ap (λ n. calmed (if nat_eq j n then asks_sizes (Ref o) 0 j k st else Traps 16 0)) (sym long) ∙ by (nat_eq j (length m.lengths)) refl
       where
-        by : (b : Bool) → (if b then calmed (k (pushed (numbers (take j m.lengths)) (Place (ObjectRoot o) 0 0 ∷ s))) else Traps 16 0) ≡ told_run (if b then Tells (length_cells (take j m.lengths) ++ Place (ObjectRoot o) 0 0 ∷ []) else Unheard) s
-        by true =
-            ap (λ z. calmed (k z)) (pushed_reverse (numbers (take j m.lengths)) (Place (ObjectRoot o) 0 0 ∷ s)
-            ∙ sym (append_assoc (length_cells (take j m.lengths)) (Place (ObjectRoot o) 0 0 ∷ []) s))
-        by false = refl
+        by : (b : Bool) → nat_eq j (length m.lengths) ≡ b →
+            calmed (if b then asks_sizes (Ref o) 0 j k (Place (ObjectRoot o) 0 0 ∷ s) else Traps 16 0) ≡ told_run (if b then Tells (length_cells m.lengths ++ Place (ObjectRoot o) 0 0 ∷ []) else Unheard) s
+        by true same =
+            let st = Place (ObjectRoot o) 0 0 ∷ s in
+            ap (λ n. calmed (asks_sizes (Ref o) 0 n k st)) (eqb-true j (length m.lengths) same)
+            ∙ sizes_told 0 m.lengths st (λ i. let z : i ≡ 0 + i = omega arith in ap (slice_get m.lengths) z)
+            ∙ ap (λ z. calmed (k z)) (pushed_reverse (numbers m.lengths) st ∙ sym (append_assoc (length_cells m.lengths) (Place (ObjectRoot o) 0 0 ∷ []) s))
+        by false same = refl
 
     test_told : (b : Bool) (s : Stack) → calmed (if_passed (Num (flag b)) (k (Ref o ∷ s))) ≡ told_run (if b then Tells (Ref o ∷ []) else Refuses 3) s
     test_told true s = refl
@@ -357,7 +361,7 @@ module _ (tables : Tables) (made : ℕ → Option Made) (cells : List Cell) (o :
     tells (AtCell c) s =
         calm_answered types made cells (Opens (Ref o)) (λ x. k (at_cell c x ∷ s)) (Place (ObjectRoot o) 0 m.type) (ap (told_as (λ m. Answered (Place (ObjectRoot o) 0 m.type))) is)
     tells (AtElements j) s =
-        calm_answered types made cells (Opens (Ref o)) (λ x. asks_sizes (Ref o) 0 j k (at_elements x ∷ s)) (Place (ObjectRoot o) 0 m.type) (ap (told_as (λ m. Answered (Place (ObjectRoot o) 0 m.type))) is)
+        calm_answered types made cells (Opens (Ref o)) (λ x. if_as_many tables j x (asks_sizes (Ref o) 0 j k (at_elements x ∷ s))) (Place (ObjectRoot o) 0 m.type) (ap (told_as (λ m. Answered (Place (ObjectRoot o) 0 m.type))) is)
         ∙ elements_told j s
     tells (IsType t) s =
         calm_answered types made cells (Tests (Ref o) t) (λ x. k (x ∷ s)) (Num (flag (extends types m.type t))) (ap (told_as (λ m. Answered (Num (flag (extends types m.type t))))) is)
@@ -374,7 +378,7 @@ module _ (tables : Tables) (made : ℕ → Option Made) (cells : List Cell) (o :
   tells_nothing : made o ≡ None → (l : Look) (s : Stack) → calmed (looked tables l o call k s) ≡ Traps 16 0
   tells_nothing e (AtCell c) s = calm_unknown types made cells (Opens (Ref o)) (λ x. k (at_cell c x ∷ s)) (ap (told_as (λ m. Answered (Place (ObjectRoot o) 0 m.type))) e)
   tells_nothing e (AtElements j) s =
-      calm_unknown types made cells (Opens (Ref o)) (λ x. asks_sizes (Ref o) 0 j k (at_elements x ∷ s)) (ap (told_as (λ m. Answered (Place (ObjectRoot o) 0 m.type))) e)
+      calm_unknown types made cells (Opens (Ref o)) (λ x. if_as_many tables j x (asks_sizes (Ref o) 0 j k (at_elements x ∷ s))) (ap (told_as (λ m. Answered (Place (ObjectRoot o) 0 m.type))) e)
   tells_nothing e (IsType t) s = calm_unknown types made cells (Tests (Ref o) t) (λ x. k (x ∷ s)) (ap (told_as (λ m. Answered (Num (flag (extends types m.type t))))) e)
   tells_nothing e (AsType t) s =
       calm_unknown types made cells (Tests (Ref o) t) (λ x. if_passed x (k (Ref o ∷ s))) (ap (told_as (λ m. Answered (Num (flag (extends types m.type t))))) e)
@@ -383,12 +387,12 @@ module _ (tables : Tables) (made : ℕ → Option Made) (cells : List Cell) (o :
   tells_nothing e (AtSlot c p vs) s =
       calm_unknown types made cells (Opens (Ref o)) (λ x. invokes (invoked tables.procedures p (method_at types (type_at x) c) o vs) call) (ap (told_as (λ m. Answered (Place (ObjectRoot o) 0 m.type))) e)
 
-  told_at_once : (l : Look) (s : Stack) → calmed (looked tables l o call k s) ≡ told_run (told_by tables.procedures types l o (made o)) s
-  told_at_once l s = by (made o) refl
+  told_at_once : ((m : Made) → made o ≡ Some m → length m.lengths ≡ tables.dimensions m.type) → (l : Look) (s : Stack) → calmed (looked tables l o call k s) ≡ told_run (told_by tables.procedures types l o (made o)) s
+  told_at_once long l s = by (made o) refl
     where
       by : (r : Option Made) → made o ≡ r → calmed (looked tables l o call k s) ≡ told_run (told_by tables.procedures types l o r) s
       by None e = tells_nothing e l s
-      by (Some m) e = tells m e l s
+      by (Some m) e = tells m e (long m e) l s
 
 -- whatever object it is, a question that is asked at once isn't visible work
 answered_noted : (types : List TypeDesc) (made : ℕ → Option Made) (cells : List Cell) (q : Question) → is_asked_at_once q ≡ false → answered types made cells q ≡ noted cells q
@@ -440,7 +444,8 @@ object_unnoted cells PutsLn e = absurd (cc)
 object_unnoted cells (Places a) e = absurd (cc)
 object_unnoted cells (Lengths a) e = absurd (cc)
 
-module _ (tables : Tables) (made : ℕ → Option Made) (own : ℕ) (here : Here) (cells : List Cell) (code : List Instr) where
+-- where each object has as many lengths as its type has dimensions
+module _ (tables : Tables) (made : ℕ → Option Made) (long : (o : ℕ) (m : Made) → made o ≡ Some m → length m.lengths ≡ tables.dimensions m.type) (own : ℕ) (here : Here) (cells : List Cell) (code : List Instr) where
   abbrev runs_here : List Instr → Onward
   runs_here = runs tables own here code
 
@@ -487,7 +492,7 @@ module _ (tables : Tables) (made : ℕ → Option Made) (own : ℕ) (here : Here
   by_act rest at e ih k (Puts c v s) = ih 0 (kept c v k) s
   by_act rest at e ih k (Takes c kind s) = by_test rest at ih (is_of kind (k c)) k (k c ∷ s)
   by_act rest at e ih k (Looks l o s) =
-      told_at_once tables made cells o (λ q. at_work tables q at k s (runs_here rest)) (λ s'. runs_here rest 0 (at + 1) k s') l s
+      told_at_once tables made cells o (λ q. at_work tables q at k s (runs_here rest)) (λ s'. runs_here rest 0 (at + 1) k s') (long o) l s
       ∙ by_told rest at e ih o k s (told_by tables.procedures tables.types l o (made o))
   by_act rest at e ih k (Sees q s) = by_note rest at e ih q k s (noted cells q) refl (is_asked_at_once q) refl
   by_act rest at e ih k (Stops (Begins to p s)) = refl

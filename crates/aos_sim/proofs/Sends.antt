@@ -113,7 +113,7 @@ module _ (p : Program) where
       let same : Handles p true a.by_reference c w t us = (opened.0, opened.1, opened.2, opened.3 ∙ sym s.2, subst (λ z. IsPlace p w (Elements z opened.1) opened.0) (sym s.3) opened.4, opened.5) in
       subst (λ o. Handles p o a.by_reference c w t us) (sym s.0) same
 
-  given_alike : (w : World Sort) (as' bs : List Parameter) (vs : List Value) → Agree p.types as' bs → Given p w bs vs → Given p w as' vs
+  pub given_alike : (w : World Sort) (as' bs : List Parameter) (vs : List Value) → Agree p.types as' bs → Given p w bs vs → Given p w as' vs
   given_alike w [] [] vs h g = g
   given_alike w [] (b ∷ bs) vs h g = absurd h
   given_alike w (a ∷ as') [] vs h g = absurd h

@@ -8,7 +8,6 @@ use Rattle.std.proofs.lemmas.Option.{slice_get-map}
 use Rattle.std.proofs.lemmas.List.Elements.{All-nil}
 use Rattle.aos_types.specs.Extension.{comes_to}
 use Rattle.aos_types.proofs.Tables.{comes_on}
-use Rattle.aos_types.specs.Shape.{Nothing}
 use Rattle.aos_base.specs.declared.priority.Priority.{Priority}
 use Rattle.aos_base.specs.declared.priority.Priority.TheVariants.{Low, Normal, High}
 use Rattle.aos_base.specs.Book.{Where}
@@ -16,7 +15,7 @@ use Rattle.aos_base.specs.Rooted.{Made, by_number}
 use Rattle.aos_base.specs.Machine.{Choice, execution}
 use Rattle.aos_base.specs.Priority.{number_of}
 use Rattle.aos_typed.specs.declared.tree.TType.{TType}
-use Rattle.aos_typed.specs.Program.{Variable, ObjectType, Module, Program}
+use Rattle.aos_typed.specs.Program.{ObjectType, Module, Program}
 use Rattle.aos_typed.specs.Routines.{result_of, routine_of}
 use Rattle.aos_typed.specs.Numbers.{id_of_made, body_number}
 use Rattle.aos_typed.specs.Methods.{body_type, priority_by}
@@ -36,6 +35,7 @@ use Rattle.aos_concurrency.specs.Regions.{Outside}
 use Rattle.aos_concurrency.proofs.Begin.{start_sound}
 use Rattle.aos_concurrency.proofs.Steps.{sound_always}
 use Rattle.aos_sim.proofs.Regions.{Stands, source_keeps, body_none}
+use Rattle.aos_sim.proofs.Insides.{body_inside}
 use Rattle.aos_sim.proofs.Locks.{regions_same}
 use Rattle.aos_concurrency.proofs.Matching.{execution_matches, start_matches, observation_matches, events_match}
 use Rattle.aos_sim.specs.Shows.{numbers_from, body_in, IsCodeOf, Shows}
@@ -48,18 +48,18 @@ use Rattle.aos_sim.proofs.Objects.{some_same}
 use Rattle.aos_sim.proofs.References.{comes_same}
 use Rattle.aos_sim.proofs.Typed.{has_types}
 use Rattle.aos_sim.proofs.Runs.{tables_of}
-use Rattle.aos_sim.proofs.Does.{HasTypes, HasShapes, IsFrameOf, IsSelf}
-use Rattle.aos_sim.proofs.States.{world_of, IsFew, AreFew, number_get, SameStore, Placed, RoutinesRun, Follows, Waiting, SameFrames, Same, body_same, body_shown, opened_same, same_grows}
+use Rattle.aos_sim.proofs.Does.{HasTypes, HasShapes, IsSelf}
+use Rattle.aos_sim.proofs.States.{world_of, IsFew, AreFew, number_get, SameStore, Placed, RoutinesRun, Follows, Waiting, SameFrames, Same, bare_frame, body_same, body_shown, opened_same, same_grows}
 use Rattle.aos_sim.proofs.Routines.{module_there, object_there}
 use Rattle.aos_sim.proofs.Bodies.{alike_at, range_get, range_past, has_shapes, home_known, routines_run}
 use Rattle.aos_sim.proofs.Grown.{turn_grown}
 use Rattle.aos_sim.proofs.Turns.{Awaited, awaited_grows, Together, turn_alike}
 use Rattle.aos_sim.proofs.Verdicts.{verdict_same}
 
-module _ (program : Program) (image : Image) (shaped : HasShapes program (tables_of image)) where
+module _ (program : Program) (image : Image) (shaped : HasShapes program (tables_of program image)) where
   -- a frame's text is of the module that its procedure's shape names
   home_same : (made : ℕ → Option Made) (f : S.Frame) (g : I.Frame) → Placed program image made f g → f.home ≡ home_of image g.procedure
-  home_same made f g h = sym (home_known program (tables_of image) shaped g.procedure h.routine h.there ∙ h.home_is)
+  home_same made f g h = sym (home_known program (tables_of program image) shaped g.procedure h.routine h.there ∙ h.home_is)
 
   waiting_position : (made : List Made) (result : Option TType) (below : Where) (fs : List S.Frame) (gs : List I.Frame) → Waiting program image made result fs gs → S.position_or below fs ≡ I.position_or image below gs
   waiting_position made result below [] [] h = refl
@@ -104,9 +104,9 @@ module _ (p : Program) (image : Image) (well : IsWellTyped p) (ok : IsCodeOf p i
       }
 
   abbrev typed : HasTypes p
-  typed = has_types p image.bodies.items image.conds.items image.shapes.items image.modules.items image.types.items well ok
+  typed = has_types p well
 
-  abbrev shaped : HasShapes p (tables_of image)
+  abbrev shaped : HasShapes p (tables_of p image)
   shaped = has_shapes p image ok typed
 
   abbrev run : RoutinesRun p image
@@ -156,22 +156,9 @@ module _ (p : Program) (image : Image) (well : IsWellTyped p) (ok : IsCodeOf p i
         let x = has.object in
         let is = object_type p well.parts.objects b x has.there in
         let extends = comes_on p.types typed.ranked (id_of_made self.1.type) (id_of_made (suc t)) (id_of_made (suc b)) self.5 has.extends in
-        body_same p image run made o (body_number p b) (routine_of x.home x.body) (object_there p b x has.there) (sym (ap is_some has.body.proper)) (frame is.bare)
+        body_same p image run made o (body_number p b) (routine_of x.home x.body) (object_there p b x has.there) (sym (ap is_some has.body.proper)) (bare_frame p x.body has.body.plain is.bare)
         (subst (λ z. IsSelf p (λ o. by_number o made) z o) (sym has.body.own) (self.0, self.1, self.2, self.3, self.4, extends))
         (λ e. absurd (let some : Some b ≡ None = sym has.body.own ∙ e in cc some))
-      where
-        frame : has.object.body.locals ≡ [] → IsFrameOf p (Some has.object.body) Nothing
-        frame bare =
-            record {
-              parameters = λ k a e. absurd (let none : slice_get has.object.body.parameters k ≡ None = ap (λ l. slice_get l k) has.body.plain in cc (none, e));
-              locals = λ k u e.
-                  let own : Some has.object.body ≡ Some e.0 = e.2 in
-                  let same : has.object.body ≡ e.0 = cc in
-                  let none : option_map (λ (v : Variable). v.of) (slice_get e.0.locals e.1) ≡ None = ap (λ q. option_map (λ (v : Variable). v.of) (slice_get q.locals e.1)) (sym same) ∙ ap (λ l. option_map (λ (v : Variable). v.of) (slice_get l e.1)) bare in
-                  let some = e.4 in
-                  absurd (cc (none, some));
-              few = omega arith;
-            }
 
     -- which one it is the type's description tells
     body_described : (d : TypeDesc) → slice_get image.types.items t ≡ Some d → d.body ≡ body_in p (body_type p t)
@@ -190,9 +177,10 @@ module _ (p : Program) (image : Image) (well : IsWellTyped p) (ok : IsCodeOf p i
         by (Some b) e (Some d) f =
             let has = typed.methods.bodies t b e in
             let x = has.object in
+            let lock = S.lock_of (S.body_frame x.home o x.body.body) in
             subst (λ z. Same p image made (S.object_frames o z) (I.object_frames o (Some d))) (sym has.there)
             (subst (begun (S.body_frame x.home o x.body.body ∷ [])) (sym (body_described d f ∙ ap (body_in p) e))
-            (record { follows = tt; frames = body_begins b has; shown = body_shown p image made o (body_number p b) x.home x.body.body; regions = (body_none (S.lock_of (S.body_frame x.home o x.body.body)) x.body.body, tt) }))
+            (record { follows = tt; frames = body_begins b has; shown = body_shown p image made o (body_number p b) x.home x.body.body; regions = ((body_none lock x.body.body, body_inside lock x.body.body (run (body_number p b) (routine_of x.home x.body) (object_there p b x has.there)).0), tt) }))
 
   -- an object is one of its own type
   self_made : (made : List Made) → AreFew p made → (o : ℕ) (m : Made) (t : ℕ) → by_number o made ≡ Some m → m.type ≡ suc t → IsSelf p (λ o. by_number o made) (Some t) o
@@ -283,4 +271,5 @@ module _ (p : Program) (image : Image) (well : IsWellTyped p) (ok : IsCodeOf p i
   shown = record {
     observation = λ budget choices. sym (observation_matches (SameStore p) (Together p image) (Outside (S.source p)) (S.source p) (machine image) simulates (execution (S.source p) choices (S.first_state p budget)) (execution (machine image) choices (I.first_state image budget)) (matched budget choices));
     events = λ budget choices. sym (events_match (SameStore p) (Together p image) (Outside (S.source p)) (S.source p) (machine image) simulates (execution (S.source p) choices (S.first_state p budget)) (execution (machine image) choices (I.first_state image budget)) (matched budget choices));
+    books = λ budget choices. sym (matched budget choices).book;
   }

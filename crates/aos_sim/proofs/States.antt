@@ -12,9 +12,10 @@ use Rattle.aos_types.specs.Shape.{Shape, Nothing, size}
 use Rattle.aos_types.specs.Content.{Content}
 use Rattle.aos_types.specs.World.{World, Grows, world}
 use Rattle.aos_typed.specs.declared.tree.TType.{TType}
-use Rattle.aos_typed.specs.Program.{Body, Procedure, Module, Program}
+use Rattle.aos_typed.specs.Program.{Body, Variable, Procedure, Module, Program}
 use Rattle.aos_typed.specs.Numbers.{id_of, id_of_made}
 use Rattle.aos_typed.specs.Routines.{Routine, self_type, result_of, gives, routines}
+use Rattle.aos_typed.specs.Rules.{BodyKeepsRules}
 use Rattle.aos_typed.specs.Sort.{Sort, Plain}
 use Rattle.aos_typed.specs.Value.{Value}
 use Rattle.aos_types.specs.Table.{row_of}
@@ -36,8 +37,9 @@ use Rattle.aos_places.proofs.Makes.{frames_shown_grow}
 use Rattle.aos_sim.specs.Cells.{cell_of}
 use Rattle.aos_sim.proofs.Kept.{values_kept}
 use Rattle.aos_sim.proofs.Runs.{Run, tables_of, run}
-use Rattle.aos_sim.proofs.Does.{scheme, HasTypes, HasShapes, IsSelf, self_grows, IsFrameOf, IsAnswer, IsResult, AreReached, IsWhole, Does, does_last, lasts_grow}
+use Rattle.aos_sim.proofs.Does.{scheme, HasShapes, IsSelf, self_grows, IsFrameOf, IsAnswer, IsResult, AreReached, IsWhole, Does, does_last, lasts_grow}
 use Rattle.aos_sim.proofs.Regions.{body_none}
+use Rattle.aos_sim.proofs.Insides.{AreInside, body_inside}
 use Rattle.aos_sim.proofs.Carries.{GoesOn, GivesBack, Returning, Remains, Behind}
 use Rattle.aos_sim.proofs.First.{all_get, zero_cell, first_is, first_same}
 
@@ -81,18 +83,32 @@ pub body_frame : (program : Program) (s : Shape Sort) → size s < 2 ^ 32 → Is
 body_frame program s few =
     record { parameters = λ k a e. absurd (cc); locals = λ k t e. let no = e.2 in absurd (cc); few = few }
 
+-- and that of an object's body, which takes nothing and has no locals
+pub bare_frame : (program : Program) (q : Procedure) → q.parameters ≡ [] → q.locals ≡ [] → IsFrameOf program (Some q) Nothing
+bare_frame program q plain bare =
+    record {
+      parameters = λ k a e. absurd (let none : slice_get q.parameters k ≡ None = ap (λ l. slice_get l k) plain in cc (none, e));
+      locals = λ k u e.
+          let own : Some q ≡ Some e.0 = e.2 in
+          let same : q ≡ e.0 = cc in
+          let none : option_map (λ (v : Variable). v.of) (slice_get e.0.locals e.1) ≡ None = ap (λ (z : Procedure). option_map (λ (v : Variable). v.of) (slice_get z.locals e.1)) (sym same) ∙ ap (λ l. option_map (λ (v : Variable). v.of) (slice_get l e.1)) bare in
+          let some = e.4 in
+          absurd (cc (none, some));
+      few = omega arith;
+    }
+
 -- with the answer of a call the code of a function's caller goes on with it on the stack
 abbrev pub with_answer : World Sort → Option TType → Value → Stack → Stack
 with_answer w None v s = s
 with_answer w (Some t) v s = cell_of w v ∷ s
 
--- a frame's region is open exactly where its items have a mark, and they have one at most
+-- A frame's region is open exactly where its items have a mark, and they have one at most; each item keeps the rules where it stands.
 abbrev pub locks_open : Bool → LockName → List LockName
 locks_open true l = l ∷ []
 locks_open false l = []
 
 abbrev pub IsOpen : S.Frame → I.Frame → Type 0
-IsOpen f g = locks_in (S.lock_of f) f.items ≡ locks_open g.is_open (S.lock_of f)
+IsOpen f g = (locks_in (S.lock_of f) f.items ≡ locks_open g.is_open (S.lock_of f)) × AreInside (S.lock_of f) f.items
 
 abbrev pub SameRegions : List S.Frame → List I.Frame → Type 0
 SameRegions [] [] = Unit {0}
@@ -154,12 +170,12 @@ module _ (program : Program) (image : Image) where
   Went own number here w (Some t) [] next k s = ⊥
   Went own number here w (Some t) (i ∷ is) next k s =
       let code = code_of image number in
-      Does program here (Behind program own (tables_of image) number here code is) w (run (tables_of image) number here code next k s) (feed t (item_of program here i))
+      Does program here (Behind program own (tables_of program image) number here code is) w (run (tables_of program image) number here code next k s) (feed t (item_of program here i))
 
   -- a frame above so many others, in a world; what remains of its items is what its code goes on with
   pub record SameFrame (w : World Sort) (below : ℕ) (f : S.Frame) (g : I.Frame) : Type 0 where
     pub place : Placed w.made f g
-    pub remains : Remains program place.routine.own (tables_of image) g.procedure (here_in below f) (code_of image g.procedure) f.variables g.cells w f.answers f.items g.next g.keeps g.stack
+    pub remains : Remains program place.routine.own (tables_of program image) g.procedure (here_in below f) (code_of image g.procedure) f.variables g.cells w f.answers f.items g.next g.keeps g.stack
 
   -- one that has had an answer
   pub record WentFrame (w : World Sort) (below : ℕ) (f : S.Frame) (g : I.Frame) : Type 0 where
@@ -195,10 +211,10 @@ module _ (program : Program) (image : Image) where
   WentFrames made (f ∷ fs) (g ∷ gs) =
       (h : WentFrame (world_of program made (shapes_of (f ∷ fs))) (length fs) f g) × Waiting made (result_of h.place.routine.own) fs gs
 
-  -- the code of each routine carries out its statements
+  -- the body of each routine keeps the rules, and its code carries out its statements
   abbrev pub RoutinesRun : Type 0
   RoutinesRun =
-      (p : ℕ) (r : Routine) → by_number p (routines program) ≡ Some r → (here : Here) → GoesOn program r.own (tables_of image) p here (code_of image p) (body_items r.body) (run (tables_of image) p here (code_of image p) 0 (λ c. Num (pos 0)) [])
+      (p : ℕ) (r : Routine) → by_number p (routines program) ≡ Some r → BodyKeepsRules r.body × ((here : Here) → GoesOn program r.own (tables_of program image) p here (code_of image p) (body_items r.body) (run (tables_of program image) p here (code_of image p) 0 (λ c. Num (pos 0)) []))
 
   -- the bodies of modules that are to follow, and the procedures that they are
   abbrev pub Follows : List ℕ → List ℕ → Type 0
@@ -276,34 +292,34 @@ module _ (program : Program) (image : Image) where
   result_grows w w' g (Some t) (Some v) h =
       ((values_kept program).is w w' g (Plain (id_of t)) v h, ap (λ c. Some c) ((values_kept program).cells w w' g (Plain (id_of t)) v h))
 
-  gives_grows : (w w' : World Sort) → Grows w w' → (own : Option Procedure) (number : ℕ) (here : Here) (r : Option Value) (m : Run) → GivesBack program own (tables_of image) number here (code_of image number) w r m → GivesBack program own (tables_of image) number here (code_of image number) w' r m
+  gives_grows : (w w' : World Sort) → Grows w w' → (own : Option Procedure) (number : ℕ) (here : Here) (r : Option Value) (m : Run) → GivesBack program own (tables_of program image) number here (code_of image number) w r m → GivesBack program own (tables_of program image) number here (code_of image number) w' r m
   gives_grows w w' g own number here r m h =
       let k = result_grows w w' g (result_of own) r h.2 in
       (h.0, h.1 ∙ ap (λ o. Asks (Ends o) h.0) k.1, k.0)
 
-  returning_grows : (w w' : World Sort) → Grows w w' → (own : Option Procedure) (number : ℕ) (here : Here) (r : Option Value) (is : List Item) (m : Run) → Returning program own (tables_of image) number here (code_of image number) w r is m → Returning program own (tables_of image) number here (code_of image number) w' r is m
+  returning_grows : (w w' : World Sort) → Grows w w' → (own : Option Procedure) (number : ℕ) (here : Here) (r : Option Value) (is : List Item) (m : Run) → Returning program own (tables_of program image) number here (code_of image number) w r is m → Returning program own (tables_of program image) number here (code_of image number) w' r is m
   returning_grows w w' g own number here r is m (inl h) = inl (h.0, gives_grows w w' g own number here r m h.1)
   returning_grows w w' g own number here r is m (inr h) =
       inr (h.0, (h.1.0, h.1.1, λ x. gives_grows w w' g own number here r (h.1.0 x) (h.1.2 x)))
 
-  pub behind_grows : (w w' : World Sort) → Grows w w' → (own : Option Procedure) (number : ℕ) (here : Here) (is : List Item) (a : After) (m : Run) → Behind program own (tables_of image) number here (code_of image number) is w a m → Behind program own (tables_of image) number here (code_of image number) is w' a m
+  pub behind_grows : (w w' : World Sort) → Grows w w' → (own : Option Procedure) (number : ℕ) (here : Here) (is : List Item) (a : After) (m : Run) → Behind program own (tables_of program image) number here (code_of image number) is w a m → Behind program own (tables_of program image) number here (code_of image number) is w' a m
   behind_grows w w' g own number here is (Into new) m h = h
   behind_grows w w' g own number here is Exits m h = h
   behind_grows w w' g own number here is (Returns r) m h = returning_grows w w' g own number here r (leave_all r is) m h
 
-  remains_grows : (w w' : World Sort) → Grows w w' → (own : Option Procedure) (number : ℕ) (here : Here) (c : Content Value) (cells : List Cell) (answers : Option (List Value)) (is : List Item) (next : ℕ) (k : Keeps) (st : Stack) → Remains program own (tables_of image) number here (code_of image number) c cells w answers is next k st → Remains program own (tables_of image) number here (code_of image number) c cells w' answers is next k st
+  remains_grows : (w w' : World Sort) → Grows w w' → (own : Option Procedure) (number : ℕ) (here : Here) (c : Content Value) (cells : List Cell) (answers : Option (List Value)) (is : List Item) (next : ℕ) (k : Keeps) (st : Stack) → Remains program own (tables_of program image) number here (code_of image number) c cells w answers is next k st → Remains program own (tables_of program image) number here (code_of image number) c cells w' answers is next k st
   remains_grows w w' g own number here c cells None is next k st (inl h) = inl h
   remains_grows w w' g own number here c cells None is next k st (inr h) =
-      inr (h.0, returning_grows w w' g own number here h.0 is (run (tables_of image) number here (code_of image number) next k st) h.1)
+      inr (h.0, returning_grows w w' g own number here h.0 is (run (tables_of program image) number here (code_of image number) next k st) h.1)
   remains_grows w w' g own number here c cells (Some t) [] next k st h = absurd h
   remains_grows w w' g own number here c cells (Some t) (i ∷ is) next k st h =
       let code = code_of image number in
-      lasts_grow program here w w' g (Behind program own (tables_of image) number here code is) image.types.items c cells (run (tables_of image) number here code next k st) (feed t (item_of program here i)) h
+      lasts_grow program here w w' g (Behind program own (tables_of program image) number here code is) image.types.items c cells (run (tables_of program image) number here code next k st) (feed t (item_of program here i)) h
 
   -- Behind an answer.
 
   -- what stands below a root of frames that have so few scalars has cells with numbers of 32 bits
-  module _ (typed : HasTypes program) where
+  module _ (shaped : HasShapes program (tables_of program image)) where
     frame_few : (z : Shape Sort) (b : Bool) (d : ℕ) (s : Shape Sort) → size z < 2 ^ 32 → (shapes : List (Shape Sort)) → (from_last d shapes ≡ Some s → size s < 2 ^ 32) → (if b then Some z else from_last d shapes) ≡ Some s → size s < 2 ^ 32
     frame_few z true d s few shapes below e = let q : z ≡ s = cc in subst (λ x. size x < 2 ^ 32) q few
     frame_few z false d s few shapes below e = below e
@@ -317,7 +333,7 @@ module _ (program : Program) (image : Image) where
     all_reached : (made : List Made) (z : Shape Sort) (result : Option TType) (fs : List S.Frame) (gs : List I.Frame) → AreFew program made → size z < 2 ^ 32 → Waiting made result fs gs → AreReached (world_of program made (z ∷ shapes_of fs))
     all_reached made z result fs gs objects few h (FrameRoot d) s e =
         frame_few z (nat_eq d (length (shapes_of fs))) d s few (shapes_of fs) (waiting_few made result fs gs h d s) e
-    all_reached made z result fs gs objects few h (ModuleRoot m) s e = typed.few m s e
+    all_reached made z result fs gs objects few h (ModuleRoot m) s e = shaped.few m s e
     all_reached made z result fs gs objects few h (ObjectRoot o) s e = by (by_number o made) refl e
       where
         by : (m : Option Made) → by_number o made ≡ m → option_map (scheme program).made m ≡ Some s → size s < 2 ^ 32
@@ -330,11 +346,11 @@ module _ (program : Program) (image : Image) where
         record { reached = all_reached made z result fs gs objects few h; objects = λ o m e. ap (option_map (made_shape program.types)) e }
 
     -- with an answer the topmost frame's silent questions are answered
-    pub went_same : HasShapes program (tables_of image) → (made : List Made) (fs : List S.Frame) (gs : List I.Frame) → AreFew program made → WentFrames made fs gs → SameVariables program made fs gs → SameFrames made fs gs
-    went_same shaped made [] [] few h shown = tt
-    went_same shaped made [] (g ∷ gs) few h shown = absurd h
-    went_same shaped made (f ∷ fs) [] few h shown = absurd h
-    went_same shaped made (f ∷ fs) (g ∷ gs) few h shown =
+    pub went_same : (made : List Made) (fs : List S.Frame) (gs : List I.Frame) → AreFew program made → WentFrames made fs gs → SameVariables program made fs gs → SameFrames made fs gs
+    went_same made [] [] few h shown = tt
+    went_same made [] (g ∷ gs) few h shown = absurd h
+    went_same made (f ∷ fs) [] few h shown = absurd h
+    went_same made (f ∷ fs) (g ∷ gs) few h shown =
         let place = h.0.place in
         let whole = all_whole made f.shape (result_of place.routine.own) fs gs few place.frame.few h.1 in
         (record { place = place; remains = calmed place.routine.own f.answers f.items h.0.went whole }, h.1)
@@ -342,13 +358,13 @@ module _ (program : Program) (image : Image) where
         now : World Sort
         now = world_of program made (shapes_of (f ∷ fs))
 
-        calmed : (own : Option Procedure) (answers : Option (List Value)) (items : List Item) → Went own g.procedure (here_in (length fs) f) now answers items g.next g.keeps g.stack → IsWhole program now → Remains program own (tables_of image) g.procedure (here_in (length fs) f) (code_of image g.procedure) f.variables g.cells now answers items g.next g.keeps g.stack
+        calmed : (own : Option Procedure) (answers : Option (List Value)) (items : List Item) → Went own g.procedure (here_in (length fs) f) now answers items g.next g.keeps g.stack → IsWhole program now → Remains program own (tables_of program image) g.procedure (here_in (length fs) f) (code_of image g.procedure) f.variables g.cells now answers items g.next g.keeps g.stack
         calmed own None items h' whole = absurd h'
         calmed own (Some t) [] h' whole = absurd h'
         calmed own (Some t) (i ∷ is) h' whole =
             let code = code_of image g.procedure in
             let here = here_in (length fs) f in
-            does_last program here (Behind program own (tables_of image) g.procedure here code is) now f.shape f.variables g.cells (tables_of image) (run (tables_of image) g.procedure here code g.next g.keeps g.stack) (feed t (item_of program here i))
+            does_last program here (Behind program own (tables_of program image) g.procedure here code is) now f.shape f.variables g.cells (tables_of program image) (run (tables_of program image) g.procedure here code g.next g.keeps g.stack) (feed t (item_of program here i))
             (λ w' up. behind_grows now w' up own g.procedure here is) (top_shape program made f fs) shown.0 whole shaped h'
 
   -- The next body.
@@ -358,7 +374,7 @@ module _ (program : Program) (image : Image) where
   body_same runs made o p r there proper frame self none = (
     record {
       place = record { routine = r; there = there; home_is = refl; object_is = refl; at_is = refl; gives_is = proper; counted_is = refl; none_is = none; frame = frame; self = self };
-      remains = inl (runs p r there (record { below = 0; self = o }));
+      remains = inl ((runs p r there).1 (record { below = 0; self = o }));
     },
     tt,
   )
@@ -377,7 +393,13 @@ module _ (program : Program) (image : Image) where
         follows = follows.1;
         frames = body_same runs made 0 p (record { home = m; own = None; body = x.body }) follows.0.2 refl (body_frame program Nothing (omega arith)) tt (λ e. refl);
         shown = body_shown made 0 p m x.body;
-        regions = (body_none (S.lock_of (S.body_frame m 0 x.body)) x.body, tt);
+        regions = (
+          (
+            body_none (S.lock_of (S.body_frame m 0 x.body)) x.body,
+            body_inside (S.lock_of (S.body_frame m 0 x.body)) x.body (runs p (record { home = m; own = None; body = x.body }) follows.0.2).0,
+          ),
+          tt,
+        );
       })
   opened_by_same runs made [] (g ∷ gs) ms ps follows h shown marks = absurd h
   opened_by_same runs made (f ∷ fs) [] ms ps follows h shown marks = absurd h

@@ -1,6 +1,6 @@
 -- One turn of each side from related frames gives related frames, with the same work left to the kernel.
 use Rattle.std.proofs.Common.{◌≡◌, inl, inr, ℕ, suc, pos, ◌+◌, ◌<◌, ◌≤◌, List, [], ◌∷◌, ◌++◌, length, drop, Option, Some, None, refl, sym, ap, ◌∙◌, subst, arith}
-use Rattle.std.specs.Prelude.{All, ℤ, Bool, true, false, is_some, unsigned_abs, nat_lt, option_map, sum_by, map, if◌then◌else◌}
+use Rattle.std.specs.Prelude.{All, ℤ, Bool, true, false, not, is_some, option_and_then, unsigned_abs, nat_lt, option_map, sum_by, map, if◌then◌else◌}
 use Rattle.std.proofs.lemmas.List.{length-map}
 use Rattle.std.proofs.lemmas.List.Sums.{sum_by-cons}
 use Rattle.std.proofs.lemmas.List.Elements.{All-nil, All-cons, All-append}
@@ -65,14 +65,16 @@ use Rattle.aos_sim.proofs.References.{stored_kind}
 use Rattle.aos_sim.proofs.Does.{IsSelf, IsCalledOn, scheme, addr_of, placed, HasCharacters, HasText, HasTypes, HasShapes, Knows, IsWhole, IsAnswer, IsResult, IsVisible, IsCalm, Valid, Conforms, Does, Calmly, Lasts, along, knows_grows, calm_does, heard_on, calm_heard, does_last, feed_noted, calm_seen, valid_grows, calm_visible_same, calm_bind, feed_noted_bind, lasts_calm, lasts_calm_on}
 use Rattle.aos_sim.proofs.Carries.{IsOwn, AtEnd, GoesOn, GivesBack, Returning, Behind, Remains, BeginsAt, AtNext, ItemsDo}
 use Rattle.aos_sim.proofs.Regions.{Each, Marked as ItsMarks, each_calm, each_fed, item_marked, leave_marks, leave_all_marks, items_plain, body_none}
+use Rattle.aos_sim.proofs.NeverLost.{AsksInside, never_awaits, value_comes, calm_comes, asks_fed, asks_calm, item_asks}
+use Rattle.aos_sim.proofs.Insides.{is_inside, AreInside, ComesInside, items_inside, body_inside, leave_inside, leave_all_inside, item_inside, may_begin}
 use Rattle.aos_concurrency.proofs.Tables.{lock, is_itself}
 use Rattle.aos_sim.proofs.Bodies.{own_known}
 use Rattle.aos_sim.proofs.Locks.{frame_lock}
 use Rattle.aos_sim.proofs.First.{zero_cell, first_is, first_same, get_right}
-use Rattle.aos_sim.proofs.States.{locks_open, SameRegions, ends_open, world_of, shapes_of, with_answer, SameStore, SameVariables, Placed, place_grows, IsFew, Waiting, SameFrames, WentFrames, RoutinesRun, Follows, Same, SameState, waiting_length, answer_of, ends_went, ends_shown, AreFew, all_whole, behind_grows, top_shape, went_same, opened_same, waiting_grow}
+use Rattle.aos_sim.proofs.States.{locks_open, number_get, SameRegions, ends_open, world_of, shapes_of, with_answer, SameStore, SameVariables, Placed, place_grows, IsFew, Waiting, SameFrames, WentFrames, RoutinesRun, Follows, Same, SameState, waiting_length, answer_of, ends_went, ends_shown, AreFew, all_whole, behind_grows, top_shape, went_same, opened_same, waiting_grow}
 use Rattle.aos_sim.proofs.Entered.{both, handed_there, called_shown, called_counted, called_frame_of, answer_stacked, few_scalars, waiting_counted}
 use Rattle.aos_sim.proofs.Written.{written}
-use Rattle.aos_sim.proofs.Making.{some_lengths, none_open, made_lengths}
+use Rattle.aos_sim.proofs.Making.{some_lengths, none_open, made_lengths, made_long}
 use Rattle.aos_sim.proofs.Created.{numbers_found, made_plain, made_cells, begun, room_same, roomy}
 use Rattle.aos_sim.proofs.Copied.{copied_alike}
 use Rattle.aos_sim.proofs.Objects.{some_same}
@@ -167,6 +169,15 @@ one_mark : (l : LockName) (is_open : Bool) (is : List Item) → l ∷ locks_in l
 one_mark l true is marked = cc marked
 one_mark l false is marked = absurd (cc marked)
 
+-- whether a region is open the marks tell
+marked_open : (is_open : Bool) (l : LockName) → is_inside (locks_open is_open l) ≡ true → is_open ≡ true
+marked_open true l marked = refl
+marked_open false l marked = absurd (cc marked)
+
+unmarked_closed : (is_open : Bool) (l : LockName) → [] ≡ locks_open is_open l → is_open ≡ false
+unmarked_closed false l marked = refl
+unmarked_closed true l marked = absurd (cc marked)
+
 module _ (program : Program) (image : Image) where
   -- what is awaited is a condition over the topmost of these frames
   abbrev pub IsAwaited : List Made → ℕ → List S.Frame → Type 0
@@ -228,12 +239,12 @@ module _ (program : Program) (image : Image) where
   ends_is ms (Some v) fs s = refl
 
   -- the topmost frame
-  module _ (typed : HasTypes program) (shaped : HasShapes program (tables_of image)) (routines_run : RoutinesRun program image) (items_do : ItemsDo program) (ms ps : List ℕ) (f : S.Frame) (g : I.Frame) (fs : List S.Frame) (gs : List I.Frame) (s : Store) (mem : Memory) (place : Placed program image (λ o. by_number o s.made) f g) (follows : Follows program image ms ps) (below : Waiting program image s.made (result_of place.routine.own) fs gs) (stores : SameStore program s mem) (shown : SameVariables program s.made (f ∷ fs) (g ∷ gs)) (marks : SameRegions fs gs) where
+  module _ (typed : HasTypes program) (shaped : HasShapes program (tables_of program image)) (routines_run : RoutinesRun program image) (items_do : ItemsDo program) (ms ps : List ℕ) (f : S.Frame) (g : I.Frame) (fs : List S.Frame) (gs : List I.Frame) (s : Store) (mem : Memory) (place : Placed program image (λ o. by_number o s.made) f g) (follows : Follows program image ms ps) (below : Waiting program image s.made (result_of place.routine.own) fs gs) (stores : SameStore program s mem) (shown : SameVariables program s.made (f ∷ fs) (g ∷ gs)) (marks : SameRegions fs gs) where
     abbrev own : Option Procedure
     own = place.routine.own
 
     abbrev tables : Tables
-    tables = tables_of image
+    tables = tables_of program image
 
     abbrev shapes : List ProcShape
     shapes = image.shapes.items
@@ -288,7 +299,7 @@ module _ (program : Program) (image : Image) where
     lowers next k st = I.all_frames ps (lower next k st ∷ gs)
 
     whole : IsWhole program now
-    whole = all_whole program image typed s.made f.shape (result_of own) fs gs stores.few place.frame.few below
+    whole = all_whole program image shaped s.made f.shape (result_of own) fs gs stores.few place.frame.few below
 
     knows : Knows program own here now
     knows = record { modules = λ m x e. e; frame = (f.shape, top_shape program s.made f fs, place.frame); self = place.self }
@@ -311,9 +322,14 @@ module _ (program : Program) (image : Image) where
     Comes is next k st =
         (w : World Sort) → Grows now w → IsWhole program w → (m : Run) × (calm types w.made g.cells (run_from next k st) ≡ calm types w.made g.cells m) × GoesOn program own tables g.procedure here code is m
 
-    -- the marks of these items are those of the regions that the frame has open
+    -- the marks of these items are those of the regions that the frame has open, and each item keeps the rules where it stands
     abbrev Marked : List Item → Type 0
-    Marked items = locks_in (S.lock_of f) items ≡ locks_open g.is_open (S.lock_of f)
+    Marked items = (locks_in (S.lock_of f) items ≡ locks_open g.is_open (S.lock_of f)) × AreInside (S.lock_of f) items
+
+    -- what a question of the program needs of the frame's region
+    abbrev OpenFor : source.Question → Type 0
+    OpenFor (Awaits c) = g.is_open ≡ true
+    OpenFor q = Unit {0}
 
     state : (items : List Item) (answers : Option (List Value)) (next : ℕ) (k : Keeps) (st : Stack) → Marked items → Left now answers items next k st → SameState program image s mem (uppers items answers) (lowers next k st)
     state items answers next k st marked h =
@@ -327,8 +343,8 @@ module _ (program : Program) (image : Image) where
     went_state i is t next k st marked d = state (i ∷ is) (Some t) next k st marked (lasting is (run_from next k st) (feed t (item i)) d)
 
     -- the frame's end
-    ends_alike : (r : Option Value) (g' : I.Frame) (stop : Stop) (d : Cell → Run) → IsResult program now (result_of own) r → resumed stop ≡ Asks (Ends (option_map (cell_of now) r)) d → Alike (S.ends ms r fs s) (I.goes ps shapes types stop g' gs mem)
-    ends_alike r g' stop d is e =
+    ends_alike : (r : Option Value) (g' : I.Frame) → g'.is_open ≡ false → (stop : Stop) (d : Cell → Run) → IsResult program now (result_of own) r → resumed stop ≡ Asks (Ends (option_map (cell_of now) r)) d → Alike (S.ends ms r fs s) (I.goes ps shapes types stop g' gs mem)
+    ends_alike r g' closed stop d is e =
         let c = option_map (cell_of now) r in
         let v = stop_works tables g.procedure here code stop (Ends c) d e in
         let uppers' = S.with_result ms (answer_of program image r) fs in
@@ -336,11 +352,12 @@ module _ (program : Program) (image : Image) where
         let shown' = ends_shown program image s.made ms ps (answer_of program image r) c fs gs shown.1 in
         subst (λ z. Alike z (I.goes ps shapes types stop g' gs mem)) (sym (ends_is ms r fs s))
         (subst (λ z. Alike (S.goes_on ms uppers' s) (I.goes ps shapes types z g' gs mem)) (sym v.is)
+        (subst (λ b. Alike (S.goes_on ms uppers' s) (I.works ps shapes types (not b) (Ends c) v.at v.keeps v.stack g' gs mem)) (sym closed)
         (went s mem [] false Went (S.all_frames ms uppers') (I.all_frames ps lowers') (λ k. k)
         (record {
           stores = stores;
-          same = record { follows = follows; frames = went_same program image typed shaped s.made uppers' lowers' stores.few (ends_went program image s.made ms ps (result_of own) r f.shape fs gs below is) shown'; shown = shown'; regions = ends_open ms ps (answer_of program image r) c fs gs marks };
-        })))
+          same = record { follows = follows; frames = went_same program image shaped s.made uppers' lowers' stores.few (ends_went program image s.made ms ps (result_of own) r f.shape fs gs below is) shown'; shown = shown'; regions = ends_open ms ps (answer_of program image r) c fs gs marks };
+        }))))
 
     -- an item begins
     begins_alike : (there : Pos) (i : Item) (is items : List Item) (answers : Option (List Value)) (next : ℕ) (k0 : Keeps) (st0 : Stack) (stop : Stop) (m : Run) → Marked (i ∷ is) → BeginsAt program own tables g.procedure here code there i is now m → resumed stop ≡ calm types now.made g.cells m → Alike (S.begins ms there (i ∷ is) (upper items answers) fs s) (I.goes ps shapes types stop (lower next k0 st0) gs mem)
@@ -386,6 +403,7 @@ module _ (program : Program) (image : Image) where
         visible : IsVisible q
         asks : feed t (item i) ≡ Asks q onto
         valid : Valid program here now q
+        opened : OpenFor q
         on : (x : Cell) → code_on x ≡ past tables (placed program now q) x at keeps stack onward
         after : (w : World Sort) → Grows now w → (v : Value) → Conforms program w q v → Does program here (Leads is) w (code_on (cell_of w v)) (onto v)
         stop : stop_from next k st ≡ Work (placed program now q) at keeps stack
@@ -452,7 +470,7 @@ module _ (program : Program) (image : Image) where
           let h = answered_frames (Stores a v) x S.done tt x.stack refl in
           subst (λ o. Alike source (I.writes ps (is_some o) (addr_of now a) (cell ∷ []) x.at x.keeps x.stack low gs mem)) (sym r.image)
           (went _ _ [] false Went _ _ (λ z. z)
-          (written program image typed shaped a.root (placed_at a.path (Scalar v)) (spliced (addr_of now a).cell (cell ∷ [])) s mem ms ps (S.answered S.done top ∷ fs) (I.behind ps x.at x.keeps x.stack low ∷ gs) stores.made stores.few follows h (marked, marks) new))
+          (written program image shaped a.root (placed_at a.path (Scalar v)) (spliced (addr_of now a).cell (cell ∷ [])) s mem ms ps (S.answered S.done top ∷ fs) (I.behind ps x.at x.keeps x.stack low ∷ gs) stores.made stores.few follows h (marked, marks) new))
 
       -- a whole record or array is copied
       copies_alike : (u : TType) (from to : Spot) (x : Asking (Copies u from to)) → Alike (S.answer program ms (Copies u from to) top fs s) (I.answer ps shapes types (placed program now (Copies u from to)) x.at x.keeps x.stack low gs mem)
@@ -465,7 +483,7 @@ module _ (program : Program) (image : Image) where
           subst (λ z. Alike z (I.answer ps shapes types (placed program now (Copies u from to)) x.at x.keeps x.stack low gs mem)) (sym (λ j. source (c.read_from j) (c.read_to j)))
           (subst (Alike (source (Some c.new) (Some c.old))) (sym (λ j. image_so (c.image j) (c.there j)))
           (went _ _ [] false Went _ _ (λ z. z)
-          (written program image typed shaped to.root (placed_at to.path (overlay shape c.new c.old)) (spliced (addr_of now to).cell c.cells) s mem ms ps (S.answered S.done top ∷ fs) (I.behind ps x.at x.keeps x.stack low ∷ gs) stores.made stores.few follows h (marked, marks) c.alike)))
+          (written program image shaped to.root (placed_at to.path (overlay shape c.new c.old)) (spliced (addr_of now to).cell c.cells) s mem ms ps (S.answered S.done top ∷ fs) (I.behind ps x.at x.keeps x.stack low ∷ gs) stores.made stores.few follows h (marked, marks) c.alike)))
 
       -- the text at a place, which both find
       text_both : (p : Spot) (n : ℕ) → HasCharacters now p n → TextAlike program typed.predeclared s.made shapes_now variables cells shows ps p n
@@ -486,7 +504,7 @@ module _ (program : Program) (image : Image) where
           subst (λ z. Alike (source z) (image_so (is_some (I.cells_at (length cs) (addr_of now to) cells)))) (sym c.source)
           (subst (λ b. Alike (source (Some c.old)) (image_so b)) (sym c.there)
           (went _ _ [] false Went _ _ (λ z. z)
-          (written program image typed shaped to.root (placed_at to.path (with_text cs c.old)) (spliced (addr_of now to).cell (I.character_cells ps cs)) s mem ms ps (S.answered S.done top ∷ fs) (I.behind ps x.at x.keeps x.stack low ∷ gs) stores.made stores.few follows h (marked, marks) c.alike)))
+          (written program image shaped to.root (placed_at to.path (with_text cs c.old)) (spliced (addr_of now to).cell (I.character_cells ps cs)) s mem ms ps (S.answered S.done top ∷ fs) (I.behind ps x.at x.keeps x.stack low ∷ gs) stores.made stores.few follows h (marked, marks) c.alike)))
 
       texts_put_alike : (strict : Bool) (from : Spot) (n : Value) (to : Spot) (room : Value) (x : Asking (PutsText strict from n to room)) → Alike (S.answer program ms (PutsText strict from n to room) top fs s) (I.answer ps shapes types (placed program now (PutsText strict from n to room)) x.at x.keeps x.stack low gs mem)
       texts_put_alike strict from n to room x =
@@ -544,7 +562,7 @@ module _ (program : Program) (image : Image) where
         lengths few =
             let number = x.valid.0 in
             subst (λ z. HasLengths program (type_row program.types (id_of_made z)) (record { type = z; lengths = ns })) (sym x.valid.1)
-            (made_lengths program own tables g.procedure here code typed shaped number (length vs) vs ns refl (x.valid.3 ∙ ap (λ z. open_dimensions program.types (id_of_made z)) x.valid.1) lengths_are few)
+            (made_lengths program number (length vs) vs ns refl (x.valid.3 ∙ ap (λ z. open_dimensions program.types (id_of_made z)) x.valid.1) lengths_are few)
 
         made_now : (room : Bool) → has_room one content s ≡ room → Alike (S.makes ms room one content top fs s) (I.makes ps room one zeros x.at x.keeps x.stack low gs mem)
         made_now false e = went s mem [] false (Trapped 12 0) _ _ (λ z. z) (state (i ∷ is) (Some t) next k st marked left)
@@ -564,7 +582,7 @@ module _ (program : Program) (image : Image) where
               stores = record { made = ap (λ l. l ++ one ∷ []) stores.made; few = few; of_modules = new.of_modules; of_objects = new.of_objects };
               same = record {
                 follows = follows;
-                frames = went_same program image typed shaped made (S.answered v top ∷ fs) (lower (x.at + 1) x.keeps (Ref (new_number s) ∷ x.stack) ∷ gs) few (record { place = place_grows program image now.made w.made more.made (S.answered v top) (lower (x.at + 1) x.keeps (Ref (new_number s) ∷ x.stack)) place; went = goes }, waiting_grow program image s.made (one ∷ []) (result_of own) fs gs below) new.of_frames;
+                frames = went_same program image shaped made (S.answered v top ∷ fs) (lower (x.at + 1) x.keeps (Ref (new_number s) ∷ x.stack) ∷ gs) few (record { place = place_grows program image now.made w.made more.made (S.answered v top) (lower (x.at + 1) x.keeps (Ref (new_number s) ∷ x.stack)) place; went = goes }, waiting_grow program image s.made (one ∷ []) (result_of own) fs gs below) new.of_frames;
                 shown = new.of_frames;
                 regions = (marked, marks);
               };
@@ -626,15 +644,15 @@ module _ (program : Program) (image : Image) where
             begun = refl;
           }
 
-      -- a condition is awaited: in a region the frames stand before the instruction, and past it the code is behind it
+      -- a condition is awaited: the frames stand before the instruction, and past it the code is behind it
       awaits_alike : (c : ℕ) (x : Asking (Awaits c)) → Alike (S.answer program ms (Awaits c) top fs s) (I.answer ps shapes types (Awaits c) x.at x.keeps x.stack low gs mem)
       awaits_alike c x =
-          subst (λ l. Alike (S.awaits ms (locks_in (S.lock_of f) (i ∷ is)) c top fs s) (I.awaits ps g.is_open l c x.at x.keeps x.stack low gs mem)) (sym (lock_is (i ∷ is) (Some t) next k st))
-          (subst (λ ls. Alike (S.awaits ms ls c top fs s) (I.awaits ps g.is_open (S.lock_of f) c x.at x.keeps x.stack low gs mem)) (sym marked) (by g.is_open))
+          subst (λ l. Alike (S.awaits ms (locks_in (S.lock_of f) (i ∷ is)) c top fs s) (I.leaves ps (Await l c) (I.before ps x.at x.keeps x.stack low ∷ gs) mem)) (sym (lock_is (i ∷ is) (Some t) next k st))
+          (subst (λ ls. Alike (S.awaits ms ls c top fs s) (I.leaves ps (Await (S.lock_of f) c) (I.before ps x.at x.keeps x.stack low ∷ gs) mem))
+          (sym (marked.0 ∙ ap (λ b. locks_open b (S.lock_of f)) x.opened)) waits)
         where
-          by : (b : Bool) → Alike (S.awaits ms (locks_open b (S.lock_of f)) c top fs s) (I.awaits ps b (S.lock_of f) c x.at x.keeps x.stack low gs mem)
-          by false = went s mem [] false Went _ _ (λ z. z) (done_so (Awaits c) x tt refl)
-          by true =
+          waits : Alike (S.awaits ms (S.lock_of f ∷ []) c top fs s) (I.leaves ps (Await (S.lock_of f) c) (I.before ps x.at x.keeps x.stack low ∷ gs) mem)
+          waits =
               let q = Awaits c in
               let at_await = I.before ps x.at x.keeps x.stack low in
               let stop = silent_at_await tables now.made g.procedure here g.cells code next k st c x.at x.keeps x.stack x.stop (λ o. None) in
@@ -778,7 +796,7 @@ module _ (program : Program) (image : Image) where
                       frame = called_frame_of program typed.ranked ps ms s.made (top ∷ fs) s cells shows routine vs x.valid.2 n shape shape_is few;
                       self = self_is;
                     };
-                    remains = inl (routines_run n routine there (S.here_of new (top ∷ fs)));
+                    remains = inl ((routines_run n routine there).1 (S.here_of new (top ∷ fs)));
                   },
                   (
                     record {
@@ -789,7 +807,7 @@ module _ (program : Program) (image : Image) where
                   ),
                 );
                 shown = (called_shown program typed.ranked ps ms s.made (top ∷ fs) s cells shows routine vs x.valid.2 n shape shape_is, shown);
-                regions = (body_none (S.lock_of new) routine.body, (marked, marks));
+                regions = ((body_none (S.lock_of new) routine.body, body_inside (S.lock_of new) routine.body (routines_run n routine there).0), (marked, marks));
               };
             })
 
@@ -841,16 +859,34 @@ module _ (program : Program) (image : Image) where
       work_alike (Sizes v d) x = absurd x.visible
       work_alike (Tests v u) x = absurd x.visible
 
+      -- and finds what it needs
+      starts_found : (v : Value) (x : Asking (Starts v)) → I.is_startable types (cell_of now v) mem ≡ true
+      starts_found v x =
+          let h = x.valid in
+          ap (λ z. I.is_startable types (cell_of now z) mem) h.1
+          ∙ ap (λ l. I.has_active_body (option_and_then (numbered types) (option_map (λ (m : Made). m.type) (by_number (suc h.0) l)))) stores.made
+          ∙ ap (λ o. I.has_active_body (option_and_then (numbered types) (option_map (λ (m : Made). m.type) o))) h.3
+          ∙ ap (λ n. I.has_active_body (numbered types n)) h.4.made ∙ shaped.starts h.4.of h.4.body h.4.has h.4.active
+
+      found : (q : source.Question) (x : Asking q) → I.finds types (placed program now q) low mem ≡ true
+      found (Starts v) x = starts_found v x
+      found (Ends r) x = absurd x.valid
+      found Leaves x = absurd x.valid
+      found (Awaits c) x = x.opened
+      found q x = refl
+
       -- a question of the item is its code's
-      asks_alike : (q : source.Question) (f' : Value → Doing After) (stop : Stop) → IsVisible q → feed t (item i) ≡ Asks q f' → stop_from next k st ≡ stop → (m : Run) → resumed stop ≡ calm types now.made g.cells m → Does program here (Leads is) now (calm types now.made g.cells m) (Asks q f') → Alike (S.answer program ms q top fs s) (I.goes ps shapes types stop low gs mem)
-      asks_alike q f' stop visible asks e m seen d =
+      asks_alike : (q : source.Question) (f' : Value → Doing After) (stop : Stop) → IsVisible q → OpenFor q → feed t (item i) ≡ Asks q f' → stop_from next k st ≡ stop → (m : Run) → resumed stop ≡ calm types now.made g.cells m → Does program here (Leads is) now (calm types now.made g.cells m) (Asks q f') → Alike (S.answer program ms q top fs s) (I.goes ps shapes types stop low gs mem)
+      asks_alike q f' stop visible opened asks e m seen d =
           let v = stop_works tables g.procedure here code stop (placed program now q) d.0 (seen ∙ d.1) in
+          let x : Asking q = record { onto = f'; code_on = d.0; at = v.at; keeps = v.keeps; stack = v.stack; visible = visible; asks = asks; valid = d.2; opened = opened; on = v.on; after = d.3; stop = e ∙ v.is } in
           subst (λ z. Alike (S.answer program ms q top fs s) (I.goes ps shapes types z low gs mem)) (sym v.is)
-          (work_alike q (record { onto = f'; code_on = d.0; at = v.at; keeps = v.keeps; stack = v.stack; visible = visible; asks = asks; valid = d.2; on = v.on; after = d.3; stop = e ∙ v.is }))
+          (subst (λ b. Alike (S.answer program ms q top fs s) (I.works ps shapes types b (placed program now q) v.at v.keeps v.stack low gs mem)) (sym (found q x)) (work_alike q x))
 
     -- silent work of the frame's code, with what objects are made as
     stops_now : (next : ℕ) (k : Keeps) (st : Stack) → calm types now.made g.cells (run_from next k st) ≡ resumed (stop_from next k st)
-    stops_now next k st = run_by_silent tables now.made g.procedure here g.cells code next k st
+    stops_now next k st =
+        run_by_silent tables now.made (λ o m e. made_long program m (number_get (IsFew program) o s.made m stores.few e).1) g.procedure here g.cells code next k st
 
     module _ (items : List Item) (answers : Option (List Value)) (next : ℕ) (k : Keeps) (st : Stack) (marked : Marked items) (left : Left now answers items next k st) (stop : Stop) (is_stop : stop_from next k st ≡ stop) where
       abbrev BothGo : S.Turned → Type 0
@@ -917,6 +953,11 @@ module _ (program : Program) (image : Image) where
         abbrev TestsAlike : Doing Value → Type 0
         TestsAlike r = BothGo (S.tests program ms r (S.settles program ms is (upper items answers) fs s) (S.begins ms there (again ∷ is) (upper items answers) fs s) (upper (Until there b e ∷ is) told) fs s)
 
+        test_open : (q : source.Question) (h : Value → Doing Value) → known now test ≡ Asks q h → OpenFor q
+        test_open (Awaits c) h is_r =
+            absurd (never_awaits (known now test) c h (calm_comes program.types now.made f.variables test (value_comes program here e)) is_r)
+        test_open q h is_r = tt
+
         tests_alike : (Comes is next k st → BothGo (S.settles program ms is (upper items answers) fs s)) → (Comes (again ∷ is) next k st → BothGo (S.begins ms there (again ∷ is) (upper items answers) fs s)) → (r : Doing Value) → known now test ≡ r → IsCalm r → TestsAlike r
         tests_alike ends begins (Val v) is_r visible = by (is_true v) refl
           where
@@ -931,17 +972,17 @@ module _ (program : Program) (image : Image) where
         tests_alike ends begins (Asks q h) is_r visible =
             let asks : feed (S.noted program.types now.made f.variables test) (item (Until there b e)) ≡ Asks q (λ v. bind (h v) on) = feed_noted_bind program.types now.made f.variables on test ∙ ap (λ r. bind r on) is_r in
             let d = subst (λ r. Calmly program here (Leads is) types g.cells now (calm types now.made g.cells (run_from next k st)) r) (ap (λ r. goes_known now (bind r on)) is_r ∙ calm_visible_same program.types now.made f.variables q (λ v. bind (h v) on) visible) (tested now (grows_same now) whole) in
-            asks_alike (Until there b e) is (S.noted program.types now.made f.variables test) next k st marked_is test_left q (λ v. bind (h v) on) stop visible asks is_stop (run_from next k st) (seen (run_from next k st) refl) d
+            asks_alike (Until there b e) is (S.noted program.types now.made f.variables test) next k st marked_is test_left q (λ v. bind (h v) on) stop visible (test_open q h is_r) asks is_stop (run_from next k st) (seen (run_from next k st) refl) d
         tests_alike ends begins (Traps n c) is_r visible =
             let d = subst (λ r. Calmly program here (Leads is) types g.cells now (calm types now.made g.cells (run_from next k st)) r) (ap (λ r. goes_known now (bind r on)) is_r) (tested now (grows_same now) whole) in
             let v = stop_fails tables g.procedure here code stop n c d.1 (seen (run_from next k st) refl ∙ d.0) in
             traps_alike (Until there b e ∷ is) told next k st n c stop v.0 marked_is test_left v.1
 
       -- a body's end
-      finishes_alike : (m : Run) → Seen m → (r : Option TType) → result_of own ≡ r → AtEnd r m → BothGo (S.finishes program ms (is_some r) (upper items answers) fs s)
-      finishes_alike m seen None e o =
-          ends_alike None (lower next k st) stop o.0 (subst (λ r. IsResult program now r None) (sym e) tt) (seen ∙ ap (calm types now.made g.cells) o.1)
-      finishes_alike m seen (Some t) e o =
+      finishes_alike : g.is_open ≡ false → (m : Run) → Seen m → (r : Option TType) → result_of own ≡ r → AtEnd r m → BothGo (S.finishes program ms (is_some r) (upper items answers) fs s)
+      finishes_alike closed m seen None e o =
+          ends_alike None (lower next k st) closed stop o.0 (subst (λ r. IsResult program now r None) (sym e) tt) (seen ∙ ap (calm types now.made g.cells) o.1)
+      finishes_alike closed m seen (Some t) e o =
           let v = stop_fails tables g.procedure here code stop 10 0 (omega arith) (seen ∙ ap (calm types now.made g.cells) o) in
           traps_alike items answers next k st 10 0 stop v.0 marked left v.1
 
@@ -965,13 +1006,13 @@ module _ (program : Program) (image : Image) where
             frames = record {
               now = (state (Region ss ∷ is) None v.at v.keeps v.stack marked_is (inl (subst (Onto (Region ss ∷ is)) (sym same) goes))).same;
               behind = λ outside.
-                  let none = no_marks (S.lock_of f) (S.regions_of fs) g.is_open is marked_is outside in
+                  let none = no_marks (S.lock_of f) (S.regions_of fs) g.is_open is marked_is.0 outside in
                   subst (λ y. Same program image s.made (S.all_frames ms (upper (items_of ss ++ End ∷ is) None ∷ fs)) (I.all_frames ps (I.past_stop y low' ∷ gs))) (sym again)
                   (record {
                     follows = follows;
                     frames = (record { place = place; remains = inl (subst (Onto (items_of ss ++ End ∷ is)) (v.on (Ref 0)) (a.2 (Ref 0) (S.lock_of f) none)) }, below);
                     shown = shown;
-                    regions = (items_plain (S.lock_of f) ss (End ∷ is) ∙ ap (λ ls. S.lock_of f ∷ ls) none, marks);
+                    regions = ((items_plain (S.lock_of f) ss (End ∷ is) ∙ ap (λ ls. S.lock_of f ∷ ls) none, items_inside (S.lock_of f) ss (End ∷ is) marked_is.1.0 (tt, marked_is.1.1)), marks);
                   });
               awaited = tt;
             };
@@ -990,7 +1031,9 @@ module _ (program : Program) (image : Image) where
           let same : run_from v.at v.keeps v.stack ≡ m = there ∙ sym (asks ∙ (λ j. Asks Leaves (λ x. v.on x j))) in
           let long = sym (waiting_length program image s.made (result_of own) fs gs below) in
           let again = (λ j. silent shapes types (λ o. None) g.procedure (record { below = long j; self = place.object_is j }) g.cells code v.at v.keeps v.stack) ∙ silent_at_end tables now.made g.procedure here g.cells code next k st v.at v.keeps v.stack comes_there (λ o. None) in
+          let opened : g.is_open ≡ true = marked_open g.is_open (S.lock_of f) (ap is_inside (sym marked_is.0)) in
           subst (λ z. Alike (S.settles program ms (End ∷ is) (upper items answers) fs s) (I.goes ps shapes types z (lower next k st) gs mem)) (sym v.is)
+          (subst (λ b. Alike (S.settles program ms (End ∷ is) (upper items answers) fs s) (I.works ps shapes types b Leaves v.at v.keeps v.stack (lower next k st) gs mem)) (sym opened)
           (record {
             stores = stores;
             frames = record {
@@ -1001,20 +1044,20 @@ module _ (program : Program) (image : Image) where
                     follows = follows;
                     frames = (record { place = place; remains = behind_it (Ref 0) (v.at + 1) v.keeps v.stack (v.on (Ref 0)) }, below);
                     shown = shown;
-                    regions = (one_mark (S.lock_of f) g.is_open is marked_is, marks);
+                    regions = ((one_mark (S.lock_of f) g.is_open is marked_is.0, marked_is.1.1), marks);
                   });
               awaited = tt;
             };
             left = ap (λ l. Leave l) (sym (lock_is items answers next k st));
             output = refl;
             begun = refl;
-          })
+          }))
 
       -- a result is given: at the frame's end, or behind the end of its region
       returning_alike : (r : Option Value) (is : List Item) → Marked is → (m : Run) → Seen m → Returning program own tables g.procedure here code now r is m → BothGo (S.settles program ms is (upper items answers) fs s)
       returning_alike r is marked_is m sees (inl h) =
           subst (λ xs. BothGo (S.settles program ms xs (upper items answers) fs s)) (sym h.0)
-          (ends_alike r (lower next k st) stop h.1.0 h.1.2 (sees ∙ ap (calm types now.made g.cells) h.1.1))
+          (ends_alike r (lower next k st) (unmarked_closed g.is_open (S.lock_of f) (sym (ap (locks_in (S.lock_of f)) h.0) ∙ marked_is.0)) stop h.1.0 h.1.2 (sees ∙ ap (calm types now.made g.cells) h.1.1))
       returning_alike r is marked_is m sees (inr h) =
           subst (λ xs. BothGo (S.settles program ms xs (upper items answers) fs s)) (sym h.0)
           (end_alike (Gives r ∷ []) (subst Marked h.0 marked_is) m sees h.1.0 h.1.1
@@ -1026,7 +1069,7 @@ module _ (program : Program) (image : Image) where
       settles_alike [] marked_is comes =
           let c = comes now (grows_same now) whole in
           subst (λ b. BothGo (S.finishes program ms b (upper items answers) fs s)) (sym place.gives_is)
-          (finishes_alike c.0 (seen c.0 c.1) (result_of own) refl (items_do own tables g.procedure here code now [] c.0 typed shaped is_own knows c.2))
+          (finishes_alike (unmarked_closed g.is_open (S.lock_of f) marked_is.0) c.0 (seen c.0 c.1) (result_of own) refl (items_do own tables g.procedure here code now [] c.0 typed shaped is_own knows c.2))
       settles_alike (Do x ∷ is) marked_is comes =
           let c = comes now (grows_same now) whole in
           next_begins (pos_of x) (Do x) is c.0 marked_is c.1 (items_do own tables g.procedure here code now (Do x ∷ is) c.0 typed shaped is_own knows c.2)
@@ -1037,7 +1080,7 @@ module _ (program : Program) (image : Image) where
           let c = comes now (grows_same now) whole in
           next_begins (pos_of x) (Do x) is c.0 marked_is c.1 (items_do own tables g.procedure here code now (Round x ∷ is) c.0 typed shaped is_own knows c.2)
       settles_alike (Until there b e ∷ is) marked_is comes =
-          tests_alike there b e is marked_is comes (λ ended. settles_alike is marked_is ended)
+          tests_alike there b e is marked_is comes (λ ended. settles_alike is (marked_is.0, marked_is.1.1) ended)
           (λ repeated. let c = repeated now (grows_same now) whole in
           next_begins there (Do (Repeat there b e)) is c.0 marked_is c.1 (items_do own tables g.procedure here code now (Do (Repeat there b e) ∷ is) c.0 typed shaped is_own knows c.2))
           (S.calm program.types now.made f.variables (value_of program here e)) refl (calm_seen program.types now.made f.variables (value_of program here e))
@@ -1054,18 +1097,23 @@ module _ (program : Program) (image : Image) where
           let c = comes now (grows_same now) whole in
           absurd (items_do own tables g.procedure here code now (Gives r ∷ is) c.0 typed shaped is_own knows c.2)
 
+    -- a condition is awaited where a region is open
+    open_for : {inside : Bool} (q : source.Question) (f' : Value → Doing After) → is_inside (locks_open g.is_open (S.lock_of f)) ≡ inside → AsksInside inside (Asks q f') → OpenFor q
+    open_for (Awaits c) f' is opens = marked_open g.is_open (S.lock_of f) (is ∙ opens.0)
+    open_for q f' is opens = tt
+
     -- what an item that has begun comes to, in each world that has grown
-    goes_alike : (i : Item) (is : List Item) (t : List Value) (next : ℕ) (k : Keeps) (st : Stack) (marked : Marked (i ∷ is)) (left : Left now (Some t) (i ∷ is) next k st) (r : Doing After) → Each (ItsMarks i) r → feed t (item i) ≡ r → IsCalm r → ((w : World Sort) → Grows now w → IsWhole program w → Calmly program here (Leads is) types g.cells w (calm types w.made g.cells (run_from next k st)) r) → Alike (S.goes program ms r is (upper (i ∷ is) (Some t)) fs s) (I.goes ps shapes types (stop_from next k st) (lower next k st) gs mem)
-    goes_alike i is t next k st marked left (Val (Into new)) each asks visible d =
-        settles_alike (i ∷ is) (Some t) next k st marked left (stop_from next k st) refl (new ++ is) (each (S.lock_of f) is ∙ marked) d
-    goes_alike i is t next k st marked left (Val Exits) each asks visible d =
-        settles_alike (i ∷ is) (Some t) next k st marked left (stop_from next k st) refl (leave is) (leave_marks (S.lock_of f) is ∙ each (S.lock_of f) is ∙ marked) d
-    goes_alike i is t next k st marked left (Val (Returns r)) each asks visible d =
+    goes_alike : (i : Item) (is : List Item) (t : List Value) (next : ℕ) (k : Keeps) (st : Stack) (marked : Marked (i ∷ is)) (left : Left now (Some t) (i ∷ is) next k st) (r : Doing After) → Each (ItsMarks i) r → Each (ComesInside (is_inside (locks_in (S.lock_of f) is))) r → AsksInside (is_inside (locks_in (S.lock_of f) (i ∷ is))) r → feed t (item i) ≡ r → IsCalm r → ((w : World Sort) → Grows now w → IsWhole program w → Calmly program here (Leads is) types g.cells w (calm types w.made g.cells (run_from next k st)) r) → Alike (S.goes program ms r is (upper (i ∷ is) (Some t)) fs s) (I.goes ps shapes types (stop_from next k st) (lower next k st) gs mem)
+    goes_alike i is t next k st marked left (Val (Into new)) each comes opens asks visible d =
+        settles_alike (i ∷ is) (Some t) next k st marked left (stop_from next k st) refl (new ++ is) (each (S.lock_of f) is ∙ marked.0, comes (S.lock_of f) is refl marked.1.1) d
+    goes_alike i is t next k st marked left (Val Exits) each comes opens asks visible d =
+        settles_alike (i ∷ is) (Some t) next k st marked left (stop_from next k st) refl (leave is) (leave_marks (S.lock_of f) is ∙ each (S.lock_of f) is ∙ marked.0, leave_inside (S.lock_of f) is marked.1.1) d
+    goes_alike i is t next k st marked left (Val (Returns r)) each comes opens asks visible d =
         let c = d now (grows_same now) whole in
-        returning_alike (i ∷ is) (Some t) next k st marked left (stop_from next k st) refl r (leave_all r is) (leave_all_marks (S.lock_of f) r is ∙ each (S.lock_of f) is ∙ marked) c.0 (sym (stops_now next k st) ∙ c.1) c.2
-    goes_alike i is t next k st marked left (Asks q f') each asks visible d =
-        asks_alike i is t next k st marked left q f' (stop_from next k st) visible asks refl (run_from next k st) (sym (stops_now next k st)) (d now (grows_same now) whole)
-    goes_alike i is t next k st marked left (Traps n c) each asks visible d =
+        returning_alike (i ∷ is) (Some t) next k st marked left (stop_from next k st) refl r (leave_all r is) (leave_all_marks (S.lock_of f) r is ∙ each (S.lock_of f) is ∙ marked.0, leave_all_inside (S.lock_of f) r is) c.0 (sym (stops_now next k st) ∙ c.1) c.2
+    goes_alike i is t next k st marked left (Asks q f') each comes opens asks visible d =
+        asks_alike i is t next k st marked left q f' (stop_from next k st) visible (open_for q f' (ap is_inside (sym marked.0)) opens) asks refl (run_from next k st) (sym (stops_now next k st)) (d now (grows_same now) whole)
+    goes_alike i is t next k st marked left (Traps n c) each comes opens asks visible d =
         let e = d now (grows_same now) whole in
         let v = stop_fails tables g.procedure here code (stop_from next k st) n c e.1 (sym (stops_now next k st) ∙ e.0) in
         traps_alike (i ∷ is) (Some t) next k st n c (stop_from next k st) v.0 marked left v.1
@@ -1085,10 +1133,14 @@ module _ (program : Program) (image : Image) where
         let asks : feed all (item i) ≡ calmed = feed-append t (S.noted program.types now.made c before) (item i) ∙ feed_noted program.types now.made c before in
         let left : Left now (Some all) (i ∷ is) next k st = subst (λ z. Lasts program here (Leads is) types c g.cells now (run_from next k st) z) (sym asks)
         (lasts_calm program here (Leads is) types c g.cells now (run_from next k st) before r) in
-        goes_alike i is all next k st marked left calmed (each_calm program.types now.made c (ItsMarks i) before (each_fed (ItsMarks i) t (item i) (item_marked program here i))) asks (calm_seen program.types now.made c before)
+        let rest = is_inside (locks_in (S.lock_of f) is) in
+        let inside = is_inside (locks_in (S.lock_of f) (i ∷ is)) in
+        goes_alike i is all next k st marked left calmed (each_calm program.types now.made c (ItsMarks i) before (each_fed (ItsMarks i) t (item i) (item_marked program here i)))
+        (each_calm program.types now.made c (ComesInside rest) before (each_fed (ComesInside rest) t (item i) (item_inside program here rest i marked.1.0)))
+        (asks_calm program.types now.made c inside before (asks_fed inside t (item i) (item_asks program here inside i (may_begin (S.lock_of f) i is marked.1.0)))) asks (calm_seen program.types now.made c before)
         (λ w up h. subst (λ z. Calmly program here (Leads is) types g.cells w (calm types w.made g.cells (run_from next k st)) z) (r.heard w up) (r.does w up h))
 
-  module _ (typed : HasTypes program) (shaped : HasShapes program (tables_of image)) (routines_run : RoutinesRun program image) (items_do : ItemsDo program) where
+  module _ (typed : HasTypes program) (shaped : HasShapes program (tables_of program image)) (routines_run : RoutinesRun program image) (items_do : ItemsDo program) where
     frames_alike : (ms ps : List ℕ) (fs : List S.Frame) (gs : List I.Frame) (s : Store) (mem : Memory) → SameStore program s mem → Follows program image ms ps → SameFrames program image s.made fs gs → SameVariables program s.made fs gs → SameRegions fs gs → Alike (S.turn_at program ms fs s) (I.turn_at image ps gs mem)
     frames_alike ms ps [] [] s mem stores follows h shown marks =
         went s mem [] false NoFrame _ _ (λ z. z) (record { stores = stores; same = record { follows = follows; frames = tt; shown = tt; regions = tt } })

@@ -1,4 +1,4 @@
--- What the law takes of a well-typed program's types and modules.
+-- What the laws take of a well-typed program's types and modules.
 use Rattle.std.proofs.Common.{◌≡◌, ℕ, ◌<◌, ◌^◌, List, [], ◌∷◌, ◌++◌, map, Option, Some, None, refl, sym, ◌∙◌, subst, arith}
 use Rattle.std.specs.Prelude.{All, slice_get, option_map, option_and_then}
 use Rattle.std.proofs.lemmas.Option.{slice_get-map}
@@ -36,7 +36,7 @@ module _ (p : Program) where
   block_size : (x : Module) → size (module_shape p x) ≡ size (block p.types x)
   block_size x = rows_size (map (λ (v : Variable). variable_shape p.types (id_of v.of)) x.variables ++ map text_shape x.texts) (block_parts p.types x) (same_sizes p.types x)
 
-  few_of : (bs cs : List Body) (ss : List ProcShape) (ds : List ModuleDesc) (ts : List TypeDesc) → IsCode p bs cs ss ds ts → (m : ℕ) (s : Shape Sort) → slice_get (map (module_shape p) p.modules) m ≡ Some s → size s < 2 ^ 32
+  pub few_of : (bs cs : List Body) (ss : List ProcShape) (ds : List ModuleDesc) (ts : List TypeDesc) → IsCode p bs cs ss ds ts → (m : ℕ) (s : Shape Sort) → slice_get (map (module_shape p) p.modules) m ≡ Some s → size s < 2 ^ 32
   few_of bs cs ss ds ts code m s e = by (slice_get p.modules m) refl (sym (slice_get-map (module_shape p) p.modules m) ∙ e)
     where
       by : (o : Option Module) → slice_get p.modules m ≡ o → option_map (module_shape p) o ≡ Some s → size s < 2 ^ 32
@@ -57,8 +57,8 @@ module _ (p : Program) where
           let all = all_get (λ m. All (λ q. IsProcedure p q × (q.of ≡ None)) m.procedures) p.modules m x well.parts.procedures f in
           (all_get (λ q. IsProcedure p q × (q.of ≡ None)) x.procedures k q all e').1
 
-  pub has_types : (bs cs : List Body) (ss : List ProcShape) (ds : List ModuleDesc) (ts : List TypeDesc) → IsWellTyped p → IsCode p bs cs ss ds ts → HasTypes p
-  has_types bs cs ss ds ts well code =
+  pub has_types : IsWellTyped p → HasTypes p
+  has_types well =
       let ranks = ranked p.types well.parts.types.none_contains_itself in
       record {
         predeclared = well.parts.predeclared;
@@ -66,7 +66,6 @@ module _ (p : Program) where
         bases = well.parts.types.bases;
         record_bases = well.parts.types.record_bases;
         beside = well.parts.beside;
-        few = few_of bs cs ss ds ts code;
         plain = plain_of well;
         methods = has_methods p ranks well.parts.types.bases well.parts.predeclared well.parts.beside well.parts.objects;
       }

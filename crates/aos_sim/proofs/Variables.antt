@@ -29,7 +29,7 @@ use Rattle.aos_typed.specs.Meaning.{Here}
 use Rattle.aos_sim.specs.Code.{variable_cell, own_cell}
 use Rattle.aos_sim.proofs.Types.{IsValueOf, basic_of, from_basic, to_basic}
 use Rattle.aos_sim.proofs.Parts.{part_of_row, within_root}
-use Rattle.aos_sim.proofs.Does.{HasPredeclared, HasTypes, alias_sort, IsPart, IsStood, KnowsModules, KnowsFrame, characters}
+use Rattle.aos_sim.proofs.Does.{HasPredeclared, HasFewCells, alias_sort, IsPart, IsStood, KnowsModules, KnowsFrame, characters}
 use Rattle.aos_sim.proofs.First.{get_left, get_right}
 
 module _ (rows : List TypeRow) (t : TypeId) where
@@ -142,9 +142,9 @@ module _ (program : Program) where
     part_cell : (own : Option Procedure) (s : Shape Sort) → Stood m k s → cell_at w (ModuleRoot m) (k ∷ []) ≡ variable_cell program own m k
     part_cell own s h = ap (number_of (offset (k ∷ []))) (known m h.whole h.there ∙ sym h.there)
 
-    part_few : HasTypes program → (s : Shape Sort) → Stood m k s → cell_at w (ModuleRoot m) (k ∷ []) + size s < 2 ^ 32
-    part_few typed s h =
-        let all = typed.few m h.whole h.there in
+    part_few : HasFewCells program → (s : Shape Sort) → Stood m k s → cell_at w (ModuleRoot m) (k ∷ []) + size s < 2 ^ 32
+    part_few few s h =
+        let all = few m h.whole h.there in
         let within = within_root w (ModuleRoot m) h.whole (known m h.whole h.there) (k ∷ []) s (part_there s h) in
         omega (arith, all, within)
 
@@ -152,8 +152,8 @@ module _ (program : Program) where
       pub variable_there : shape_at w (ModuleRoot m) (k ∷ []) ≡ Some (variable_shape program.types (id_of t))
       variable_there = part_there (variable_shape program.types (id_of t)) (stood m k t of)
 
-      pub variable_few : HasTypes program → cell_at w (ModuleRoot m) (k ∷ []) + size (variable_shape program.types (id_of t)) < 2 ^ 32
-      variable_few typed = part_few typed (variable_shape program.types (id_of t)) (stood m k t of)
+      pub variable_few : HasFewCells program → cell_at w (ModuleRoot m) (k ∷ []) + size (variable_shape program.types (id_of t)) < 2 ^ 32
+      variable_few few = part_few few (variable_shape program.types (id_of t)) (stood m k t of)
 
       pub cell_there : (own : Option Procedure) → cell_at w (ModuleRoot m) (k ∷ []) ≡ variable_cell program own m k
       cell_there own = part_cell own (variable_shape program.types (id_of t)) (stood m k t of)
@@ -163,8 +163,8 @@ module _ (program : Program) where
       pub constant_there : shape_at w (ModuleRoot m) (k ∷ []) ≡ Some (characters n)
       constant_there = part_there (characters n) (constant_stood m k n of)
 
-      pub constant_few : HasTypes program → cell_at w (ModuleRoot m) (k ∷ []) + size (characters n) < 2 ^ 32
-      constant_few typed = part_few typed (characters n) (constant_stood m k n of)
+      pub constant_few : HasFewCells program → cell_at w (ModuleRoot m) (k ∷ []) + size (characters n) < 2 ^ 32
+      constant_few few = part_few few (characters n) (constant_stood m k n of)
 
       pub constant_cell : (own : Option Procedure) → cell_at w (ModuleRoot m) (k ∷ []) ≡ variable_cell program own m k
       constant_cell own = part_cell own (characters n) (constant_stood m k n of)

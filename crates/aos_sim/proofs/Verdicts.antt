@@ -51,8 +51,9 @@ use Rattle.aos_sim.proofs.Bodies.{alike_at}
 use Rattle.aos_sim.proofs.Exprs.{value_does}
 use Rattle.aos_sim.proofs.Evaluates.{Pushed}
 use Rattle.aos_sim.proofs.Does.{scheme, addr_of, placed, HasCharacters, HasText, HasTypes, HasShapes, Knows, IsWhole, IsVisible, IsCalm, Does, Calmly, along, does_more, calm_does, calm_seen}
-use Rattle.aos_sim.proofs.States.{world_of, shapes_of, SameStore, SameVariables, SameFrames, Same, waiting_length, all_whole, top_shape}
+use Rattle.aos_sim.proofs.States.{world_of, shapes_of, IsFew, number_get, SameStore, SameVariables, SameFrames, Same, waiting_length, all_whole, top_shape}
 use Rattle.aos_sim.proofs.Texts.{TextAlike, text_alike}
+use Rattle.aos_sim.proofs.Making.{made_long}
 use Rattle.aos_sim.proofs.Turns.{AtWork, stop_decides, stop_fails, stop_works, IsAwaited}
 
 -- The code of an expression without calls is that of a condition.
@@ -243,7 +244,7 @@ decided_so v h = subst (λ u. I.decided (number_of u) ≡ (if is_true u then ver
     by false = refl
 
 -- Code over the topmost frame.
-module _ (program : Program) (image : Image) (typed : HasTypes program) (shaped : HasShapes program (tables_of image)) (s : Store) (mem : Memory) (f : S.Frame) (g : I.Frame) (fs : List S.Frame) (gs : List I.Frame) (stores : SameStore program s mem) (shown : SameVariables program s.made (f ∷ fs) (g ∷ gs)) (whole : IsWhole program (world_of program s.made (shapes_of (f ∷ fs)))) (long : length fs ≡ length gs) (object_is : g.object ≡ f.object) (code : List Instr) where
+module _ (program : Program) (image : Image) (typed : HasTypes program) (shaped : HasShapes program (tables_of program image)) (s : Store) (mem : Memory) (f : S.Frame) (g : I.Frame) (fs : List S.Frame) (gs : List I.Frame) (stores : SameStore program s mem) (shown : SameVariables program s.made (f ∷ fs) (g ∷ gs)) (whole : IsWhole program (world_of program s.made (shapes_of (f ∷ fs)))) (long : length fs ≡ length gs) (object_is : g.object ≡ f.object) (code : List Instr) where
   abbrev now : World Sort
   now = world_of program s.made (shapes_of (f ∷ fs))
 
@@ -257,7 +258,7 @@ module _ (program : Program) (image : Image) (typed : HasTypes program) (shaped 
   types = image.types.items
 
   abbrev run_from : ℕ → Keeps → Stack → Run
-  run_from = run (tables_of image) g.procedure here code
+  run_from = run (tables_of program image) g.procedure here code
 
   abbrev stop_from : ℕ → Keeps → Stack → Stop
   stop_from = silent shapes types now.made g.procedure (in_code here) g.cells code
@@ -304,7 +305,7 @@ module _ (program : Program) (image : Image) (typed : HasTypes program) (shaped 
   -- one question, behind whose answer the verdicts are the same
   module _ (n : ℕ) (m : Run) (stop : Stop) where
     abbrev Works : (q : source.Question) → (Cell → Run) → Type 0
-    Works q d = AtWork (tables_of image) g.procedure here code (placed program now q) d stop
+    Works q d = AtWork (tables_of program image) g.procedure here code (placed program now q) d stop
 
     abbrev Continues : ℕ → Keeps → Type 0
     Continues at k = (v : Value) (st : Stack) (r : Doing Value) → Evaluates_it (run_from (at + 1) k (cell_of now v ∷ st)) r → verdict_from n (at + 1) k (cell_of now v ∷ st) ≡ judged_as r
@@ -351,38 +352,39 @@ module _ (program : Program) (image : Image) (typed : HasTypes program) (shaped 
   -- the code that evaluates a condition from a place on gives its verdict, where it has a turn for each instruction from there
   from_same : (n at : ℕ) (k : Keeps) (st : Stack) (r : Doing Value) → length code < n + at → Evaluates_it (run_from at k st) r → verdict_from n at k st ≡ judged_as r
   from_same zero at k st r less d =
-      absurd (none_behind r (subst (λ l. Evaluates_it (runs (tables_of image) g.procedure here code l 0 at k st) r) (drop_all at code (omega (arith, less))) d))
+      absurd (none_behind r (subst (λ l. Evaluates_it (runs (tables_of program image) g.procedure here code l 0 at k st) r) (drop_all at code (omega (arith, less))) d))
   from_same (suc n) at k st r less d =
       ap (λ z. I.judged cells (verdict_from n) z) (silent_same at k st)
       ∙ by (S.calm program.types now.made f.variables r) (calm_seen program.types now.made f.variables r)
-      (calm_does program here now f.shape f.variables g.cells (top_shape program s.made f fs) shown.0 whole (tables_of image) shaped Decides_it (run_from at k st) r d)
+      (calm_does program here now f.shape f.variables g.cells (top_shape program s.made f fs) shown.0 whole (tables_of program image) shaped Decides_it (run_from at k st) r d)
       (from_same n)
       ∙ judged_calm program.types now.made f.variables variables r
     where
       stop : Stop
       stop = stop_from at k st
 
-      stopped : calm types now.made g.cells (run_from at k st) ≡ resume (tables_of image) g.procedure here code stop
-      stopped = run_by_silent (tables_of image) now.made g.procedure here g.cells code at k st
+      stopped : calm types now.made g.cells (run_from at k st) ≡ resume (tables_of program image) g.procedure here code stop
+      stopped =
+          run_by_silent (tables_of program image) now.made (λ o m e. made_long program m (number_get (IsFew program) o s.made m stores.few e).1) g.procedure here g.cells code at k st
 
       -- where the code behind a question does so
       by : (c : Doing Value) → IsCalm c → Calmly program here Decides_it types g.cells now (calm types now.made g.cells (run_from at k st)) c → ((at' : ℕ) (k' : Keeps) (st' : Stack) (r' : Doing Value) → length code < n + at' → Evaluates_it (run_from at' k' st') r' → verdict_from n at' k' st' ≡ judged_as r') → I.judged cells (verdict_from n) stop ≡ judged_as c
       by (Val v) visible h again =
           let e = sym stopped ∙ h.1 ∙ ap (calm types now.made g.cells) h.2.1 in
-          let z = stop_decides (tables_of image) g.procedure here code stop (number_of v) e in
+          let z = stop_decides (tables_of program image) g.procedure here code stop (number_of v) e in
           ap (λ y. I.judged cells (verdict_from n) y) z.1 ∙ decided_so v h.2.0
       by (Traps number c) visible h again =
-          let z = stop_fails (tables_of image) g.procedure here code stop number c h.1 (sym stopped ∙ h.0) in
+          let z = stop_fails (tables_of program image) g.procedure here code stop number c h.1 (sym stopped ∙ h.0) in
           ap (λ y. I.judged cells (verdict_from n) y) z.1
       by (Asks q next) visible h again =
-          let v = stop_works (tables_of image) g.procedure here code stop (placed program now q) h.0 (sym stopped ∙ h.1) in
+          let v = stop_works (tables_of program image) g.procedure here code stop (placed program now q) h.0 (sym stopped ∙ h.1) in
           let on : at ≤ v.at = walk_on shapes types now.made g.procedure (in_code here) g.cells code (placed program now q) v.at v.keeps v.stack (drop at code) 0 at k st v.is in
           ap (λ y. I.judged cells (verdict_from n) y) v.is
           ∙ asked_same n (calm types now.made g.cells (run_from at k st)) stop q next visible h v
           (λ x st' r' d'. again (v.at + 1) v.keeps (cell_of now x ∷ st') r' (omega (arith, less, on)) d')
 
 -- The verdict of a condition of the program, which is awaited by the topmost of an activity's frames.
-module _ (program : Program) (image : Image) (typed : HasTypes program) (shaped : HasShapes program (tables_of image)) (are : map (λ (b : Body). b.code.items) image.conds.items ≡ map (λ (d : Condition). condition_code program d.own d.expression) (conditions program)) where
+module _ (program : Program) (image : Image) (typed : HasTypes program) (shaped : HasShapes program (tables_of program image)) (are : map (λ (b : Body). b.code.items) image.conds.items ≡ map (λ (d : Condition). condition_code program d.own d.expression) (conditions program)) where
   -- the code of the condition with this number
   condition_there : (c : ℕ) (d : Condition) → slice_get (conditions program) c ≡ Some d → HasNoCalls d.expression → I.condition_of image c ≡ condition_code program d.own d.expression
   condition_there c d there plain =
@@ -401,10 +403,10 @@ module _ (program : Program) (image : Image) (typed : HasTypes program) (shaped 
       let last = i.Verdict ∷ [] in
       let k = g.keeps in
       let decides : World Sort → Value → Run → Type 0 = λ w v m. IsTruth v × (m ≡ Val (Decided (number_of v))) in
-      let pushed = Pushed (tables_of image) g.procedure here code type.Boolean last (0 + length xs) k [] in
-      let ends : Does program here decides now (run (tables_of image) g.procedure here code 0 k []) (value_of program here d.expression) =
+      let pushed = Pushed (tables_of program image) g.procedure here code type.Boolean last (0 + length xs) k [] in
+      let ends : Does program here decides now (run (tables_of program image) g.procedure here code 0 k []) (value_of program here d.expression) =
       does_more program here pushed decides now _ (value_of program here d.expression)
-      (value_does program d.own (tables_of image) g.procedure here code typed shaped d.expression type.Boolean refl of 0 now known last k [])
+      (value_does program d.own (tables_of program image) g.procedure here code typed shaped d.expression type.Boolean refl of 0 now known last k [])
       (λ w' up v m p. (p.is, p.run)) in
       sym (from_same program image typed shaped s mem f g fs gs stores shown whole long object_is code (suc (length code)) 0 k [] (value_of program here d.expression) (omega arith) ends)
 
@@ -421,7 +423,7 @@ module _ (program : Program) (image : Image) (typed : HasTypes program) (shaped 
       let place = h.0.place in
       let result = result_of place.routine.own in
       ap (λ o. S.verdict_over program o (f ∷ fs) s) a.1
-      ∙ over_same s mem f g fs gs stores shown (all_whole program image typed s.made f.shape result fs gs stores.few place.frame.few h.1) (waiting_length program image s.made result fs gs h.1) place.object_is a.0 a.2 a.4
+      ∙ over_same s mem f g fs gs stores shown (all_whole program image shaped s.made f.shape result fs gs stores.few place.frame.few h.1) (waiting_length program image s.made result fs gs h.1) place.object_is a.0 a.2 a.4
       ∙ ap (λ l. I.verdict_over image mem (g ∷ gs) l) (sym (condition_there c a.0 a.1 a.3))
 
   pub verdict_same : (s : Store) (mem : Memory) (x : S.Frames) (y : I.Frames) (c : ℕ) → SameStore program s mem → Same program image s.made x y → IsAwaited program image s.made c x.frames → S.verdict program s x c ≡ I.verdict image mem y c

@@ -20,13 +20,13 @@ use Rattle.aos_code.specs.Memory.{Memory}
 use Rattle.aos_code.specs.Machine as I
 use Rattle.aos_places.specs.Shows.{FramesShown, Shows}
 use Rattle.aos_sim.specs.Cells.{cell_of}
-use Rattle.aos_sim.proofs.Does.{scheme, HasTypes, HasShapes}
+use Rattle.aos_sim.proofs.Does.{scheme, HasShapes}
 use Rattle.aos_sim.proofs.Runs.{tables_of}
 use Rattle.aos_sim.proofs.States.{SameRegions, here_in, AreFew, world_of, shapes_of, with_answer, Went, WaitingFrame, WentFrame, Waiting, WentFrames, SameVariables, Follows, SameState, waiting_length, went_same}
 
 module _ {X : Type 0} (F : X → X) (d : ℕ) where
   -- an element is changed before or behind a look at it
-  change_map : {Y : Type 0} (v : X → Y) (G : Y → Y) → ((x : X) → v (F x) ≡ G (v x)) → (xs : List X) → map v (change_from_last d F xs) ≡ change_from_last d G (map v xs)
+  pub change_map : {Y : Type 0} (v : X → Y) (G : Y → Y) → ((x : X) → v (F x) ≡ G (v x)) → (xs : List X) → map v (change_from_last d F xs) ≡ change_from_last d G (map v xs)
   change_map v G h [] = refl
   change_map v G h (x ∷ xs) =
       (elim (nat_eq d (length xs)) as (λ q. map v (if q then F x ∷ xs else x ∷ change_from_last d F xs) ≡ (if q then G (v x) ∷ map v xs else v x ∷ change_from_last d G (map v xs))) [
@@ -36,7 +36,7 @@ module _ {X : Type 0} (F : X → X) (d : ℕ) where
       ∙ ap (λ n. if nat_eq d n then G (v x) ∷ map v xs else v x ∷ change_from_last d G (map v xs)) (sym (length-map xs v))
 
   -- what no change touches stays
-  change_kept : {Y : Type 0} (v : X → Y) → ((x : X) → v (F x) ≡ v x) → (xs : List X) → map v (change_from_last d F xs) ≡ map v xs
+  pub change_kept : {Y : Type 0} (v : X → Y) → ((x : X) → v (F x) ≡ v x) → (xs : List X) → map v (change_from_last d F xs) ≡ map v xs
   change_kept v h [] = refl
   change_kept v h (x ∷ xs) =
       elim (nat_eq d (length xs)) as (λ q. map v (if q then F x ∷ xs else x ∷ change_from_last d F xs) ≡ v x ∷ map v xs) [
@@ -44,7 +44,7 @@ module _ {X : Type 0} (F : X → X) (d : ℕ) where
         | false ↦ (λ j. v x ∷ change_kept v h xs j)
       ]
 
-  change_length : (xs : List X) → length (change_from_last d F xs) ≡ length xs
+  pub change_length : (xs : List X) → length (change_from_last d F xs) ≡ length xs
   change_length xs =
       let none : X → ℕ = λ x. 0 in
       sym (length-map (change_from_last d F xs) none) ∙ ap length (change_kept none (λ x. refl) xs) ∙ length-map xs none
@@ -136,22 +136,22 @@ module _ (program : Program) (image : Image) where
       by false k = (h.0, k)
 
   -- where the changed memory shows the changed store, all is the same but for the change
-  pub written : HasTypes program → HasShapes program (tables_of image) → (r : Root) (a : Content Value → Content Value) (b : List Cell → List Cell) (s : Store) (mem : Memory) (ms ps : List ℕ) (fs : List S.Frame) (gs : List I.Frame) → mem.made ≡ s.made → AreFew program s.made → Follows program image ms ps → WentFrames program image s.made fs gs → SameRegions fs gs →
+  pub written : HasShapes program (tables_of program image) → (r : Root) (a : Content Value → Content Value) (b : List Cell → List Cell) (s : Store) (mem : Memory) (ms ps : List ℕ) (fs : List S.Frame) (gs : List I.Frame) → mem.made ≡ s.made → AreFew program s.made → Follows program image ms ps → WentFrames program image s.made fs gs → SameRegions fs gs →
       Shows (Is program) cell_of (scheme program) s.made (shapes_of fs) (change_root r a (S.all_rooted fs s)) (change_root r b (I.rooted gs mem)) →
       SameState program image (store_with r a s) (I.memory_with r b mem) (S.all_frames ms (S.frames_with r a fs)) (I.all_frames ps (I.frames_with r b gs))
-  written typed shaped (FrameRoot d) a b s mem ms ps fs gs made few follows went marks h =
+  written shaped (FrameRoot d) a b s mem ms ps fs gs made few follows went marks h =
       let shown = variables_written s.made d a b fs gs h.of_frames in
       record {
         stores = record { made = made; few = few; of_modules = h.of_modules; of_objects = h.of_objects };
-        same = record { follows = follows; frames = went_same program image typed shaped s.made (change_from_last d (F s.made d a b) fs) (change_from_last d (G s.made d a b) gs) few (went_written s.made d a b fs gs went) shown; shown = shown; regions = regions_right d b (S.frames_with (FrameRoot d) a fs) gs (regions_left d a fs gs marks) };
+        same = record { follows = follows; frames = went_same program image shaped s.made (change_from_last d (F s.made d a b) fs) (change_from_last d (G s.made d a b) gs) few (went_written s.made d a b fs gs went) shown; shown = shown; regions = regions_right d b (S.frames_with (FrameRoot d) a fs) gs (regions_left d a fs gs marks) };
       }
-  written typed shaped (ModuleRoot m) a b s mem ms ps fs gs made few follows went marks h =
+  written shaped (ModuleRoot m) a b s mem ms ps fs gs made few follows went marks h =
       record {
         stores = record { made = made; few = few; of_modules = h.of_modules; of_objects = h.of_objects };
-        same = record { follows = follows; frames = went_same program image typed shaped s.made fs gs few went h.of_frames; shown = h.of_frames; regions = marks };
+        same = record { follows = follows; frames = went_same program image shaped s.made fs gs few went h.of_frames; shown = h.of_frames; regions = marks };
       }
-  written typed shaped (ObjectRoot o) a b s mem ms ps fs gs made few follows went marks h =
+  written shaped (ObjectRoot o) a b s mem ms ps fs gs made few follows went marks h =
       record {
         stores = record { made = made; few = few; of_modules = h.of_modules; of_objects = h.of_objects };
-        same = record { follows = follows; frames = went_same program image typed shaped s.made fs gs few went h.of_frames; shown = h.of_frames; regions = marks };
+        same = record { follows = follows; frames = went_same program image shaped s.made fs gs few went h.of_frames; shown = h.of_frames; regions = marks };
       }

@@ -103,10 +103,12 @@ pub record IsCode (p : Program) (bs cs : List Body) (ss : List ProcShape) (ds : 
 abbrev pub IsCodeOf : Program → Image → Type 0
 IsCodeOf p image = IsCode p image.bodies.items image.conds.items image.shapes.items image.modules.items image.types.items
 
--- for every budget and schedule both executions have the same observation and the same events
+-- for every budget and schedule both executions have the same observation, the same events and the same book: who stands where,
+-- who owns which lock, and how far each activity is
 pub record Shows (p : Program) (image : Image) : Type 0 where
   pub observation : (budget : ℕ) (choices : List Choice) → observation (machine image) (execution (machine image) choices (first_of image budget)) ≡ observation (source p) (execution (source p) choices (first_state p budget))
   pub events : (budget : ℕ) (choices : List Choice) → (execution (machine image) choices (first_of image budget)).book.events ≡ (execution (source p) choices (first_state p budget)).book.events
+  pub books : (budget : ℕ) (choices : List Choice) → (execution (machine image) choices (first_of image budget)).book ≡ (execution (source p) choices (first_state p budget)).book
 
 -- no execution has a trap of code that finds another operand than it takes, or a place that isn't there: that is trap 16, and
 -- those of the language are below it

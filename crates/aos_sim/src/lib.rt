@@ -10,8 +10,8 @@ ghost use Rattle.aos_sim.specs.Monitors.{HasMonitors};
 ghost use Rattle.aos_sim.specs.Rewriting.{DesignatorRewrites, ExpressionRewrites, StatementRewrites, AssignedRewrites, AssignmentRewrites};
 
 /// An image that has a well-typed program's code shows the program: for every budget and every
-/// schedule of any number of workers the two executions have the same observation and the same
-/// events.
+/// schedule of any number of workers the two executions have the same observation, the same
+/// events and the same book.
 pub fn image_shows_program()
     ensures { (p : Program) (image : Image) → IsWellTyped p → IsCodeOf p image → Shows p image }
 {}

@@ -37,5 +37,9 @@ pub returns-clause-shows : goal.returns-clause-shows
 returns-clause-shows c =
     c.image_shows_program.ensures (seen_program c.args.program.now) _ c.requires.typed (returns-clause-code c)
 
+pub returns-clause-sound : goal.returns-clause-sound
+returns-clause-sound c =
+    c.law_of_images.ensures (seen_program c.args.program.now) _ c.requires.typed (returns-clause-code c) (returns-clause-depths c)
+
 pub returns-clause-names : goal.returns-clause-names
 returns-clause-names c = c.in_ok-modules.ensures.names

@@ -1,5 +1,4 @@
 use Rattle.std.proofs.Common.{refl}
-use Rattle.aos_lasting.proofs.GateCode.{coded}
 use Rattle.aos_lasting.proofs.GateGuards.{local, quiet}
 use Rattle.aos_lasting.proofs.GateRun.{called, given, holds, others, owner}
 use Rattle.aos_lasting.proofs.GateTyped.{typed}
@@ -7,9 +6,6 @@ use Rattle.aos_lasting.proofs.example.gate_is_given_its_lock.Goals as goal
 
 pub returns-clause-typed : goal.returns-clause-typed
 returns-clause-typed c = typed
-
-pub returns-clause-coded : goal.returns-clause-coded
-returns-clause-coded c = coded
 
 pub returns-clause-quiet : goal.returns-clause-quiet
 returns-clause-quiet c = quiet

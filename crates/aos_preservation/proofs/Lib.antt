@@ -1,0 +1,11 @@
+pub mod Trees
+pub mod Places
+pub mod Pieces
+pub mod Exprs
+pub mod Stats
+pub mod Quiet
+pub mod Frames
+pub mod Stored
+pub mod Steps
+pub mod Keeps
+pub mod Preserving
