@@ -1,28 +1,32 @@
 -- Answers with their causes.
-use Rattle.std.proofs.Common.{◌≡◌, ℕ, ◌≤◌, List, [], length, sym, ap, ◌∙◌, subst, inl, inr}
+use Rattle.std.proofs.Common.{◌≡◌, ℕ, ◌≤◌, List, [], ◌∷◌, length, refl, sym, ap, ◌∙◌, subst, inl, inr}
 use Rattle.std.specs.Prelude.{◌⊎◌, ◌^◌, Result, Ok, Err, IfOk}
 use Rattle.aos_base.specs.declared.text.NoMemory.{NoMemory}
-use Rattle.aos_base.specs.declared.text.Refusal.{Refusal}
 use Rattle.aos_base.specs.Observation.{Observation}
+use Rattle.aos_base.specs.Schedule.{choices}
 use Rattle.aos_typed.specs.Program.{Program}
+use Rattle.aos_typed.specs.Source.{source, first_state}
 use Rattle.aos_code.specs.declared.image.Image.{Image}
-use Rattle.aos_sim.specs.Shows.{Shows}
+use Rattle.aos_code.specs.Machine.{machine, first_state as first_of}
 use Rattle.aos_report.specs.Texts.{refusal_text}
 use Rattle.aos_script.specs.declared.script.Script.{Script}
 use Rattle.aos_script.specs.declared.error.ScriptErr.{ScriptErr}
 use Rattle.aos_script.specs.declared.error.ScriptErr.TheVariants.{NoMemory as NoMemoryOf}
 use Rattle.aos_script.specs.Listing.{IsScript, choices_of}
 use Rattle.aos_script.specs.Refusals.{IsRefused as IsRefusedScript}
-use Rattle.aos_symbols.specs.Outcome.{went, refused as refused_by}
-use Rattle.aos_compile.specs.Elaborates.{ComesTo, names_of}
-use Rattle.aos_lasting.specs.Lasts.{Lasts}
+use Rattle.aos_compile.specs.Elaborates.{names_of}
+use Rattle.aos_words.specs.Words.{Command, Run, Replay}
 use Rattle.aos.specs.declared.answer.Answer.{Answer}
+use Rattle.aos.specs.declared.run.Setting.{Setting}
+use Rattle.aos.specs.declared.telling.Telling.{Telling}
+use Rattle.aos.specs.declared.telling.Telling.TheVariants.{Locals, Layout}
 use Rattle.aos.specs.Call.{ShelfUse}
-use Rattle.aos.specs.Words.{name_of}
-use Rattle.aos.specs.Report.{report, replay_report, script_line}
-use Rattle.aos.specs.Seen.{Seen, default_budget, seen_of, replay_of}
-use Rattle.aos.specs.Cause.{Runs, RunsBy, Takes, Cause, refused, ran, ran_by}
-use Rattle.aos.specs.Shown.{names_in, image_seen_of, image_replay_of, IsReady, IsAnswer, ShowsRun, ShowsReplayOf, Causes}
+use Rattle.aos.specs.Wanted.{wanted_files, text_files, name_of}
+use Rattle.aos.specs.Report.{run_report, replay_report, script_line}
+use Rattle.aos.specs.Seen.{Seen, seen_of, replay_of, script_of}
+use Rattle.aos.specs.Cause.{Has, Takes, to_check, to_list, Cause, refused, ran, ran_by, told}
+use Rattle.aos.specs.Shown.{image_seen_of, image_replay_of, IsSet, IsReady, IsAnswer, IsImageOf, TellsRefusal, ShowsRun, ShowsReplayOf, TellsOfProgram, asks_for, Causes, Serves}
+use Rattle.aos.proofs.Bounds.{same_bound}
 
 module _ (words : List (List ℕ)) (shelf : ShelfUse) where
   -- an answer with this status and these texts
@@ -33,39 +37,62 @@ module _ (words : List (List ℕ)) (shelf : ShelfUse) where
       (subst (λ x. Cause words shelf status out x) (sym is.err_is) h))
 
   -- the run of an image that shows the texts' program
-  pub ran_causes : (files texts : List (List ℕ)) (p : Program) (image : Image) (a : Answer) → ComesTo texts (went p) → Shows p image → Lasts p → names_in image ≡ names_of p → ShowsRun image a → Runs words shelf files texts → Causes words shelf a
+  pub ran_causes : (s : Setting) (files texts : List (List ℕ)) (p : Program) (image : Image) (a : Answer) → IsSet s → IsImageOf texts p image → ShowsRun s.workers s.budget s.log image a → Has words shelf (Run s.workers s.budget s.log files) texts → Causes words shelf a
   unfolding seen_of image_seen_of
-  ran_causes files texts p image a comes shows lasts names run runs =
+  ran_causes s files texts p image a set made run has =
       let o = run.observation in
-      let seen : Seen p o = record {
-        schedule = run.seen.schedule;
-        workers = run.seen.workers;
+      let schedule = run.seen.schedule in
+      let script = script_of s.workers s.budget schedule in
+      let seen : Seen s.workers s.budget p o = record {
+        schedule = schedule;
+        script = record { workers = set.workers_in; budget = set.budget_in; entries = run.seen.entries };
+        preempted = λ w. same_bound (machine image) (source p) w (choices schedule) 0 (first_of image s.budget) (first_state p s.budget) (made.shows.books s.budget) (run.seen.preempted w);
         over = run.seen.over;
-        seen = run.seen.seen ∙ shows.observation default_budget run.seen.schedule;
+        seen = run.seen.seen ∙ made.shows.observation s.budget (choices schedule);
       } in
-      causes_along a o.status o.output (report (names_of p) default_budget o) (record { status_is = run.status; out_is = run.out; err_is = run.err ∙ ap (λ ns. report ns default_budget o) names }) (ran p o runs comes seen lasts)
+      causes_along a o.status o.output (run_report s.log (names_of p) script o)
+      (record { status_is = run.status; out_is = run.out; err_is = run.err ∙ ap (λ ns. run_report s.log ns script o) made.names })
+      (ran p o has made.comes made.compiled seen)
 
   -- and its run by a script
-  pub replay_causes : (listing : List ℕ) (files texts : List (List ℕ)) (s : Script) (p : Program) (image : Image) (a : Answer) → IsScript listing s → ComesTo texts (went p) → Shows p image → Lasts p → names_in image ≡ names_of p → ShowsReplayOf image s a → RunsBy words shelf listing files texts → Causes words shelf a
+  pub replay_causes : (script listing : List ℕ) (files texts : List (List ℕ)) (s : Script) (p : Program) (image : Image) (a : Answer) → IsScript listing s → IsImageOf texts p image → ShowsReplayOf image s a → Has words shelf (Replay script files) (listing ∷ texts) → Causes words shelf a
   unfolding seen_of image_seen_of
-  replay_causes listing files texts s p image a read comes shows lasts names run runs =
-      let same : image_replay_of image s ≡ replay_of p s = shows.observation s.budget (choices_of s) in
+  replay_causes script listing files texts s p image a read made run has =
+      let same : image_replay_of image s ≡ replay_of p s = made.shows.observation s.budget (choices_of s) in
       causes_along a (replay_of p s).status (replay_of p s).output (replay_report (names_of p) s (replay_of p s))
       (record {
         status_is = run.status ∙ ap (λ (o : Observation). o.status) same;
         out_is = run.out ∙ ap (λ (o : Observation). o.output) same;
-        err_is = run.err ∙ (λ i. replay_report (names i) s (same i));
+        err_is = run.err ∙ (λ i. replay_report (made.names i) s (same i));
       })
-      (ran_by s p runs read comes lasts)
+      (ran_by s p has read made.comes made.compiled)
+
+  -- what is told of the program
+  pub told_causes : (what : Telling) (files texts : List (List ℕ)) (p : Program) (image : Image) (a : Answer) → IsImageOf texts p image → TellsOfProgram what p a → Has words shelf (asks_for what files) texts → Causes words shelf a
+  told_causes what files texts p image a made tells has = causes_along a 0 tells.text [] tells.is (told p has made.comes made.compiled (tells.such files))
+
+  pub takes_for : (what : Telling) (files texts : List (List ℕ)) → Has words shelf (asks_for what files) texts → Takes words shelf files texts
+  takes_for Locals files texts has = to_check has
+  takes_for Layout files texts has = to_list has
 
   -- the refusal of the texts
-  pub refused_causes : (files texts : List (List ℕ)) (r : Refusal) (a : Answer) → ComesTo texts (refused_by r) → Takes words shelf files texts → IsAnswer a 1 [] (refusal_text (name_of files r.file) r.rule r.pos) → Causes words shelf a
-  refused_causes files texts r a comes takes is = causes_along a 1 [] (refusal_text (name_of files r.file) r.rule r.pos) is (refused r takes comes)
+  pub refused_causes : (files texts : List (List ℕ)) (a : Answer) → TellsRefusal files texts a → Takes words shelf files texts → Causes words shelf a
+  refused_causes files texts a tells takes =
+      let r = tells.refusal in
+      causes_along a 1 [] (refusal_text (name_of files r.file) r.rule r.pos) tells.is (refused r takes tells.comes)
 
 -- a fact on an answer, where there is one
 pub on_answer : (P Q : Answer → Type 0) (r : Result Answer NoMemory) → ((a : Answer) → P a → Q a) → IfOk r P → IfOk r Q
 on_answer P Q (Ok a) f h = f a h
 on_answer P Q (Err e) f h = h
+
+-- one that serves a command serves the same under another name
+pub serves_along : (c d : Command) (shelf : ShelfUse) (r : Result Answer NoMemory) → d ≡ c → IfOk r (Serves c shelf) → IfOk r (Serves d shelf)
+serves_along c d shelf r is h = subst (λ x. IfOk r (Serves x shelf)) (sym is) h
+
+pub wanted_for : (what : Telling) (files : List (List ℕ)) → wanted_files (asks_for what files) ≡ text_files files
+wanted_for Locals files = refl
+wanted_for Layout files = refl
 
 -- a script that was read can be run by
 pub ready : (listing : List ℕ) (s : Script) → IsScript listing s → length s.runs ≤ 2 ^ 27 → IsReady s

@@ -1,9 +1,10 @@
 -- Files that are fetched one after another.
 use Rattle.std.proofs.Common.{◌≡◌, ℕ, suc, ◌+◌, ◌<◌, ◌≤◌, List, [], ◌∷◌, ◌++◌, length, take, drop, get_or, Option, Some, None, Bool, true, false, refl, sym, ap, ◌∙◌, subst, append_assoc}
-use Rattle.std.specs.Prelude.{if◌then◌else◌, IsSomeAnd, IfSome, nat_le, All, String, Vec, string_bytes}
+use Rattle.std.specs.Prelude.{if◌then◌else◌, IsSomeAnd, IfSome, nat_le, All, Vec}
 use Rattle.std.specs.declared.alloc.Global.{Global}
+use Rattle.std.specs.Borrow.{Bor}
 use Rattle.std.proofs.lemmas.Bool.{lt-leb}
-use Rattle.std.proofs.lemmas.List.{take_more, map-append, take-append-drop, length-map}
+use Rattle.std.proofs.lemmas.List.{take_more, map-append, take-append-drop}
 use Rattle.std.proofs.lemmas.List.Elements.{All-nil, All-cons}
 use Rattle.aos_dev.specs.Shelf.{Named, text_of}
 use Rattle.aos_dev.proofs.CountLemmas.{stays_then_rose}
@@ -14,10 +15,11 @@ use Rattle.aos.specs.declared.fetch.FetchedFiles.{FetchedFiles}
 use Rattle.aos.specs.declared.fetch.FetchedFiles.TheVariants.{Texts as FilesTexts, Stopped as FilesStopped}
 use Rattle.aos_report.specs.Texts.{refusal_text, unread_text, too_long_text}
 use Rattle.aos.specs.Call.{ShelfUse, ShelfFailed}
-use Rattle.aos.specs.Words.{Words, words_of, Command, Asks, Wanted, wanted_files, IsWanted, text_file, text_files, text_limit}
+use Rattle.aos_words.specs.Words.{Words, Command, borrowed, AreFew, Asks}
+use Rattle.aos.specs.Wanted.{Wanted, wanted_files, IsWanted, text_file, text_files, text_limit}
 use Rattle.aos.specs.Fetched.{Fetched, Texts, NoFile, LongFile, with_text, fetch_one, fetch_all, AreWithin, Fetches, AreHad, Had}
 use Rattle.aos.specs.Cause.{Cause, unread, absent, too_long, whole}
-use Rattle.aos.specs.Shown.{IsAnswer, texts_of, StopsBy, by_fault, by_absence, by_length, IsFetched, AreFetched}
+use Rattle.aos.specs.Shown.{IsAnswer, texts_of, AreTexts, StopsBy, by_fault, by_absence, by_length, IsFetched, AreFetched}
 
 -- the texts of some files, and what came of the files behind them
 abbrev with_texts : List (List ℕ) → Fetched → Fetched
@@ -182,36 +184,36 @@ module _ (shelf : ShelfUse) (ws : List Wanted) where
   pub one_stopped : (r : FetchedFiles) (a : Answer) → AreFetched shelf ws r → r ≡ FilesStopped a → StopsBy shelf ws a.status a.out.items a.err.items
   one_stopped r a h e = subst (λ x. AreFetched shelf ws x) e h
 
-module _ (files : List (String Global)) where
-  abbrev wanted : List (String Global) → List Wanted
-  wanted fs = text_files (words_of fs)
+module _ (files : List (Bor (List ℕ))) where
+  abbrev wanted : List (Bor (List ℕ)) → List Wanted
+  wanted fs = text_files (borrowed fs)
 
   -- the files so far, and one more
-  pub wanted_more : (k : ℕ) (file : String Global) → k < length files → file ≡ get_or files k file → wanted (take (k + 1) files) ≡ wanted (take k files) ++ text_file (string_bytes file) ∷ []
+  pub wanted_more : (k : ℕ) (file : Bor (List ℕ)) → k < length files → file ≡ get_or files k file → wanted (take (k + 1) files) ≡ wanted (take k files) ++ text_file file.now ∷ []
   wanted_more k file lt at =
       ap wanted (take_more files k file lt ∙ ap (λ f. take k files ++ f ∷ []) (sym at))
-      ∙ ap text_files (map-append (λ w. string_bytes w) (take k files) (file ∷ []))
-      ∙ map-append text_file (words_of (take k files)) (string_bytes file ∷ [])
+      ∙ ap text_files (map-append (λ (w : Bor (List ℕ)). w.now) (take k files) (file ∷ []))
+      ∙ map-append text_file (borrowed (take k files)) (file.now ∷ [])
 
   pub wanted_all : (k : ℕ) → wanted (take k files) ++ wanted (drop k files) ≡ wanted files
   wanted_all k =
-      sym (map-append text_file (words_of (take k files)) (words_of (drop k files)))
-      ∙ ap text_files (sym (map-append (λ w. string_bytes w) (take k files) (drop k files)) ∙ ap words_of (take-append-drop k files))
+      sym (map-append text_file (borrowed (take k files)) (borrowed (drop k files)))
+      ∙ ap text_files (sym (map-append (λ (w : Bor (List ℕ)). w.now) (take k files) (drop k files)) ∙ ap borrowed (take-append-drop k files))
 
   -- one more of the files is had
-  pub had_more : (texts : Option (List Named)) (k : ℕ) (file : String Global) (xs : List (Vec ℕ Global)) (x : Vec ℕ Global) → k < length files → file ≡ get_or files k file → Had texts (wanted (take k files)) (texts_of xs) → Had texts (text_file (string_bytes file) ∷ []) (x.items ∷ []) → Had texts (wanted (take (k + 1) files)) (texts_of (xs ++ x ∷ []))
+  pub had_more : (texts : Option (List Named)) (k : ℕ) (file : Bor (List ℕ)) (xs : List (Vec ℕ Global)) (x : Vec ℕ Global) → k < length files → file ≡ get_or files k file → Had texts (wanted (take k files)) (texts_of xs) → Had texts (text_file file.now ∷ []) (x.items ∷ []) → Had texts (wanted (take (k + 1) files)) (texts_of (xs ++ x ∷ []))
   had_more texts k file xs x lt at h more =
       subst (λ ws. Had texts ws (texts_of (xs ++ x ∷ []))) (sym (wanted_more k file lt at))
-      (subst (Had texts (wanted (take k files) ++ text_file (string_bytes file) ∷ [])) (sym (map-append (λ t. t.items) xs (x ∷ [])))
-      (Had-append texts (wanted (take k files)) (text_file (string_bytes file) ∷ []) (texts_of xs) (x.items ∷ []) h more))
+      (subst (Had texts (wanted (take k files) ++ text_file file.now ∷ [])) (sym (map-append (λ t. t.items) xs (x ∷ [])))
+      (Had-append texts (wanted (take k files)) (text_file file.now ∷ []) (texts_of xs) (x.items ∷ []) h more))
 
   -- one of the files stops, and those before it are had
-  pub stops_at : (shelf : ShelfUse) (k : ℕ) (file : String Global) (xs : List (Vec ℕ Global)) {status : ℕ} {out err : List ℕ} → k < length files → file ≡ get_or files k file → Had shelf.texts (wanted (take k files)) (texts_of xs) → StopsBy shelf (text_file (string_bytes file) ∷ []) status out err → StopsBy shelf (wanted files) status out err
+  pub stops_at : (shelf : ShelfUse) (k : ℕ) (file : Bor (List ℕ)) (xs : List (Vec ℕ Global)) {status : ℕ} {out err : List ℕ} → k < length files → file ≡ get_or files k file → Had shelf.texts (wanted (take k files)) (texts_of xs) → StopsBy shelf (text_file file.now ∷ []) status out err → StopsBy shelf (wanted files) status out err
   stops_at shelf k file xs {status} {out} {err} lt at h stop =
       subst (λ ws. StopsBy shelf ws status out err) (wanted_all (k + 1))
       (stops_before shelf (wanted (take (k + 1) files)) (wanted (drop (k + 1) files))
       (subst (λ ws. StopsBy shelf ws status out err) (sym (wanted_more k file lt at))
-      (stops_behind shelf (wanted (take k files)) (text_file (string_bytes file) ∷ []) (texts_of xs) h stop)))
+      (stops_behind shelf (wanted (take k files)) (text_file file.now ∷ []) (texts_of xs) h stop)))
 
 -- The texts that are had
 
@@ -222,9 +224,6 @@ count_within [] (x ∷ xs) h = absurd h
 count_within (w ∷ ws) [] h = absurd h
 count_within (w ∷ ws) (x ∷ xs) h = ap suc (count_within ws xs h.1)
 
-pub count_had : (texts : Option (List Named)) (files : List (String Global)) (xs : List (Vec ℕ Global)) → Had texts (text_files (words_of files)) (texts_of xs) → length xs ≡ length files
-count_had texts files xs h = count_within (words_of files) xs h.fits ∙ length-map files (λ w. string_bytes w)
-
 -- and each has no more bytes than it may have
 limits_within : (files : Words) (xs : List (Vec ℕ Global)) → AreWithin (text_files files) (texts_of xs) → All (λ t. length t.items ≤ text_limit) xs
 limits_within [] [] h = All-nil (λ t. length t.items ≤ text_limit)
@@ -232,5 +231,12 @@ limits_within [] (x ∷ xs) h = absurd h
 limits_within (w ∷ ws) [] h = absurd h
 limits_within (w ∷ ws) (x ∷ xs) h = All-cons (λ t. length t.items ≤ text_limit) x xs h.0 (limits_within ws xs h.1)
 
-pub limits_had : (texts : Option (List Named)) (files : Words) (xs : List (Vec ℕ Global)) → Had texts (text_files files) (texts_of xs) → All (λ t. length t.items ≤ text_limit) xs
-limits_had texts files xs h = limits_within files xs h.fits
+-- so they may be compiled
+pub are_texts : (texts : Option (List Named)) (files : Words) (xs : List (Vec ℕ Global)) → AreFew files → Had texts (text_files files) (texts_of xs) → AreTexts xs
+are_texts texts files xs few h =
+    let count = sym (count_within files xs h.fits) in
+    record {
+      some = subst (λ (n : ℕ). 1 ≤ n) count few.0;
+      few = subst (λ (n : ℕ). n ≤ 64) count few.1;
+      limits = limits_within files xs h.fits;
+    }

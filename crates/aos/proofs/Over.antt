@@ -1,38 +1,24 @@
 -- What a kernel tells of a run that is over is the image's observation.
-use Rattle.std.proofs.Common.{◌≡◌, ◌≢◌, ℕ, zero, suc, ◌<◌, List, [], ◌∷◌, ◌++◌, length, map, replicate, Option, refl, sym, ap, ◌∙◌, subst, arith}
+use Rattle.std.proofs.Common.{◌≡◌, ◌≢◌, ℕ, List, [], ◌∷◌, ◌++◌, length, map, Option, Bool, refl, sym, ap, ◌∙◌, subst}
 use Rattle.std.specs.Prelude.{All}
-use Rattle.std.proofs.lemmas.List.Elements.{All-nil, All-cons, All-tail, All-append}
 use Rattle.aos_base.specs.declared.kernel.Outcome.{Outcome}
 use Rattle.aos_base.specs.declared.kernel.Outcome.TheVariants.{Going, Ended, Dead, Spent}
 use Rattle.aos_base.specs.Book.{TrapRow, outcome}
-use Rattle.aos_base.specs.Machine.{Step, Tick, execution}
+use Rattle.aos_base.specs.Machine.{execution}
 use Rattle.aos_base.specs.Observation.{WaitRow, Observation, observation, status_of, waits_if, spent_if, waits_below}
-use Rattle.aos_code.specs.Machine.{machine, first_state}
-use Rattle.aos_base.specs.declared.kernel.Sched.{Sched}
-use Rattle.aos_base.specs.declared.kernel.Sched.TheVariants.{Steps, Tick as TickEntry}
-use Rattle.aos_base.specs.Schedule.{choices, entry_choices, IsEntry}
-use Rattle.aos_kernel.specs.Run.{Run, state_of, rec_of, traps_of, wait_of, waits_of, spent_of, if_spent}
-use Rattle.aos_report.specs.Texts.{row_text, rows_text, waits_text}
-use Rattle.aos.specs.declared.answer.Answer.{Answer}
+use Rattle.aos_base.specs.Schedule.{choices, IsEntry}
 use Rattle.aos_code.specs.declared.image.Image.{Image}
+use Rattle.aos_code.specs.Machine.{machine, first_state}
+use Rattle.aos_kernel.specs.Run.{Run, after, state_of, rec_of, traps_of, wait_of, waits_of, spent_of, if_spent}
+use Rattle.aos_cell.specs.Bound.{IsPreempted}
+use Rattle.aos_cell.specs.Passes.{RunsOn}
+use Rattle.aos_report.specs.Texts.{row_text, rows_text, waits_text}
 use Rattle.aos_script.specs.declared.script.Script.{Script}
 use Rattle.aos_script.specs.Listing.{choices_of}
-use Rattle.aos.specs.Report.{report, spent_text, ended_text}
-use Rattle.aos.specs.Seen.{default_budget, worker_of, OfWorkers}
-use Rattle.aos.specs.Shown.{row_of, wait_row_of, names_in, image_seen_of, image_replay_of, kernel_seen_of, ShowsRun, ShowsReplayOf, TellsOf}
-
-of_steps : (n w k : ℕ) → w < n → OfWorkers n (replicate k (Step w))
-of_steps n w zero lt = All-nil (λ c. worker_of c < n)
-of_steps n w (suc k) lt = All-cons (λ c. worker_of c < n) (Step w) (replicate k (Step w)) lt (of_steps n w k lt)
-
-of_entry : (n : ℕ) (e : Sched) → IsEntry n e → OfWorkers n (entry_choices e)
-of_entry n (Steps w k) h = of_steps n w k h.0
-of_entry n (TickEntry w) h = All-cons (λ c. worker_of c < n) (Tick w) [] h (All-nil (λ c. worker_of c < n))
-
--- the steps and ticks of a log are of its workers
-of_log : (n : ℕ) (log : List Sched) → All (IsEntry n) log → OfWorkers n (choices log)
-of_log n [] h = All-nil (λ c. worker_of c < n)
-of_log n (e ∷ log) h = All-append (λ c. worker_of c < n) (entry_choices e) (choices log) (of_entry n e (h 0 e (omega arith))) (of_log n log (All-tail (IsEntry n) e log h))
+use Rattle.aos.specs.declared.answer.Answer.{Answer}
+use Rattle.aos.specs.Report.{report, run_report, log_text, spent_text, ended_text}
+use Rattle.aos.specs.Seen.{script_of}
+use Rattle.aos.specs.Shown.{row_of, wait_row_of, names_in, image_seen_of, image_replay_of, kernel_seen_of, script_in, ShowsRun, ShowsReplayOf, TellsOf, TellsLog}
 
 -- a trap's line doesn't tell what the record leaves out
 rows_told : (names : List (List ℕ)) (rows : List TrapRow) → rows_text names (map row_of (map rec_of rows)) ≡ rows_text names rows
@@ -90,20 +76,37 @@ tells r a status out err =
           ∙ ap (λ s. rows_text names st.book.traps ++ waits ++ spent_text s r.budget) (spent_told (outcome st.book) st.book.spent);
     }
 
-pub shows_run : (r : Run) (a : Answer) → r.workers ≡ 1 → r.budget ≡ default_budget → outcome (state_of r).book ≢ Going → All (IsEntry r.workers) r.log → TellsOf r a → ShowsRun r.image a
-unfolding kernel_seen_of image_seen_of observation
-shows_run r a one budget over entries told =
+-- the same behind it, and the log where that is wanted
+pub tells_log : (log : Bool) (r : Run) (a b : Answer) (lines : List ℕ) → All (IsEntry r.workers) r.log → TellsOf r a → b.status ≡ a.status → b.out.items ≡ a.out.items → b.err.items ≡ a.err.items ++ lines → lines ≡ log_text log (script_in r) → TellsLog log r b
+tells_log log r a b lines entries told status out err same =
     record {
-      observation = kernel_seen_of r;
+      entries = entries;
+      status = status ∙ told.status;
+      out = out ∙ told.out;
+      err = err ∙ (λ i. told.err i ++ same i);
+    }
+
+-- a kernel in which nothing had happened, and the same where its workers have come to the end
+pub shows_run : (log : Bool) (old now : Run) (a : Answer) → old.log ≡ [] → RunsOn old now → outcome (state_of now).book ≢ Going → TellsLog log now a → ShowsRun old.workers old.budget log old.image a
+unfolding kernel_seen_of image_seen_of observation
+shows_run log old now a none runs over told =
+    let same = runs.0 in
+    let bound = runs.1 in
+    let added : choices now.log ≡ bound.0 = bound.1 ∙ ap (λ l. choices l ++ bound.0) none in
+    let begins : state_of old ≡ first_state old.image old.budget = ap (λ l. after old.image old.budget (choices l)) none in
+    record {
+      observation = kernel_seen_of now;
       seen = record {
-        schedule = choices r.log;
-        workers = subst (λ n. OfWorkers n (choices r.log)) one (of_log r.workers r.log entries);
+        schedule = now.log;
+        entries = subst (λ n. All (IsEntry n) now.log) same.1 told.entries;
+        preempted = λ w. subst (λ cs. IsPreempted (machine old.image) w cs 0 (first_state old.image old.budget)) (sym added)
+            (subst (λ st. IsPreempted (machine old.image) w bound.0 0 st) begins (bound.2 w));
         over = over;
-        seen = ap (λ b. observation (machine r.image) (execution (machine r.image) (choices r.log) (first_state r.image b))) budget;
+        seen = λ i. observation (machine (same.0 i)) (after (same.0 i) (same.2 i) (choices now.log));
       };
       status = told.status;
       out = told.out;
-      err = told.err ∙ ap (λ b. report (names_in r.image) b (kernel_seen_of r)) budget;
+      err = told.err ∙ (λ i. run_report log (names_in (same.0 i)) (script_of (same.1 i) (same.2 i) now.log) (kernel_seen_of now));
     }
 
 -- the kernel of a script, and the line of one that has ended

@@ -6,7 +6,7 @@ use Rattle.aos_dev.specs.declared.sink.Sink as Sink
 use Rattle.aos_dev.specs.Count.{Rose}
 use Rattle.aos_dev.specs.Shelf.{Named}
 use Rattle.aos_dev.specs.Sink.{appended, WrotePart}
-use Rattle.aos.specs.Words.{Words}
+use Rattle.aos_words.specs.Words.{Words}
 
 -- the shelf's texts, where it tells them, and its count of faults before and after
 pub record ShelfUse : Type 0 where

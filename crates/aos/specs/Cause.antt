@@ -1,9 +1,10 @@
 -- The causes of the program's answers.
-use Rattle.std.specs.Prelude.{◌≡◌, ℕ, List, [], ◌∷◌, None}
+use Rattle.std.specs.Prelude.{◌≡◌, ℕ, List, [], ◌∷◌, Bool, None}
 use Rattle.aos_base.specs.declared.text.Pos.{Pos}
 use Rattle.aos_base.specs.declared.text.Refusal.{Refusal}
 use Rattle.aos_base.specs.Observation.{Observation}
 use Rattle.aos_typed.specs.Program.{Program}
+use Rattle.aos_typed.specs.WellTyped.{IsWellTyped}
 use Rattle.aos_report.specs.Texts.{refusal_text, usage_text, unread_text, too_long_text}
 use Rattle.aos_script.specs.declared.script.Script.{Script}
 use Rattle.aos_script.specs.declared.error.ScriptErr.{ScriptErr}
@@ -11,39 +12,41 @@ use Rattle.aos_script.specs.Listing.{IsScript}
 use Rattle.aos_script.specs.Refusals.{IsRefused as IsRefusedScript}
 use Rattle.aos_symbols.specs.Outcome.{went, refused as refused_by}
 use Rattle.aos_compile.specs.Elaborates.{ComesTo, names_of}
-use Rattle.aos_lasting.specs.Lasts.{Lasts}
+use Rattle.aos_words.specs.Words.{Words, Command, Run, Replay, Check, List_, command_of, Asks}
+use Rattle.aos.specs.Wanted.{Wanted, wanted_files, IsWanted, name_of}
 use Rattle.aos.specs.Call.{ShelfUse, SinkUse, Call, ShelfFailed, SinkFailed}
 use Rattle.aos.specs.Call.{GotWhole, GotPart, GotNothing}
-use Rattle.aos.specs.Words.{Words, Command, Run, Replay, command_of, Asks}
-use Rattle.aos.specs.Words.{Wanted, wanted_files, IsWanted, name_of}
 use Rattle.aos.specs.Fetched.{NoFile, LongFile, Fetches, AreHad, Had}
-use Rattle.aos.specs.Report.{report, replay_report, script_line}
-use Rattle.aos.specs.Seen.{default_budget, Seen, replay_of}
+use Rattle.aos.specs.Report.{run_report, replay_report, script_line}
+use Rattle.aos.specs.Seen.{Seen, replay_of, script_of}
+use Rattle.aos.specs.Told.{IsToldBy}
 
 abbrev pub whole : Pos
 whole = record { line = 0; col = 0 }
 
--- the words ask for a run of these files, which have these texts
-pub record Runs (words : Words) (shelf : ShelfUse) (files : Words) (texts : List (List ℕ))
+-- the words are this command, and all files that it wants are had, with these texts
+pub record Has (words : Words) (shelf : ShelfUse) (c : Command) (all : List (List ℕ))
     : Type 0 where
-  pub asks : Asks words (Run files)
-  pub had : Had shelf.texts (wanted_files (Run files)) texts
+  pub asks : Asks words c
+  pub had : Had shelf.texts (wanted_files c) all
 
--- they ask for their run by a script whose text, the listing, is this
-pub record RunsBy (words : Words) (shelf : ShelfUse) (listing : List ℕ) (files : Words)
-    (texts : List (List ℕ)) : Type 0 where
-  pub script : List ℕ
-  pub asks : Asks words (Replay script files)
-  pub had : Had shelf.texts (wanted_files (Replay script files)) (listing ∷ texts)
-
--- one of the two, and the listing is a script
+-- the words are a command whose modules are these files, which have these texts; where it has a
+-- script, that is one
 pub data Takes (words : Words) (shelf : ShelfUse)
     : (files : Words) → (texts : List (List ℕ)) → Type 0 where
-  alone : {files texts : List (List ℕ)} → Runs words shelf files texts
+  to_run : {workers budget : ℕ} {log : Bool} {files texts : List (List ℕ)}
+      → Has words shelf (Run workers budget log files) texts → Takes words shelf files texts
+  to_replay : {script listing : List ℕ} {files texts : List (List ℕ)} (s : Script)
+      → Has words shelf (Replay script files) (listing ∷ texts) → IsScript listing s
       → Takes words shelf files texts
-  by_script : {listing : List ℕ} {files texts : List (List ℕ)} (s : Script)
-      → RunsBy words shelf listing files texts → IsScript listing s
+  to_check : {files texts : List (List ℕ)} → Has words shelf (Check files) texts
       → Takes words shelf files texts
+  to_list : {files texts : List (List ℕ)} → Has words shelf (List_ files) texts
+      → Takes words shelf files texts
+
+-- what is known of a program that was compiled
+pub record IsCompiled (p : Program) : Type 0 where
+  pub typed : IsWellTyped p
 
 -- each cause of an answer, with the status and the texts for the two sinks
 pub data Cause (words : Words) (shelf : ShelfUse) : (status : ℕ) → (out err : List ℕ) → Type 0 where
@@ -61,21 +64,29 @@ pub data Cause (words : Words) (shelf : ShelfUse) : (status : ℕ) → (out err 
       → Fetches shelf.texts (wanted_files c) (LongFile w.file w.most)
       → Cause words shelf 6 [] (too_long_text w.file w.most)
   -- all files are had, and the listing is no script
-  bad_script : {listing : List ℕ} {files texts : List (List ℕ)} (e : ScriptErr)
-      → RunsBy words shelf listing files texts → IsRefusedScript listing e
+  bad_script : {script listing : List ℕ} {files texts : List (List ℕ)} (e : ScriptErr)
+      → Has words shelf (Replay script files) (listing ∷ texts) → IsRefusedScript listing e
       → Cause words shelf 10 [] (script_line e)
   -- the texts are refused, and the line names the file that the refusal tells
   refused : {files texts : List (List ℕ)} (r : Refusal) → Takes words shelf files texts
       → ComesTo texts (refused_by r)
       → Cause words shelf 1 [] (refusal_text (name_of files r.file) r.rule r.pos)
-  -- the texts have a program, whose local conditions last, and which is run, or run by the script
-  ran : {files texts : List (List ℕ)} (p : Program) (o : Observation)
-      → Runs words shelf files texts → ComesTo texts (went p) → Seen p o → Lasts p
-      → Cause words shelf o.status o.output (report (names_of p) default_budget o)
-  ran_by : {listing : List ℕ} {files texts : List (List ℕ)} (s : Script) (p : Program)
-      → RunsBy words shelf listing files texts → IsScript listing s → ComesTo texts (went p)
-      → Lasts p → Cause words shelf (replay_of p s).status (replay_of p s).output
+  -- the texts have a program, which is run by workers
+  ran : {workers budget : ℕ} {log : Bool} {files texts : List (List ℕ)}
+      (p : Program) (o : Observation) → Has words shelf (Run workers budget log files) texts
+      → ComesTo texts (went p) → IsCompiled p → (seen : Seen workers budget p o)
+      → Cause words shelf o.status o.output
+      (run_report log (names_of p) (script_of workers budget seen.schedule) o)
+  -- or by the script
+  ran_by : {script listing : List ℕ} {files texts : List (List ℕ)} (s : Script) (p : Program)
+      → Has words shelf (Replay script files) (listing ∷ texts) → IsScript listing s
+      → ComesTo texts (went p) → IsCompiled p
+      → Cause words shelf (replay_of p s).status (replay_of p s).output
       (replay_report (names_of p) s (replay_of p s))
+  -- or told of
+  told : {c : Command} {texts : List (List ℕ)} {text : List ℕ} (p : Program)
+      → Has words shelf c texts → ComesTo texts (went p) → IsCompiled p → IsToldBy c p text
+      → Cause words shelf 0 text []
 
 -- the status and the texts have a cause, and the sinks got these texts whole
 pub record Answered (call : Call) : Type 0 where

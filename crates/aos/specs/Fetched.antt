@@ -2,7 +2,7 @@
 use Rattle.std.specs.Prelude.{◌≡◌, ℕ, ◌≤◌, nat_le, List, [], ◌∷◌, length, if◌then◌else◌}
 use Rattle.std.specs.Prelude.{Option, Some, None, IfSome}
 use Rattle.aos_dev.specs.Shelf.{Named, text_of}
-use Rattle.aos.specs.Words.{Wanted}
+use Rattle.aos.specs.Wanted.{Wanted}
 
 -- the texts of all of them; or the first that is absent, or has more bytes than it may have
 pub data Fetched : Type 0 where

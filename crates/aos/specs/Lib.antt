@@ -1,8 +1,9 @@
-pub mod Words
+pub mod Wanted
 pub mod Call
 pub mod Fetched
 pub mod Report
 pub mod Seen
+pub mod Told
 pub mod Cause
 pub mod Promises
 pub mod Shown

@@ -1,5 +1,5 @@
 -- What is written beside a run's output.
-use Rattle.std.specs.Prelude.{ℕ, List, [], ◌++◌, length, Option, Some, None}
+use Rattle.std.specs.Prelude.{ℕ, List, [], ◌++◌, length, Option, Some, None, Bool, true, false}
 use Rattle.aos_base.specs.declared.kernel.Outcome.{Outcome}
 use Rattle.aos_base.specs.declared.kernel.Outcome.TheVariants.{Going, Ended, Dead, Spent}
 use Rattle.aos_base.specs.Book.{TrapRow}
@@ -10,6 +10,7 @@ use Rattle.aos_script.specs.declared.script.Script.{Script}
 use Rattle.aos_script.specs.declared.error.ScriptErr.{ScriptErr}
 use Rattle.aos_script.specs.declared.error.ScriptErr.TheVariants.{BadLine, BadWorker, NoMemory}
 use Rattle.aos_script.specs.Listing.{choices_of}
+use Rattle.aos_script.specs.Print.{script_text}
 
 abbrev pub spent_text : Option ℕ → ℕ → List ℕ
 spent_text None budget = []
@@ -23,6 +24,15 @@ report_of names budget traps waits spent =
 
 abbrev pub report : List (List ℕ) → ℕ → Observation → List ℕ
 report names budget o = report_of names budget o.traps o.waits o.spent
+
+-- where the log is wanted, the text of the script that it is
+abbrev pub log_text : (log : Bool) → Script → List ℕ
+log_text true s = script_text s
+log_text false s = []
+
+-- those of a run by workers, whose schedule is this script's
+abbrev pub run_report : (log : Bool) → List (List ℕ) → Script → Observation → List ℕ
+run_report log names s o = report names s.budget o ++ log_text log s
 
 -- the line of a script that came to its end while the run was going on
 abbrev pub ended_text : Outcome → ℕ → List ℕ

@@ -1,24 +1,37 @@
 -- Answers that show an image's run: for proofs and private functions alone.
-use Rattle.std.specs.Prelude.{◌≡◌, ◌≢◌, ℕ, ◌≤◌, List, [], ◌∷◌, length, map, All, Option, Some, None}
+use Rattle.std.specs.Prelude.{◌≡◌, ◌≢◌, ℕ, ◌≤◌, ◌^◌, List, [], ◌∷◌, length, map, All, Bool}
 use Rattle.std.specs.Prelude.{string_bytes, Vec}
 use Rattle.std.specs.declared.alloc.Global.{Global}
+use Rattle.aos_base.specs.declared.text.Refusal.{Refusal}
 use Rattle.aos_base.specs.declared.kernel.Outcome.TheVariants.{Going}
+use Rattle.aos_base.specs.declared.kernel.Sched.{Sched}
 use Rattle.aos_base.specs.Book.{TrapRow}
 use Rattle.aos_base.specs.Machine.{Choice, execution}
 use Rattle.aos_base.specs.Observation.{WaitRow, Observation, observation}
-use Rattle.aos_base.specs.Schedule.{IsEntry}
+use Rattle.aos_base.specs.Schedule.{choices, IsEntry}
 use Rattle.aos_code.specs.declared.image.Image.{Image}
 use Rattle.aos_code.specs.declared.image.ModuleDesc.{ModuleDesc}
 use Rattle.aos_code.specs.declared.report.TrapRec.{TrapRec}
 use Rattle.aos_code.specs.declared.report.WaitRec.{WaitRec}
 use Rattle.aos_code.specs.Machine.{machine, first_state}
+use Rattle.aos_typed.specs.Program.{Program}
+use Rattle.aos_typed.specs.Seen.{seen_program}
+use Rattle.aos_typed.specs.declared.tree.Program.{Program as TProgram}
+use Rattle.aos_sim.specs.Shows.{Shows}
+use Rattle.aos_symbols.specs.Outcome.{went, refused}
+use Rattle.aos_compile.specs.Elaborates.{ComesTo, names_of}
 use Rattle.aos_kernel.specs.Run.{Run as KernelRun, state_of}
+use Rattle.aos_cell.specs.Bound.{IsPreempted}
 use Rattle.aos_report.specs.Texts.{refusal_text, unread_text, too_long_text}
 use Rattle.aos_script.specs.declared.script.Script.{Script}
 use Rattle.aos_script.specs.Listing.{choices_of}
+use Rattle.aos_words.specs.Words.{Words, Command, Check, List_, Asks, most_workers, most_budget, IsWithin}
 use Rattle.aos.specs.declared.answer.Answer.{Answer}
-use Rattle.aos.specs.declared.words.Command.{Command as Given}
-use Rattle.aos.specs.declared.words.Command.TheVariants.{Run as GivenRun, Replay as GivenReplay}
+use Rattle.aos.specs.declared.run.Setting.{Setting}
+use Rattle.aos.specs.declared.compiled.Compiled.{Compiled}
+use Rattle.aos.specs.declared.compiled.Compiled.TheVariants.{Went, Stopped}
+use Rattle.aos.specs.declared.telling.Telling.{Telling}
+use Rattle.aos.specs.declared.telling.Telling.TheVariants.{Locals, Layout}
 use Rattle.aos.specs.declared.fetch.FetchedFile.{FetchedFile}
 use Rattle.aos.specs.declared.fetch.FetchedFile.TheVariants.{Text as FileText}
 use Rattle.aos.specs.declared.fetch.FetchedFile.TheVariants.{Stopped as FileStopped}
@@ -26,12 +39,12 @@ use Rattle.aos.specs.declared.fetch.FetchedFiles.{FetchedFiles}
 use Rattle.aos.specs.declared.fetch.FetchedFiles.TheVariants.{Texts as FilesTexts}
 use Rattle.aos.specs.declared.fetch.FetchedFiles.TheVariants.{Stopped as FilesStopped}
 use Rattle.aos.specs.Call.{ShelfUse, SinkUse, ShelfFailed, GotWhole}
-use Rattle.aos.specs.Words.{Words, words_of, Command, Run, Replay, Asks}
-use Rattle.aos.specs.Words.{Wanted, wanted_files, IsWanted}
+use Rattle.aos.specs.Wanted.{Wanted, wanted_files, IsWanted, name_of, text_limit}
 use Rattle.aos.specs.Fetched.{NoFile, LongFile, Fetches, AreHad, Had}
-use Rattle.aos.specs.Report.{report, replay_report}
-use Rattle.aos.specs.Seen.{default_budget, OfWorkers}
-use Rattle.aos.specs.Cause.{Cause, PutInPart, whole}
+use Rattle.aos.specs.Report.{report, run_report, replay_report}
+use Rattle.aos.specs.Seen.{script_of}
+use Rattle.aos.specs.Told.{IsToldBy}
+use Rattle.aos.specs.Cause.{IsCompiled, Cause, PutInPart, whole}
 
 -- What is seen of an image and of a kernel
 
@@ -40,12 +53,14 @@ unfoldable pub image_seen_of : Image → ℕ → List Choice → Observation
 image_seen_of image budget schedule =
     observation (machine image) (execution (machine image) schedule (first_state image budget))
 
--- that under some schedule of one worker, at whose end nothing more happens
-pub record SeenOf (image : Image) (o : Observation) : Type 0 where
-  pub schedule : List Choice
-  pub workers : OfWorkers 1 schedule
+-- that under some schedule of so many workers, as `Seen` says it of a program
+pub record SeenOf (workers budget : ℕ) (image : Image) (o : Observation) : Type 0 where
+  pub schedule : List Sched
+  pub entries : All (IsEntry workers) schedule
+  pub preempted : (w : ℕ)
+      → IsPreempted (machine image) w (choices schedule) 0 (first_state image budget)
   pub over : o.outcome ≢ Going
-  pub seen : o ≡ image_seen_of image default_budget schedule
+  pub seen : o ≡ image_seen_of image budget (choices schedule)
 
 -- that under a script, with its budget
 abbrev pub image_replay_of : Image → Script → Observation
@@ -83,11 +98,14 @@ wait_row_of w =
       at = record { module_ = w.module; pos = w.pos };
     }
 
--- a kernel's image, workers and budget stay
-pub record SameSetting (old new : KernelRun) : Type 0 where
-  pub image : new.image ≡ old.image
-  pub workers : new.workers ≡ old.workers
-  pub budget : new.budget ≡ old.budget
+-- a kernel can be made for the setting
+pub record IsSet (s : Setting) : Type 0 where
+  pub workers_in : IsWithin 1 most_workers s.workers
+  pub budget_in : IsWithin 1 most_budget s.budget
+
+-- the script of a kernel's log
+abbrev pub script_in : KernelRun → Script
+script_in r = script_of r.workers r.budget r.log
 
 -- a kernel can be made for the script, and each of its entries is of a worker of it
 pub record IsReady (s : Script) : Type 0 where
@@ -104,18 +122,27 @@ pub record IsAnswer (a : Answer) (status : ℕ) (out err : List ℕ) : Type 0 wh
   pub out_is : a.out.items ≡ out
   pub err_is : a.err.items ≡ err
 
-pub record ShowsRun (image : Image) (a : Answer) : Type 0 where
+-- it shows a run of an image by so many workers with a budget, and its log where that is wanted
+pub record ShowsRun (workers budget : ℕ) (log : Bool) (image : Image) (a : Answer) : Type 0 where
   pub observation : Observation
-  pub seen : SeenOf image observation
+  pub seen : SeenOf workers budget image observation
   pub status : a.status ≡ observation.status
   pub out : a.out.items ≡ observation.output
-  pub err : a.err.items ≡ report (names_in image) default_budget observation
+  pub err : a.err.items
+      ≡ run_report log (names_in image) (script_of workers budget seen.schedule) observation
 
 -- what a kernel tells
 pub record TellsOf (r : KernelRun) (a : Answer) : Type 0 where
   pub status : a.status ≡ (kernel_seen_of r).status
   pub out : a.out.items ≡ (kernel_seen_of r).output
   pub err : a.err.items ≡ report (names_in r.image) r.budget (kernel_seen_of r)
+
+-- the same, and the log where that is wanted, each entry of which is of a worker
+pub record TellsLog (log : Bool) (r : KernelRun) (a : Answer) : Type 0 where
+  pub entries : All (IsEntry r.workers) r.log
+  pub status : a.status ≡ (kernel_seen_of r).status
+  pub out : a.out.items ≡ (kernel_seen_of r).output
+  pub err : a.err.items ≡ run_report log (names_in r.image) (script_in r) (kernel_seen_of r)
 
 -- the run is that by the script
 pub record ShowsReplayOf (image : Image) (s : Script) (a : Answer) : Type 0 where
@@ -136,15 +163,54 @@ abbrev pub ServesTexts : Command → List (List ℕ) → Answer → Type 0
 ServesTexts c all a =
     (shelf : ShelfUse) → Had shelf.texts (wanted_files c) all → Serves c shelf a
 
--- the command that the code found in the words
-abbrev pub command_in : Option Given → Option Command
-command_in None = None
-command_in (Some (GivenRun files)) = Some (Run (words_of files.now))
-command_in (Some (GivenReplay script files)) = Some (Replay script.now (words_of files.now))
-
 -- texts as lists of bytes
 abbrev pub texts_of : List (Vec ℕ Global) → List (List ℕ)
 texts_of texts = map (λ t. t.items) texts
+
+-- texts that may be compiled
+pub record AreTexts (texts : List (Vec ℕ Global)) : Type 0 where
+  pub some : 1 ≤ length texts
+  pub few : length texts ≤ 64
+  pub limits : All (λ t. length t.items ≤ text_limit) texts
+
+-- an image of the texts' program
+pub record IsImageOf (texts : List (List ℕ)) (p : Program) (image : Image) : Type 0 where
+  pub comes : ComesTo texts (went p)
+  pub compiled : IsCompiled p
+  pub shows : Shows p image
+  pub names : names_in image ≡ names_of p
+
+-- an answer that tells the refusal of texts
+pub record TellsRefusal (files : Words) (texts : List (List ℕ)) (a : Answer) : Type 0 where
+  pub refusal : Refusal
+  pub comes : ComesTo texts (refused refusal)
+  pub is : IsAnswer a 1 [] (refusal_text (name_of files refusal.file) refusal.rule refusal.pos)
+
+-- a program whose numbers have room
+pub record IsSmall (program : TProgram) : Type 0 where
+  pub modules : length program.modules.items ≤ 64
+  pub objects : length program.objects.items ≤ 2 ^ 26
+
+-- what came of compiling the texts of these files
+abbrev pub ComesOf : (files : Words) → (texts : List (List ℕ)) → Compiled → Type 0
+ComesOf files texts (Went program image) =
+    IsImageOf texts (seen_program program) image × IsSmall program
+ComesOf files texts (Stopped a) = TellsRefusal files texts a
+
+-- the command that asks for this to be told of the modules of these files
+abbrev pub asks_for : Telling → Words → Command
+asks_for Locals files = Check files
+asks_for Layout files = List_ files
+
+-- an answer that tells such a text alone
+pub record TellsText (Such : List ℕ → Type 0) (a : Answer) : Type 0 where
+  pub text : List ℕ
+  pub such : Such text
+  pub is : IsAnswer a 0 text []
+
+-- one that tells this of a program
+abbrev pub TellsOfProgram : Telling → Program → Answer → Type 0
+TellsOfProgram what p a = TellsText (λ text. (files : Words) → IsToldBy (asks_for what files) p text) a
 
 -- what wanted files come to where one of them isn't had
 pub data StopsBy (shelf : ShelfUse) (files : List Wanted)

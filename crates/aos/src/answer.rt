@@ -27,6 +27,17 @@ pub fn message(alloc: Global, status: u8, err: Vec<u8>) -> Answer
     }
 }
 
+/// An answer with nothing for `err`, where all went well.
+pub fn telling(alloc: Global, out: Vec<u8>) -> Answer
+    ensures { IsAnswer result 0 out.items [] }
+{
+    Answer {
+        status: 0,
+        out,
+        err: Vec::new(alloc),
+    }
+}
+
 /// The refusal of a file by a rule.
 pub fn refuse(alloc: Global, file: &str, r: &Refusal) -> Result<Answer, NoMemory>
     ensures { IfOk result (λ a.

@@ -1,48 +1,32 @@
 // From the words and the shelf to an answer.
 
-ghost use Rattle.std.specs.Prelude.{◌≡◌, ◌≤◌, ◌^◌, [], ◌∷◌, length, All, IfOk};
+ghost use Rattle.std.specs.Prelude.{◌≡◌, ◌≤◌, ◌^◌, [], ◌∷◌, length, IfOk};
 ghost use Rattle.aos_script.specs.Listing.{IsScript};
-ghost use Rattle.aos_report.specs.Texts.{refusal_text};
+ghost use Rattle.aos_words.specs.Words.{Run, Replay, words_of, borrowed, AreFew, IsInRange};
+ghost use Rattle.aos_words.specs.Shown.{command_in};
 ghost use Rattle.aos.specs.Call.{shelf_use};
-ghost use Rattle.aos.specs.Words.{Run, Replay, words_of, text_limit, script_limit, name_of};
+ghost use Rattle.aos.specs.Wanted.{script_limit};
 ghost use Rattle.aos.specs.Report.{script_line};
-ghost use Rattle.aos.specs.Shown.{IsAnswer, texts_of, Causes, Serves, ServesTexts};
+ghost use Rattle.aos.specs.Shown.{IsAnswer, IsSet, texts_of, AreTexts, asks_for};
+ghost use Rattle.aos.specs.Shown.{Causes, Serves, ServesTexts};
 
-use crate::answer::{Answer, message, refuse};
+use crate::answer::{Answer, message};
+use crate::compiled::{Compiled, compile_texts};
 use crate::fetch::{FetchedFile, FetchedFiles, fetch_file, fetch_files};
-use crate::run::{replay_image, run_image};
-use crate::words::{Command, command_of};
-use aos_base::{NoMemory, Refusal};
-use aos_code::Image;
-use aos_compile::{CompileErr, compile};
+use crate::run::{Setting, replay_image, run_image};
+use crate::telling::{Telling, tell_program};
+use aos_base::NoMemory;
 use aos_dev::Shelf;
-use aos_lasting::conditions_last;
+use aos_gate::Gate;
 use aos_report::{no_worker, script_refused, usage};
 use aos_script::{Script, ScriptErr, read_script};
-use aos_typed::Program;
+use aos_words::{Command, WordsErr, read_words};
 use std::alloc::Global;
 use std::sync::Wait;
+use std::thread::Threads;
 
 // The most bytes of a script.
 const SCRIPT_LIMIT: u64 = 67_108_864;
-
-// The name of the file with this number, counted from 0 in the order of the command.
-fn file_name(files: &[String], number: u32) -> &str
-    ensures { result.now ≡ name_of (words_of files.now) number }
-{
-    match files.get(number as usize) {
-        Some(file) => file.as_str(),
-        None => "",
-    }
-}
-
-// The refusal of files whose texts break a rule: its line names the file in which they do.
-fn refuse_texts(alloc: Global, files: &[String], r: &Refusal) -> Result<Answer, NoMemory>
-    ensures { IfOk result (λ a. IsAnswer a 1 []
-        (refusal_text (name_of (words_of files.now) r.now.file) r.now.rule r.now.pos)) }
-{
-    refuse(alloc, file_name(files, r.file), r)
-}
 
 // The refusal of a text that is no script.
 fn refuse_script(alloc: Global, e: ScriptErr) -> Result<Answer, NoMemory>
@@ -56,41 +40,44 @@ fn refuse_script(alloc: Global, e: ScriptErr) -> Result<Answer, NoMemory>
     }
 }
 
-// The answer for files that have these texts, where the words ask for them alone.
-fn run_texts<R: Wait>(
+// The answer for files that have these texts, where the words ask for a run of them.
+fn run_texts<R: Threads + Wait + Sync, G: Gate + Sync>(
     rt: &R,
     alloc: Global,
-    files: &[String],
+    setting: Setting,
+    files: &[&str],
     texts: &[Vec<u8>],
+    gate: &G,
 ) -> Result<Answer, NoMemory>
-    requires some { 1 ≤ length texts.now }
-    requires few { length texts.now ≤ 64 }
-    requires limits { All (λ t. length t.items ≤ text_limit) texts.now }
-    ensures { IfOk result (ServesTexts (Run (words_of files.now)) (texts_of texts.now)) }
+    requires set { IsSet setting }
+    requires texts { AreTexts texts.now }
+    ensures { IfOk result (ServesTexts
+        (Run setting.workers setting.budget setting.log (borrowed files.now))
+        (texts_of texts.now)) }
 {
-    // Called for the proof's sake: its clause is the law on conditions that held.
-    conditions_last();
-    match compile(alloc, texts) {
-        Ok((program, image)) => run_image(rt, alloc, image),
-        Err(CompileErr::Refused(r)) => refuse_texts(alloc, files, &r),
-        Err(CompileErr::NoMemory) => Err(NoMemory),
+    match compile_texts(alloc, files, texts)? {
+        Compiled::Went(program, image) => run_image(rt, alloc, image, setting, gate),
+        Compiled::Stopped(answer) => Ok(answer),
     }
 }
 
 // The answer where the words ask for a run of these files.
-fn run_files<R: Wait, F: Shelf>(
+fn run_files<R: Threads + Wait + Sync, F: Shelf, G: Gate + Sync>(
     rt: &R,
     alloc: Global,
-    files: &[String],
+    setting: Setting,
+    files: &[&str],
     shelf: &mut F,
+    gate: &G,
 ) -> Result<Answer, NoMemory>
-    requires some { 1 ≤ length files.now }
-    requires few { length files.now ≤ 64 }
-    ensures { IfOk result
-        (Serves (Run (words_of files.now)) (shelf_use F.Shelf shelf.old shelf.new)) }
+    requires set { IsSet setting }
+    requires few { AreFew (borrowed files.now) }
+    ensures { IfOk result (Serves
+        (Run setting.workers setting.budget setting.log (borrowed files.now))
+        (shelf_use F.Shelf shelf.old shelf.new)) }
 {
     match fetch_files(alloc, files, shelf)? {
-        FetchedFiles::Texts(texts) => run_texts(rt, alloc, files, &texts),
+        FetchedFiles::Texts(texts) => run_texts(rt, alloc, setting, files, &texts, gate),
         FetchedFiles::Stopped(answer) => Ok(answer),
     }
 }
@@ -101,23 +88,18 @@ fn replay_texts(
     name: &str,
     listing: &[u8],
     script: &Script,
-    files: &[String],
+    files: &[&str],
     texts: &[Vec<u8>],
 ) -> Result<Answer, NoMemory>
-    requires some { 1 ≤ length texts.now }
-    requires few { length texts.now ≤ 64 }
-    requires limits { All (λ t. length t.items ≤ text_limit) texts.now }
+    requires texts { AreTexts texts.now }
     requires read { IsScript listing.now script.now }
     requires runs { length script.now.runs ≤ 2 ^ 27 }
     ensures { IfOk result (ServesTexts
-        (Replay name.now (words_of files.now)) (listing.now ∷ texts_of texts.now)) }
+        (Replay name.now (borrowed files.now)) (listing.now ∷ texts_of texts.now)) }
 {
-    // Called for the proof's sake: its clause is the law on conditions that held.
-    conditions_last();
-    match compile(alloc, texts) {
-        Ok((program, image)) => replay_image(alloc, image, script),
-        Err(CompileErr::Refused(r)) => refuse_texts(alloc, files, &r),
-        Err(CompileErr::NoMemory) => Err(NoMemory),
+    match compile_texts(alloc, files, texts)? {
+        Compiled::Went(program, image) => replay_image(alloc, image, script),
+        Compiled::Stopped(answer) => Ok(answer),
     }
 }
 
@@ -126,15 +108,13 @@ fn replay_listing(
     alloc: Global,
     name: &str,
     listing: &[u8],
-    files: &[String],
+    files: &[&str],
     texts: &[Vec<u8>],
 ) -> Result<Answer, NoMemory>
-    requires some { 1 ≤ length texts.now }
-    requires few { length texts.now ≤ 64 }
-    requires limits { All (λ t. length t.items ≤ text_limit) texts.now }
+    requires texts { AreTexts texts.now }
     requires script { length listing.now ≤ script_limit }
     ensures { IfOk result (ServesTexts
-        (Replay name.now (words_of files.now)) (listing.now ∷ texts_of texts.now)) }
+        (Replay name.now (borrowed files.now)) (listing.now ∷ texts_of texts.now)) }
 {
     match read_script(alloc, listing) {
         Ok(script) => replay_texts(alloc, name, listing, &script, files, texts),
@@ -146,13 +126,12 @@ fn replay_listing(
 fn replay_files<F: Shelf>(
     alloc: Global,
     name: &str,
-    files: &[String],
+    files: &[&str],
     shelf: &mut F,
 ) -> Result<Answer, NoMemory>
-    requires some { 1 ≤ length files.now }
-    requires few { length files.now ≤ 64 }
+    requires { AreFew (borrowed files.now) }
     ensures { IfOk result (Serves
-        (Replay name.now (words_of files.now)) (shelf_use F.Shelf shelf.old shelf.new)) }
+        (Replay name.now (borrowed files.now)) (shelf_use F.Shelf shelf.old shelf.new)) }
 {
     let listing = match fetch_file(alloc, name, SCRIPT_LIMIT, shelf)? {
         FetchedFile::Text(listing) => listing,
@@ -165,19 +144,86 @@ fn replay_files<F: Shelf>(
     replay_listing(alloc, name, &listing, files, &texts)
 }
 
+// The answer for files that have these texts, where the words ask to tell of their program.
+fn tell_texts(
+    alloc: Global,
+    what: Telling,
+    files: &[&str],
+    texts: &[Vec<u8>],
+) -> Result<Answer, NoMemory>
+    requires { AreTexts texts.now }
+    ensures { IfOk result (ServesTexts
+        (asks_for what (borrowed files.now)) (texts_of texts.now)) }
+{
+    match compile_texts(alloc, files, texts)? {
+        Compiled::Went(program, image) => tell_program(alloc, what, &program, &image),
+        Compiled::Stopped(answer) => Ok(answer),
+    }
+}
+
+// The answer where the words ask to tell of the program of these files.
+fn tell_files<F: Shelf>(
+    alloc: Global,
+    what: Telling,
+    files: &[&str],
+    shelf: &mut F,
+) -> Result<Answer, NoMemory>
+    requires { AreFew (borrowed files.now) }
+    ensures { IfOk result (Serves
+        (asks_for what (borrowed files.now)) (shelf_use F.Shelf shelf.old shelf.new)) }
+{
+    match fetch_files(alloc, files, shelf)? {
+        FetchedFiles::Texts(texts) => tell_texts(alloc, what, files, &texts),
+        FetchedFiles::Stopped(answer) => Ok(answer),
+    }
+}
+
+// The answer to a command.
+fn serve<R: Threads + Wait + Sync, F: Shelf, G: Gate + Sync>(
+    rt: &R,
+    alloc: Global,
+    command: Command<'_>,
+    shelf: &mut F,
+    gate: &G,
+) -> Result<Answer, NoMemory>
+    requires { IsInRange (command_in command) }
+    ensures { IfOk result
+        (Serves (command_in command.entry) (shelf_use F.Shelf shelf.old shelf.new)) }
+{
+    match command {
+        Command::Run {
+            workers,
+            budget,
+            log,
+            files,
+        } => {
+            let setting = Setting {
+                workers,
+                budget,
+                log,
+            };
+            run_files(rt, alloc, setting, &files, shelf, gate)
+        }
+        Command::Replay { script, files } => replay_files(alloc, script, &files, shelf),
+        Command::Check(files) => tell_files(alloc, Telling::Locals, &files, shelf),
+        Command::List(files) => tell_files(alloc, Telling::Layout, &files, shelf),
+    }
+}
+
 /// The answer to the words, from the shelf's texts. Want of memory is the only error.
-pub fn answer<R: Wait, F: Shelf>(
+pub fn answer<R: Threads + Wait + Sync, F: Shelf, G: Gate + Sync>(
     rt: &R,
     alloc: Global,
     words: &[String],
     shelf: &mut F,
+    gate: &G,
 ) -> Result<Answer, NoMemory>
     ensures { IfOk result
         (Causes (words_of words.now) (shelf_use F.Shelf shelf.old shelf.new)) }
 {
-    match command_of(words) {
-        Some(Command::Run(files)) => run_files(rt, alloc, files, shelf),
-        Some(Command::Replay(script, files)) => replay_files(alloc, script, files, shelf),
-        None => Ok(message(alloc, 2, usage(alloc)?)),
+    match read_words(alloc, words) {
+        Ok(command) => serve(rt, alloc, command, shelf, gate),
+        Err(WordsErr::Refused) => Ok(message(alloc, 2, usage(alloc)?)),
+        Err(WordsErr::NoMemory) => Err(NoMemory),
     }
 }

@@ -1,8 +1,9 @@
 // The files that the words name, from the shelf.
 
 ghost use Rattle.std.specs.Prelude.{◌≡◌, ◌≤◌, [], ◌∷◌, ◌++◌, IfOk, OnOk};
+ghost use Rattle.aos_words.specs.Words.{borrowed};
 ghost use Rattle.aos.specs.Call.{shelf_use};
-ghost use Rattle.aos.specs.Words.{words_of, text_files};
+ghost use Rattle.aos.specs.Wanted.{text_files};
 ghost use Rattle.aos.specs.Shown.{IsFetched, AreFetched};
 
 use crate::answer::{Answer, message, refuse};
@@ -70,17 +71,17 @@ fn keep(texts: &mut Vec<Vec<u8>>, text: Vec<u8>) -> Result<(), AllocError>
 // Fetches the texts of modules, one file after another, up to the first that isn't had.
 pub fn fetch_files<F: Shelf>(
     alloc: Global,
-    files: &[String],
+    files: &[&str],
     shelf: &mut F,
 ) -> Result<FetchedFiles, NoMemory>
     ensures fetched { IfOk result (AreFetched
-        (shelf_use F.Shelf shelf.old shelf.new) (text_files (words_of files.now))) }
+        (shelf_use F.Shelf shelf.old shelf.new) (text_files (borrowed files.now))) }
     ensures texts { F.texts shelf.new ≡ F.texts shelf.old }
     ensures faults { F.faults shelf.old ≤ F.faults shelf.new }
 {
     let mut texts = Vec::new(alloc);
     for file in files {
-        match fetch_file(alloc, file.as_str(), TEXT_LIMIT, shelf)? {
+        match fetch_file(alloc, *file, TEXT_LIMIT, shelf)? {
             FetchedFile::Text(text) => keep(&mut texts, text)?,
             FetchedFile::Stopped(answer) => return Ok(FetchedFiles::Stopped(answer)),
         }

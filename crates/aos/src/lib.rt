@@ -3,10 +3,11 @@
 
 mod answer;
 mod command;
+mod compiled;
 mod fetch;
 mod run;
+mod telling;
 pub mod top;
-mod words;
 mod write;
 
 pub use top::aos;

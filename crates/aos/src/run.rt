@@ -1,72 +1,34 @@
-// An image's run by one worker, and what is seen of it.
+// An image's run, and what is seen of it.
 
-ghost use Rattle.std.specs.Prelude.{[], ◌≡◌, ◌≢◌, ◌≤◌, map, IfOk, OnOk};
+ghost use Rattle.std.specs.Prelude.{[], ◌≡◌, map, IfOk};
 ghost use Rattle.std.specs.Arc.{arc_value};
-ghost use Rattle.aos_base.specs.declared.kernel.Outcome.{Outcome};
-ghost use Rattle.aos_base.specs.Book.{outcome};
-ghost use Rattle.aos_base.specs.Observation.{Observation, status_of};
-ghost use Rattle.aos_code.specs.declared.image.Image.{Image};
-ghost use Rattle.aos_kernel.specs.Run.{state_of};
+ghost use Rattle.aos_base.specs.Observation.{status_of};
 ghost use Rattle.aos_report.specs.Texts.{rows_text, waits_text};
-ghost use Rattle.aos.specs.Report.{spent_text, ended_text};
-ghost use Rattle.aos.specs.Seen.{default_budget};
+ghost use Rattle.aos_script.specs.Print.{IsPrintable};
+ghost use Rattle.aos.specs.Report.{spent_text, ended_text, log_text};
 ghost use Rattle.aos.specs.Shown.{row_of, wait_row_of, module_names, names_in, kernel_seen_of};
-ghost use Rattle.aos.specs.Shown.{SameSetting, IsReady, ShowsRun, ShowsReplayOf, TellsOf};
+ghost use Rattle.aos.specs.Shown.{script_in, IsSet, IsReady};
+ghost use Rattle.aos.specs.Shown.{TellsOf, TellsLog, ShowsRun, ShowsReplayOf};
 
 use crate::answer::Answer;
 use aos_base::{NoMemory, Outcome};
 use aos_code::{Image, ModuleDesc, TrapRec, WaitRec};
-use aos_kernel::{Kernel, Stepped};
+use aos_gate::Gate;
+use aos_kernel::Kernel;
 use aos_replay::replay;
 use aos_report::{budget_line, script_ended, trap_line, wait_line};
-use aos_script::Script;
+use aos_script::{Runs, Script, print_script};
+use aos_workers::run;
 use std::alloc::Global;
 use std::sync::{Arc, Wait};
+use std::thread::Threads;
 
-// How many statements an activity may begin.
-const BUDGET: u64 = 1_000_000;
-
-// The most steps of a round.
-const ROUND: u32 = 256;
-
-// A step of worker 0: whether something happened.
-fn step(kernel: &mut Kernel) -> Result<bool, NoMemory>
-    requires { 1 ≤ kernel.old.workers }
-    ensures { SameSetting kernel.old kernel.new }
-{
-    match kernel.step(0)? {
-        Stepped::Turned | Stepped::Dispatched => Ok(true),
-        Stepped::Idle | Stepped::Over => Ok(false),
-    }
-}
-
-// One round of worker 0: at most 256 steps, and a tick.
-fn round(kernel: &mut Kernel) -> Result<(), NoMemory>
-    requires { 1 ≤ kernel.old.workers }
-    ensures { SameSetting kernel.old kernel.new }
-{
-    for _ in 0..ROUND {
-        if !step(kernel)? {
-            break;
-        }
-    }
-    kernel.tick(0)?;
-    Ok(())
-}
-
-// Rounds of worker 0 until the outcome isn't Going.
-fn run<R: Wait>(rt: &R, kernel: &mut Kernel) -> Result<(), NoMemory>
-    requires { 1 ≤ kernel.old.workers }
-    ensures same { SameSetting kernel.old kernel.new }
-    ensures over { OnOk result (outcome (state_of kernel.new).book ≢ Outcome.Going) }
-{
-    for _ in rt.forever() {
-        if kernel.outcome() != Outcome::Going {
-            return Ok(());
-        }
-        round(kernel)?;
-    }
-    unreachable!()
+/// How a run goes: by 1 to 16 workers, with a budget of 1 to 10^9, and whether its log is told.
+#[derive(Clone, Copy)]
+pub struct Setting {
+    pub workers: u32,
+    pub budget: u64,
+    pub log: bool,
 }
 
 // The lines of the traps, in their order.
@@ -153,16 +115,58 @@ fn answer_of(alloc: Global, kernel: &Kernel) -> Result<Answer, NoMemory>
     })
 }
 
-// Runs a kernel of one worker, and tells what is seen.
-fn run_to_end<R: Wait>(rt: &R, alloc: Global, kernel: &mut Kernel) -> Result<Answer, NoMemory>
-    requires workers { kernel.old.workers ≡ 1 }
-    requires budget { kernel.old.budget ≡ default_budget }
-    ensures { IfOk result (λ a. ShowsRun kernel.old.image a) }
+// The script of a kernel's log.
+fn script_of(alloc: Global, kernel: &Kernel) -> Result<Script, NoMemory>
+    ensures { IfOk result (λ s. (s ≡ script_in kernel.now) × IsPrintable s) }
 {
-    run(rt, kernel)?;
+    let entries = Vec::from_slice(alloc, kernel.log())?;
+    Ok(Script {
+        workers: kernel.workers(),
+        budget: kernel.budget(),
+        runs: Runs::from_vec(entries),
+    })
+}
+
+// The text of that script where the log is wanted; nothing else.
+fn log_lines(alloc: Global, kernel: &Kernel, log: bool) -> Result<Vec<u8>, NoMemory>
+    ensures { IfOk result (λ text. text.items ≡ log_text log (script_in kernel.now)) }
+{
+    if log {
+        let script = script_of(alloc, kernel)?;
+        return print_script(alloc, &script);
+    }
+    Ok(Vec::new(alloc))
+}
+
+// The answer that tells what is seen of a kernel, and its log where that is wanted.
+fn run_answer(alloc: Global, kernel: &Kernel, log: bool) -> Result<Answer, NoMemory>
+    ensures { IfOk result (TellsLog log kernel.now) }
+{
     // Called for the proof's sake: its clause says that each entry is of a worker of the kernel.
     let _log = kernel.log();
-    answer_of(alloc, kernel)
+    let mut answer = answer_of(alloc, kernel)?;
+    let lines = log_lines(alloc, kernel, log)?;
+    answer.err.extend_from_slice(&lines)?;
+    Ok(answer)
+}
+
+// Runs a kernel by its workers until nothing more happens, and tells what is seen.
+fn run_kernel<R: Threads + Wait + Sync, G: Gate + Sync>(
+    rt: &R,
+    alloc: Global,
+    kernel: Box<Kernel>,
+    log: bool,
+    gate: &G,
+) -> Result<Answer, NoMemory>
+    requires { kernel.value.log ≡ [] }
+    ensures { IfOk result
+        (ShowsRun kernel.value.workers kernel.value.budget log kernel.value.image) }
+{
+    let (kernel, want) = run(rt, alloc, kernel, gate);
+    match want {
+        Some(want) => Err(want),
+        None => run_answer(alloc, &kernel, log),
+    }
 }
 
 // An image that the kernel shares.
@@ -175,13 +179,20 @@ fn shared_image(alloc: Global, image: Image) -> Result<Arc<Image>, NoMemory>
     }
 }
 
-/// Runs an image by worker 0, with the default budget, until nothing more happens.
-pub fn run_image<R: Wait>(rt: &R, alloc: Global, image: Image) -> Result<Answer, NoMemory>
-    ensures { IfOk result (λ a. ShowsRun image a) }
+/// Runs an image by its workers until nothing more happens, and tells what is seen. May wait.
+pub fn run_image<R: Threads + Wait + Sync, G: Gate + Sync>(
+    rt: &R,
+    alloc: Global,
+    image: Image,
+    setting: Setting,
+    gate: &G,
+) -> Result<Answer, NoMemory>
+    requires { IsSet setting }
+    ensures { IfOk result (ShowsRun setting.workers setting.budget setting.log image) }
 {
     let image = shared_image(alloc, image)?;
-    let mut kernel = Kernel::new(alloc, image, 1, BUDGET)?;
-    run_to_end(rt, alloc, &mut kernel)
+    let kernel = Kernel::new(alloc, image, setting.workers, setting.budget)?;
+    run_kernel(rt, alloc, kernel, setting.log, gate)
 }
 
 // Drives a kernel in which nothing has happened yet by a script, and tells what is seen.

@@ -5,8 +5,9 @@ ghost use Rattle.std.specs.Prelude.{◌≤◌, ◌^◌, ◌+◌, ◌≡◌, All,
 use crate::untold::Untold;
 use aos_base::Refusal;
 use aos_cases::Section;
+use aos_code::AwaitRec;
 use aos_compile::{CompileErr, compile};
-use aos_guard::{Told, locals};
+use aos_guard::locals;
 use std::alloc::{AllocError, Global};
 
 // The most bytes that a text has.
@@ -14,9 +15,6 @@ const MOST_BYTES: usize = 1_048_576;
 
 // The most modules that a program has.
 const MOST_MODULES: usize = 64;
-
-// The most object types that a program has.
-const MOST_OBJECTS: usize = 67_108_864;
 
 /// How the conditions of a program are told.
 #[derive(Clone, Copy)]
@@ -30,7 +28,7 @@ pub enum Style {
 /// What comes of texts.
 #[derive(Drop)]
 enum Outcome {
-    Conditions(Vec<Told>),
+    Conditions(Vec<AwaitRec>),
     Refused(Refusal),
 }
 
@@ -70,7 +68,7 @@ fn outcome_of(alloc: Global, texts: &[Vec<u8>]) -> Result<Outcome, Untold>
     }
     match compile(alloc, texts) {
         Ok((program, _)) => {
-            if program.modules.len() > MOST_MODULES || program.objects.len() > MOST_OBJECTS {
+            if program.modules.len() > MOST_MODULES {
                 return Err(Untold::Malformed);
             }
             Ok(Outcome::Conditions(locals(alloc, &program)?))
@@ -81,7 +79,7 @@ fn outcome_of(alloc: Global, texts: &[Vec<u8>]) -> Result<Outcome, Untold>
 }
 
 // One more condition.
-fn tell(out: &mut String, style: Style, one: &Told) -> Result<(), AllocError> {
+fn tell(out: &mut String, style: Style, one: &AwaitRec) -> Result<(), AllocError> {
     let letter = if one.is_local { 'L' } else { 'N' };
     match style {
         Style::Letters if out.is_empty() => out.push(letter),
@@ -89,13 +87,13 @@ fn tell(out: &mut String, style: Style, one: &Told) -> Result<(), AllocError> {
         Style::Places => write!(
             out,
             "{}:{}:{} {letter}\n",
-            one.home, one.at.line, one.at.col
+            one.module, one.pos.line, one.pos.col
         ),
     }
 }
 
 // All conditions.
-fn told_of(alloc: Global, style: Style, all: &[Told]) -> Result<String, AllocError> {
+fn told_of(alloc: Global, style: Style, all: &[AwaitRec]) -> Result<String, AllocError> {
     let mut out = String::new(alloc);
     for one in all {
         tell(&mut out, style, one)?;

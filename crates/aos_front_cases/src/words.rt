@@ -23,8 +23,12 @@ fn text_of(alloc: Global, command: &Command<'_>) -> Result<String, AllocError> {
         Command::Run {
             workers,
             budget,
+            log,
             files,
-        } => format!(in alloc; "run {workers} {budget} {files:?}"),
+        } => {
+            let log = if *log { "log " } else { "" };
+            format!(in alloc; "run {workers} {budget} {log}{files:?}")
+        }
         Command::Replay { script, files } => format!(in alloc; "replay {script:?} {files:?}"),
         Command::Check(files) => format!(in alloc; "check {files:?}"),
         Command::List(files) => format!(in alloc; "list {files:?}"),

@@ -1,6 +1,6 @@
 // The conditions of a program, and whether they are local.
 
-ghost use Rattle.std.specs.Prelude.{◌≡◌, ◌≤◌, ◌^◌, ◌+◌, ◌*◌, ◌++◌, ◌∷◌, [], length, IfOk, OnOk};
+ghost use Rattle.std.specs.Prelude.{◌≡◌, ◌≤◌, ◌+◌, ◌*◌, ◌++◌, ◌∷◌, [], length, IfOk, OnOk};
 ghost use Rattle.aos_typed.specs.Conditions.{condition_in, conditions, conditions_of};
 ghost use Rattle.aos_typed.specs.Seen.{seen_program};
 ghost use Rattle.aos_typed.specs.WellTyped.{IsWellTyped};
@@ -12,20 +12,16 @@ ghost use Rattle.aos_guard.specs.Edges.{AreMarks, AreTexts};
 use crate::guarded::home_of;
 use crate::local::is_local;
 use crate::quiet::quiet_of;
-use aos_base::{NoMemory, Pos};
+use aos_base::NoMemory;
+use aos_code::AwaitRec;
 use aos_dispatch::{Await, Dispatch, Routine, awaits_of};
 use aos_typed::Program;
 use aos_uses::uses::Use;
 use aos_uses::{texts_of, value_uses};
 use std::alloc::{AllocError, Global};
 
-/// A condition, by the number of its module in load order and the place of its AWAIT, and whether it is local.
-#[derive(Clone, Copy)]
-pub struct Told {
-    pub home: u32,
-    pub at: Pos,
-    pub is_local: bool,
-}
+/// The most types, beside those that are predeclared, whose conditions are told; more are want of memory.
+const MOST_TYPES: usize = 67_108_864;
 
 // What is told of a condition in a routine.
 #[tactic(auto, using(crate::proofs::Tellings::told_one))]
@@ -36,7 +32,7 @@ fn tell(
     texts: &[Vec<Use>],
     routine: &Routine<'_>,
     one: &Await<'_>,
-) -> Result<Told, AllocError>
+) -> Result<AwaitRec, AllocError>
     requires quiet { AreMarks (seen_program dispatch.now) quiet.now }
     requires texts { AreTexts (seen_program dispatch.now) texts.now }
     ensures { IfOk result (λ t. Tells (seen_program dispatch.now)
@@ -44,15 +40,15 @@ fn tell(
 {
     let mut uses = Vec::new(alloc);
     value_uses(dispatch, &mut uses, one.condition)?;
-    Ok(Told {
-        home: home_of(routine),
-        at: one.at,
+    Ok(AwaitRec {
+        module: home_of(routine),
+        pos: one.at,
         is_local: is_local(dispatch, quiet, texts, routine, &uses)?,
     })
 }
 
 // One more.
-fn put(all: &mut Vec<Told>, one: Told) -> Result<(), AllocError>
+fn put(all: &mut Vec<AwaitRec>, one: AwaitRec) -> Result<(), AllocError>
     ensures { OnOk result (all.new.items ≡ all.old.items ++ one ∷ []) }
 {
     all.push(one)?;
@@ -60,7 +56,7 @@ fn put(all: &mut Vec<Told>, one: Told) -> Result<(), AllocError>
 }
 
 // What is told of several more.
-fn put_all(all: &mut Vec<Told>, more: &[Told]) -> Result<(), AllocError>
+fn put_all(all: &mut Vec<AwaitRec>, more: &[AwaitRec]) -> Result<(), AllocError>
     ensures { OnOk result (all.new.items ≡ all.old.items ++ more.now) }
 {
     all.extend_from_slice(more)?;
@@ -74,7 +70,7 @@ fn routine_told(
     quiet: &[bool],
     texts: &[Vec<Use>],
     routine: &Routine<'_>,
-) -> Result<Vec<Told>, AllocError>
+) -> Result<Vec<AwaitRec>, AllocError>
     requires quiet { AreMarks (seen_program dispatch.now) quiet.now }
     requires texts { AreTexts (seen_program dispatch.now) texts.now }
     ensures { IfOk result (λ all. AreTold (seen_program dispatch.now) (conditions_of (seen_routine routine.now)) all.items) }
@@ -94,7 +90,7 @@ fn all_told(
     dispatch: &Dispatch<'_>,
     quiet: &[bool],
     texts: &[Vec<Use>],
-) -> Result<Vec<Told>, AllocError>
+) -> Result<Vec<AwaitRec>, AllocError>
     requires quiet { AreMarks (seen_program dispatch.now) quiet.now }
     requires texts { AreTexts (seen_program dispatch.now) texts.now }
     ensures { IfOk result (λ all. AreTold (seen_program dispatch.now) (conditions (seen_program dispatch.now)) all.items) }
@@ -125,20 +121,22 @@ fn with_column(line: u64, col: u32) -> u128
 }
 
 // Where a condition comes in the order: by its module, its line and its column.
-fn place_of(one: &Told) -> u128
+fn place_of(one: &AwaitRec) -> u128
     ensures { result ≡ place_of one.now }
 {
-    with_column(with_line(one.home, one.at.line), one.at.col)
+    with_column(with_line(one.module, one.pos.line), one.pos.col)
 }
 
 /// Each condition of a well-typed program, the modules in load order and in each in the order of the text, with whether it is local.
-pub fn locals(alloc: Global, program: &Program) -> Result<Vec<Told>, NoMemory>
+pub fn locals(alloc: Global, program: &Program) -> Result<Vec<AwaitRec>, NoMemory>
     requires few { length program.now.modules.items ≤ 64 }
-    requires few_types { length program.now.objects.items ≤ 2 ^ 26 }
     requires typed { IsWellTyped (seen_program program.now) }
     ensures each { IfOk result (λ all. TellsEach (seen_program program.now) all.items) }
     ensures order { IfOk result (λ all. AreInOrder all.items) }
 {
+    if program.objects.len() > MOST_TYPES {
+        return Err(NoMemory);
+    }
     let dispatch = Dispatch::new(alloc, program)?;
     let texts = texts_of(alloc, &dispatch)?;
     let quiet = quiet_of(alloc, &dispatch, &texts)?;

@@ -8,5 +8,5 @@ mod local;
 mod marks;
 mod quiet;
 
-pub use conditions::{Told, locals};
+pub use conditions::locals;
 pub use laws::law_of_quiet;

@@ -1,8 +1,9 @@
-//! The program: it makes the real shelf and sinks, hands the words in, and ends with the status.
+//! The program: it makes the real shelf, sinks and gate, hands the words in, and ends with the status.
 #![tactic(auto)]
 
 use aos::aos;
 use aos_dev::{FileShelf, StdSink};
+use aos_gate::OpenGate;
 use std::process::ExitCode;
 use std::rt::Env;
 use std::{env, io};
@@ -33,5 +34,6 @@ fn main(rt: HostRuntime) -> ExitCode {
         &mut shelf,
         &mut out,
         &mut err,
+        &OpenGate,
     ))
 }

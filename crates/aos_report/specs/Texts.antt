@@ -1,10 +1,13 @@
--- The lines that the program writes beside a run's output. Each ends with the byte 10; numbers are decimal.
-use Rattle.std.specs.Prelude.{ℕ, List, [], ◌∷◌, ◌++◌, codes, decimal, slice_get, unwrap_or, Bool, true, false}
+-- The lines that the program writes beside a run's output, and those of `check` and `list`. Each ends with the byte 10; numbers are decimal.
+use Rattle.std.specs.Prelude.{ℕ, List, [], ◌∷◌, ◌++◌, codes, decimal, slice_get, unwrap_or, Bool, true, false, ◌==◌, ◌||◌, if◌then◌else◌}
+use Rattle.std.specs.List.{flat_map}
 use Rattle.aos_base.specs.declared.text.Pos.{Pos}
 use Rattle.aos_base.specs.declared.kernel.LockName.{LockName}
 use Rattle.aos_base.specs.declared.kernel.LockName.TheVariants.{Module, Object}
 use Rattle.aos_base.specs.Book.{TrapRow, Where}
 use Rattle.aos_base.specs.Observation.{WaitRow}
+use Rattle.aos_code.specs.declared.report.AwaitRec.{AwaitRec}
+use Rattle.aos_code.specs.Lines.{Line}
 
 -- a module's name, by its number
 abbrev pub name_of : List (List ℕ) → ℕ → List ℕ
@@ -135,3 +138,53 @@ script_refused_text line = codes "script line " ++ decimal line ++ codes " refus
 -- this line of a script names a worker that there isn't
 abbrev pub no_worker_text : (line : ℕ) → List ℕ
 no_worker_text line = codes "script line " ++ decimal line ++ codes ": no such worker\n"
+
+-- What `list` writes.
+
+-- what a line is of, by its number from 0
+abbrev pub part_texts : List (List ℕ)
+part_texts =
+    codes "module "
+    ∷ codes "var "
+    ∷ codes "type "
+    ∷ codes "field "
+    ∷ codes "method "
+    ∷ codes "procedure "
+    ∷ []
+
+abbrev pub part_text : ℕ → List ℕ
+part_text part = unwrap_or (slice_get part_texts part) []
+
+-- a variable and a field stand at a cell
+abbrev pub is_placed : ℕ → Bool
+is_placed part = part == 1 || part == 3
+
+-- at C, slot K for a method, or nothing
+abbrev pub spot_text : (part at : ℕ) → List ℕ
+spot_text part at =
+    if part == 4 then codes " slot " ++ decimal at
+    else if is_placed part then codes " at " ++ decimal at
+    else []
+
+-- cells N, which a method has not
+abbrev pub size_text : (part cells : ℕ) → List ℕ
+size_text part cells = if part == 4 then [] else codes " cells " ++ decimal cells
+
+abbrev pub line_text : Line → List ℕ
+line_text l = part_text l.word ++ l.name ++ spot_text l.word l.at ++ size_text l.word l.cells ++ codes "\n"
+
+abbrev pub lines_text : List Line → List ℕ
+lines_text ls = flat_map line_text ls
+
+-- What `check` writes.
+
+abbrev pub local_word : Bool → List ℕ
+local_word true = codes " local"
+local_word false = codes " not local"
+
+-- await MODULE:LINE:COL local, or not local
+abbrev pub await_text : (names : List (List ℕ)) → AwaitRec → List ℕ
+await_text names a = codes "await " ++ place_text (name_of names a.module) a.pos ++ local_word a.is_local ++ codes "\n"
+
+abbrev pub awaits_text : (names : List (List ℕ)) → List AwaitRec → List ℕ
+awaits_text names rows = flat_map (await_text names) rows

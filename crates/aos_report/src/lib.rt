@@ -1,12 +1,15 @@
-//! The texts that the program writes beside a run's output: each function gives one line.
+//! The texts that the program writes beside a run's output, and those of `check` and `list`: each function gives one line, or the
+//! lines of all parts or all AWAITs of a program.
 #![tactic(auto)]
 
-ghost use Rattle.std.specs.Prelude.{◌≡◌, ◌++◌, IfOk, OnOk, map, codes, decimal, slice_get, unwrap_or};
+ghost use Rattle.std.specs.Prelude.{◌≡◌, ◌==◌, ◌++◌, IfOk, OnOk, map, codes, decimal, slice_get, unwrap_or};
 ghost use Rattle.std.specs.String.{string_bytes};
 ghost use Rattle.aos_report.specs.Texts.{name_of, rule_text, place_text, refusal_text, usage_text, unread_text, too_long_text, trap_text, lock_text, wait_text, budget_text, script_ended_text, script_refused_text, no_worker_text};
+ghost use Rattle.aos_report.specs.Texts as report;
+ghost use Rattle.aos_code.specs.Lines.{seen_line};
 
 use aos_base::{LockName, NoMemory, Pos, Refusal};
-use aos_code::{ModuleDesc, TrapRec, WaitRec};
+use aos_code::{AwaitRec, LayoutLine, ModuleDesc, TrapRec, WaitRec};
 use itoa::Buffer;
 use std::alloc::Global;
 
@@ -88,19 +91,17 @@ fn put_place(line: &mut Vec<u8>, name: &str, at: Pos) -> Result<(), NoMemory>
     put_number(line, u64::from(at.col))
 }
 
-fn text_at(texts: &[&'static str], number: u16) -> &'static str
-    ensures { result.now ≡ unwrap_or (slice_get (map (λ t. t.now) texts.now) number) (codes "not built yet") }
+fn text_at(texts: &[&'static str], number: u16, other: &'static str) -> &'static str
+    ensures { result.now ≡
+        unwrap_or (slice_get (map (λ t. t.now) texts.now) number) other.now }
 {
-    texts
-        .get(number as usize)
-        .copied()
-        .unwrap_or("not built yet")
+    texts.get(number as usize).copied().unwrap_or(other)
 }
 
 fn rule_name(rule: u16) -> &'static str
     ensures { result.now ≡ rule_text rule }
 {
-    text_at(&RULES, rule)
+    text_at(&RULES, rule, "not built yet")
 }
 
 /// The line of a refusal, with the file's name: `FILE:LINE:COL: rule N: TEXT`.
@@ -257,4 +258,108 @@ pub fn no_worker(alloc: Global, number: u32) -> Result<Vec<u8>, NoMemory>
     put_number(&mut line, u64::from(number))?;
     put(&mut line, ": no such worker\n")?;
     Ok(line)
+}
+
+// What the lines of `list` are of, by their numbers from 0.
+const PARTS: [&str; 6] = [
+    "module ",
+    "var ",
+    "type ",
+    "field ",
+    "method ",
+    "procedure ",
+];
+
+fn part_word(part: u8) -> &'static str
+    ensures { result.now ≡ report.part_text part }
+{
+    text_at(&PARTS, u16::from(part), "")
+}
+
+fn is_method(part: u8) -> bool
+    ensures { result ≡ (part == 4) }
+{
+    part == 4
+}
+
+fn is_placed(part: u8) -> bool
+    ensures { result ≡ report.is_placed part }
+{
+    part == 1 || part == 3
+}
+
+// at C, or slot K, or nothing
+fn put_spot(text: &mut Vec<u8>, part: u8, at: u32) -> Result<(), NoMemory>
+    ensures { OnOk result (text.new.items ≡ text.old.items ++ report.spot_text part at) }
+{
+    if is_method(part) {
+        put(text, " slot ")?;
+        return put_number(text, u64::from(at));
+    }
+    if is_placed(part) {
+        put(text, " at ")?;
+        return put_number(text, u64::from(at));
+    }
+    Ok(())
+}
+
+// cells N, or nothing
+fn put_size(text: &mut Vec<u8>, part: u8, cells: u32) -> Result<(), NoMemory>
+    ensures { OnOk result (text.new.items ≡ text.old.items ++ report.size_text part cells) }
+{
+    if is_method(part) {
+        return Ok(());
+    }
+    put(text, " cells ")?;
+    put_number(text, u64::from(cells))
+}
+
+fn put_line(text: &mut Vec<u8>, line: &LayoutLine) -> Result<(), NoMemory>
+    ensures { OnOk result (text.new.items ≡
+        text.old.items ++ report.line_text (seen_line line.now)) }
+{
+    put(text, part_word(line.word))?;
+    put(text, line.name.as_str())?;
+    put_spot(text, line.word, line.at)?;
+    put_size(text, line.word, line.cells)?;
+    put(text, "\n")
+}
+
+/// The lines of `list`: `module NAME cells N`, `var NAME at C cells N`, `type NAME cells N`, `field NAME at C cells N`,
+/// `method NAME slot K` or `procedure NAME cells N` for each of these.
+pub fn layout_text(alloc: Global, lines: &[LayoutLine]) -> Result<Vec<u8>, NoMemory>
+    ensures { IfOk result (λ text. text.items ≡ report.lines_text (map seen_line lines.now)) }
+{
+    let mut text = Vec::new(alloc);
+    for line in lines {
+        put_line(&mut text, line)?;
+    }
+    Ok(text)
+}
+
+fn put_await(text: &mut Vec<u8>, one: AwaitRec, modules: &[ModuleDesc]) -> Result<(), NoMemory>
+    ensures { OnOk result (text.new.items ≡ text.old.items
+        ++ report.await_text (map (λ m. string_bytes m.name) modules.now) one) }
+{
+    put(text, "await ")?;
+    put_place(text, name_in(modules, one.module), one.pos)?;
+    put(text, if one.is_local { " local" } else { " not local" })?;
+    put(text, "\n")
+}
+
+/// The lines of `check`: `await MODULE:LINE:COL local` for each of these AWAITs, or `not local` where its condition isn't, with the
+/// names of their modules among these.
+pub fn check_text(
+    alloc: Global,
+    awaits: &[AwaitRec],
+    modules: &[ModuleDesc],
+) -> Result<Vec<u8>, NoMemory>
+    ensures { IfOk result (λ text. text.items ≡
+        report.awaits_text (map (λ m. string_bytes m.name) modules.now) awaits.now) }
+{
+    let mut text = Vec::new(alloc);
+    for one in awaits {
+        put_await(&mut text, *one, modules)?;
+    }
+    Ok(text)
 }

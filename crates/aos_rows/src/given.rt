@@ -6,7 +6,10 @@ use std::alloc::{AllocError, Global};
 
 /// Whether a section is a command.
 pub fn is_command(section: &Section) -> bool {
-    matches!(section.name.as_str(), "run" | "replay" | "words")
+    matches!(
+        section.name.as_str(),
+        "run" | "replay" | "check" | "list" | "logged" | "meet" | "unkept" | "words"
+    )
 }
 
 // Whether a section says what is wanted of the command before it.
@@ -35,7 +38,7 @@ fn sink_fail(text: &str) -> Option<(u64, u32)> {
 // Whether a section by itself says something.
 fn is_known(section: &Section) -> bool {
     match section.name.as_str() {
-        "run" => section.text.is_empty(),
+        "check" | "list" => section.text.is_empty(),
         "shelf-fails" => section.text.parse::<u64>().is_ok(),
         "out-fails" | "err-fails" => sink_fail(section.text.as_str()).is_some(),
         _ => is_command(section) || is_wanted(section) || is_file(section),
@@ -74,9 +77,13 @@ pub fn wanted<'a>(behind: &'a [Section], name: &str, default: &'a str) -> &'a st
     default
 }
 
+// What stands for an empty word.
+const EMPTY: &str = "\"\"";
+
 // Adds the words of a text.
 fn add_words(alloc: Global, words: &mut Vec<String>, text: &str) -> Result<(), AllocError> {
     for word in text.split_ascii_whitespace() {
+        let word = if word == EMPTY { "" } else { word };
         words.push(String::from_str(alloc, word)?)?;
     }
     Ok(())
@@ -92,23 +99,39 @@ fn add_modules(words: &mut Vec<String>, sections: &[Section]) -> Result<(), Allo
     Ok(())
 }
 
+// The words of a command with its options, and behind them the names of the modules' files.
+fn command_words(
+    alloc: Global,
+    name: &str,
+    options: &str,
+    sections: &[Section],
+) -> Result<Vec<String>, AllocError> {
+    let mut words = Vec::new(alloc);
+    add_words(alloc, &mut words, name)?;
+    add_words(alloc, &mut words, options)?;
+    add_modules(&mut words, sections)?;
+    Ok(words)
+}
+
+/// The words of a replay by the script S.
+pub fn replay_words(alloc: Global, sections: &[Section]) -> Result<Vec<String>, AllocError> {
+    command_words(alloc, "replay --script S", "", sections)
+}
+
 /// The words of a command.
 pub fn words_of(
     alloc: Global,
     sections: &[Section],
     command: &Section,
 ) -> Result<Vec<String>, AllocError> {
-    let mut words = Vec::new(alloc);
+    let text = command.text.as_str();
     match command.name.as_str() {
-        "words" => {
-            add_words(alloc, &mut words, command.text.as_str())?;
-            return Ok(words);
-        }
-        "replay" => add_words(alloc, &mut words, "replay --script S")?,
-        name => add_words(alloc, &mut words, name)?,
+        "words" => command_words(alloc, "", text, &[]),
+        "replay" => replay_words(alloc, sections),
+        "logged" | "meet" => command_words(alloc, "run --log", text, sections),
+        "unkept" => command_words(alloc, "run", text, sections),
+        name => command_words(alloc, name, text, sections),
     }
-    add_modules(&mut words, sections)?;
-    Ok(words)
 }
 
 // Adds a file.
@@ -116,10 +139,10 @@ fn add_file(
     alloc: Global,
     files: &mut Vec<(String, Vec<u8>)>,
     name: &str,
-    text: &str,
+    text: &[u8],
 ) -> Result<(), AllocError> {
     let name = String::from_str(alloc, name)?;
-    files.push((name, Vec::from_slice(alloc, text.as_bytes())?))?;
+    files.push((name, Vec::from_slice(alloc, text)?))?;
     Ok(())
 }
 
@@ -131,7 +154,7 @@ fn add_script(
 ) -> Result<(), AllocError> {
     let lines = lines.replace(alloc, "; ", "\n")?;
     let script = format!(in alloc; "aos-script 1\n{lines}\nend\n")?;
-    add_file(alloc, files, "S", script.as_str())
+    add_file(alloc, files, "S", script.as_bytes())
 }
 
 // The numbers of the shelf's calls that fail.
@@ -160,12 +183,8 @@ pub fn sink_fails(
     Ok(fails)
 }
 
-/// The shelf of a case for a command.
-pub fn shelf_of(
-    alloc: Global,
-    sections: &[Section],
-    command: &Section,
-) -> Result<MemShelf, AllocError> {
+// The files of a case.
+fn files_of(alloc: Global, sections: &[Section]) -> Result<Vec<(String, Vec<u8>)>, AllocError> {
     let mut files = Vec::new(alloc);
     for section in sections {
         if is_file(section) {
@@ -173,12 +192,33 @@ pub fn shelf_of(
                 alloc,
                 &mut files,
                 section.name.as_str(),
-                section.text.as_str(),
+                section.text.as_bytes(),
             )?;
         }
     }
+    Ok(files)
+}
+
+/// The shelf of a case for a command.
+pub fn shelf_of(
+    alloc: Global,
+    sections: &[Section],
+    command: &Section,
+) -> Result<MemShelf, AllocError> {
+    let mut files = files_of(alloc, sections)?;
     if command.name.as_str() == "replay" && !command.text.is_empty() {
         add_script(alloc, &mut files, command.text.as_str())?;
     }
+    Ok(MemShelf::new(files, shelf_fails(alloc, sections)?))
+}
+
+/// The shelf of a case with a script.
+pub fn shelf_by(
+    alloc: Global,
+    sections: &[Section],
+    script: &[u8],
+) -> Result<MemShelf, AllocError> {
+    let mut files = files_of(alloc, sections)?;
+    add_file(alloc, &mut files, "S", script)?;
     Ok(MemShelf::new(files, shelf_fails(alloc, sections)?))
 }

@@ -15,10 +15,10 @@ use Rattle.aos_base.specs.Schedule.{IsEntry}
 use Rattle.aos_script.specs.declared.script.Script.{Script}
 use Rattle.aos_script.specs.Words.{parts, lines}
 use Rattle.aos_script.specs.Number.{IsNumber}
-use Rattle.aos_script.specs.Listing.{head_line, IsSetting, IsRun, AreRuns, IsListing}
+use Rattle.aos_script.specs.Listing.{head_line, AreSkipped, IsSetting, IsRun, AreRuns, IsListing}
 use Rattle.aos_script.specs.Join.{joined}
-use Rattle.aos_script.specs.Print.{IsPrintable, joined_script, run_line, script_lines, text_of, script_text}
-use Rattle.aos_script.specs.Laws.{PrintedIsRead, JoinedAlike}
+use Rattle.aos_script.specs.Print.{IsPrintable, joined_script, run_line, script_lines, text_of, AreLines, script_text}
+use Rattle.aos_script.specs.Laws.{PrintedIsRead, PrintedBehindIsRead, JoinedAlike}
 use Rattle.aos_script.proofs.Cuts.{lines_some}
 use Rattle.aos_script.proofs.Joins.{joined-choices, joined-entries}
 
@@ -30,13 +30,13 @@ neither : (a b : Bool) → (not a && b) ≡ true → (a ≡ false) × (b ≡ tru
 neither true b h = absurd cc
 neither false b h = (refl, h)
 
-lacks_by : (byte : ℕ) (xs : List ℕ) → list_all (λ b. not (b == byte)) xs ≡ true → Lacks byte xs
+pub lacks_by : (byte : ℕ) (xs : List ℕ) → list_all (λ b. not (b == byte)) xs ≡ true → Lacks byte xs
 lacks_by byte [] h = All-nil (λ b. (b == byte) ≡ false)
 lacks_by byte (x ∷ xs) h =
     let e = neither (x == byte) (list_all (λ b. not (b == byte)) xs) h in
     All-cons (λ b. (b == byte) ≡ false) x xs e.0 (lacks_by byte xs e.1)
 
-lacks_both : (byte : ℕ) (xs ys : List ℕ) → Lacks byte xs → Lacks byte ys → Lacks byte (xs ++ ys)
+pub lacks_both : (byte : ℕ) (xs ys : List ℕ) → Lacks byte xs → Lacks byte ys → Lacks byte (xs ++ ys)
 lacks_both byte xs ys a b = All-append (λ b. (b == byte) ≡ false) xs ys a b
 
 one_part : (byte : ℕ) (xs : List ℕ) → Lacks byte xs → parts byte xs ≡ xs ∷ []
@@ -118,7 +118,7 @@ module _ (n : ℕ) (few : n ≤ 16) where
       (lacks_both 10 (codes " ") (decimal k) (lacks_by 10 (codes " ") refl) (lacks_in_number k count 10 (omega arith)))
   run_lacks (Tick w) h = lacks_both 10 (codes "t ") (decimal w) (lacks_by 10 (codes "t ") refl) (lacks_in_number w (worker_short w h) 10 (omega arith))
 
-text_of-append : (ls more : List (List ℕ)) → text_of (ls ++ more) ≡ text_of ls ++ text_of more
+pub text_of-append : (ls more : List (List ℕ)) → text_of (ls ++ more) ≡ text_of ls ++ text_of more
 text_of-append [] more = refl
 text_of-append (line ∷ ls) more = ap (λ t. line ++ 10 ∷ t) (text_of-append ls more) ∙ sym (append_assoc line (10 ∷ text_of ls) (text_of more))
 
@@ -126,12 +126,11 @@ text_of-append (line ∷ ls) more = ap (λ t. line ++ 10 ∷ t) (text_of-append 
 pub put_together : (s : Script) → codes "aos-script 1\nworkers " ++ decimal s.workers ++ codes "\nbudget " ++ decimal s.budget ++ codes "\n" ++ text_of (map run_line (joined s.runs)) ++ codes "end\n" ≡ script_text s
 put_together s = simp (append_assoc, text_of-append)
 
--- lines without line ends in them
-abbrev AreLines : List (List ℕ) → Type 0
-AreLines [] = Unit {0}
-AreLines (line ∷ ls) = Lacks 10 line × AreLines ls
+pub AreLines-append : (ls more : List (List ℕ)) → AreLines ls → AreLines more → AreLines (ls ++ more)
+AreLines-append [] more a b = b
+AreLines-append (line ∷ ls) more a b = (a.0, AreLines-append ls more a.1 b)
 
--- the same with line ends between them alone
+-- lines with line ends between them alone
 abbrev between : List ℕ → List (List ℕ) → List ℕ
 between line [] = line
 between line (next ∷ ls) = line ++ 10 ∷ between next ls
@@ -185,24 +184,30 @@ module _ (s : Script) (h : IsPrintable s) where
     ),
   )
 
-  is_listing : IsListing (script_lines s) (joined_script s)
-  is_listing = record {
-    skipped = [];
+  is_listing : (ls : List (List ℕ)) → AreSkipped ls → IsListing (ls ++ script_lines s) (joined_script s)
+  is_listing ls others = record {
+    skipped = ls;
     workers_line = codes "workers " ++ decimal s.workers;
     budget_line = codes "budget " ++ decimal s.budget;
     run_lines = map run_line (joined s.runs);
     whole = refl;
-    others = tt;
+    others = others;
     workers = is_setting (codes "workers") 16 s.workers (lacks_by 32 (codes "workers") refl) number_of h.workers.0 h.workers.1;
     budget = is_setting (codes "budget") 1000000000 s.budget (lacks_by 32 (codes "budget") refl) budget_of h.budget.0 h.budget.1;
     runs = are_runs s.workers h.workers.1 (joined s.runs) (joined-entries s.workers s.runs h.entries);
   }
 
+pub printed_behind_is_read : PrintedBehindIsRead
+printed_behind_is_read ls s are others h =
+    let all : AreLines (ls ++ script_lines s) = AreLines-append ls (script_lines s) are (all_are s h) in
+    let same : lines (text_of ls ++ script_text s) ≡ ls ++ script_lines s = ap lines (sym (text_of-append ls (script_lines s))) ∙ lines-text_of (ls ++ script_lines s) all in
+    record {
+      listing = subst (λ l. IsListing l (joined_script s)) (sym same) (is_listing s h ls others);
+      workers = joined-entries s.workers s.runs h.entries;
+    }
+
 pub printed_is_read : PrintedIsRead
-printed_is_read s h = record {
-  listing = subst (λ ls. IsListing ls (joined_script s)) (sym (lines-text_of (script_lines s) (all_are s h))) (is_listing s h);
-  workers = joined-entries s.workers s.runs h.entries;
-}
+printed_is_read s h = printed_behind_is_read [] s tt tt h
 
 pub joined_alike : JoinedAlike
 joined_alike s h = joined-choices s.workers s.runs h.entries

@@ -1,5 +1,5 @@
 -- The text that a script is printed as.
-use Rattle.std.specs.Prelude.{All, ℕ, ◌≤◌, List, [], ◌∷◌, ◌++◌, map, codes, decimal}
+use Rattle.std.specs.Prelude.{◌≡◌, ◌==◌, All, ℕ, ◌≤◌, false, List, [], ◌∷◌, ◌++◌, map, codes, decimal}
 use Rattle.aos_base.specs.declared.kernel.Sched.{Sched}
 use Rattle.aos_base.specs.declared.kernel.Sched.TheVariants.{Steps, Tick}
 use Rattle.aos_base.specs.Schedule.{IsEntry}
@@ -34,6 +34,14 @@ script_lines s =
 abbrev pub text_of : List (List ℕ) → List ℕ
 text_of [] = []
 text_of (line ∷ ls) = line ++ 10 ∷ text_of ls
+
+-- a line has no line end in it
+abbrev pub IsLine : List ℕ → Type 0
+IsLine line = All (λ b. (b == 10) ≡ false) line
+
+abbrev pub AreLines : List (List ℕ) → Type 0
+AreLines [] = Unit {0}
+AreLines (line ∷ ls) = IsLine line × AreLines ls
 
 abbrev pub script_text : Script → List ℕ
 script_text s = text_of (script_lines s)

@@ -14,5 +14,5 @@ pub use error::ScriptErr;
 pub use print::print_script;
 pub use script::{
     MAX_BUDGET, MAX_WORKERS, Runs, Script, joined_alike, not_both, one_refusal, one_script,
-    printed_is_read, read_script,
+    printed_behind_is_read, printed_is_read, read_script,
 };

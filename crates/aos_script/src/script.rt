@@ -11,7 +11,7 @@ ghost use Rattle.aos_script.specs.Listing.{head_line, IsScript, choices_of};
 ghost use Rattle.aos_script.specs.Refusals.{IsRefused};
 ghost use Rattle.aos_script.specs.Rest.{Skips, TakesSetting, LacksSetting, ReadsRuns, FailsAt};
 ghost use Rattle.aos_script.specs.Print.{IsPrintable};
-ghost use Rattle.aos_script.specs.Laws.{OneScript, OneRefusal, NotBoth, PrintedIsRead, JoinedAlike};
+ghost use Rattle.aos_script.specs.Laws.{OneScript, OneRefusal, NotBoth, PrintedIsRead, PrintedBehindIsRead, JoinedAlike};
 
 use crate::error::ScriptErr;
 use crate::line::{Flaw, run_of, setting};
@@ -267,6 +267,11 @@ pub fn not_both()
 /// `read_script` reads in that text.
 pub fn printed_is_read()
     ensures { PrintedIsRead }
+{}
+
+/// Behind lines none of which is the first line of a script that text is the same script.
+pub fn printed_behind_is_read()
+    ensures { PrintedBehindIsRead }
 {}
 
 /// Joined or not, the runs of a script stand for the same steps and ticks.

@@ -11,7 +11,7 @@ use Rattle.aos_words.specs.declared.command.Command.{Command as Given}
 use Rattle.aos_words.specs.Forms.{run_form, replay_form, files_form}
 use Rattle.aos_words.specs.Number.{is_number, number_in}
 use Rattle.aos_words.specs.Shown.{AnswersBy, command_in}
-use Rattle.aos_words.specs.Words.{Words, Run, Replay, Check, List_, most_workers, most_budget, default_budget, most_files, number_or, workers_of, budget_of, few, files_of, run_of, replay_of, check_of, list_of, taken, by, command_by, command_of, IsWithin, AreFew, IsInRange}
+use Rattle.aos_words.specs.Words.{Words, Run, Replay, Check, List_, most_workers, most_budget, default_budget, most_files, number_or, workers_of, budget_of, is_set, few, files_of, run_of, replay_of, check_of, list_of, taken, by, command_by, command_of, IsWithin, AreFew, IsInRange}
 
 -- Options
 
@@ -70,7 +70,7 @@ run : (rows : List Row) → IfSome (run_of rows) IsInRange
 run rows =
     and_then (IsWithin 1 most_workers) IsInRange _ (workers_of rows) (workers rows)
     (λ n w. and_then (IsWithin 1 most_budget) IsInRange _ (budget_of rows) (budget rows)
-    (λ m b. mapped AreFew IsInRange (λ fs. Run n m fs) (files_of rows) (files rows)
+    (λ m b. mapped AreFew IsInRange (λ fs. Run n m (is_set (codes "log") rows) fs) (files_of rows) (files rows)
     (λ fs f. record { workers_in = w; budget_in = b; files_in = f })))
 
 replay : (rows : List Row) → IfSome (replay_of rows) IsInRange

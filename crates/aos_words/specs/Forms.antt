@@ -3,6 +3,7 @@ use Rattle.std.specs.Prelude.{codes, Some, true}
 use Rattle.clap.specs.Lexer.{usize_max}
 use Rattle.clap.specs.Walk.{Rule, Text}
 use Rattle.clap.specs.Simple.{App, new_app, new_rule, with_rule}
+use Rattle.clap.specs.declared.builder.action.ArgAction.TheVariants.{SetTrue}
 
 -- --NAME VALUE
 abbrev pub option_rule : Text → Rule
@@ -12,6 +13,10 @@ option_rule name = record (new_rule name) { long = Some name }
 abbrev pub required_rule : Text → Rule
 required_rule name = record (new_rule name) { long = Some name; required = true }
 
+-- --NAME
+abbrev pub flag_rule : Text → Rule
+flag_rule name = record (new_rule name) { long = Some name; action = Some SetTrue }
+
 -- FILE..., one word or more
 abbrev pub files_rule : Rule
 files_rule = record (new_rule (codes "FILE")) {
@@ -19,11 +24,12 @@ files_rule = record (new_rule (codes "FILE")) {
   range = Some (record { start_inclusive = 1; end_inclusive = usize_max });
 }
 
--- run [--workers n] [--budget b] FILE...
+-- run [--workers n] [--budget b] [--log] FILE...
 abbrev pub run_form : App
 run_form =
-    with_rule (with_rule (with_rule (new_app (codes "run"))
-    (option_rule (codes "workers"))) (option_rule (codes "budget"))) files_rule
+    with_rule (with_rule (with_rule (with_rule (new_app (codes "run"))
+    (option_rule (codes "workers"))) (option_rule (codes "budget"))) (flag_rule (codes "log")))
+    files_rule
 
 -- replay --script S FILE...
 abbrev pub replay_form : App

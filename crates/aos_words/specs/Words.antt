@@ -1,7 +1,8 @@
 -- The words of the command line, and the command that they are.
 use Rattle.std.specs.Prelude.{◌≡◌, ℕ, ◌≤◌, nat_le, ◌&&◌, List, [], ◌∷◌, length, map}
-use Rattle.std.specs.Prelude.{Option, Some, None, option_map, option_and_then, if◌then◌else◌}
+use Rattle.std.specs.Prelude.{Option, Some, None, Bool, false, option_map, option_and_then, if◌then◌else◌}
 use Rattle.std.specs.Prelude.{codes, String, string_bytes}
+use Rattle.std.specs.Option.{option_map_or}
 use Rattle.std.specs.Str.{bytes_eq}
 use Rattle.std.specs.Borrow.{Bor}
 use Rattle.std.specs.declared.alloc.Global.{Global}
@@ -22,10 +23,11 @@ words_of words = map (λ w. string_bytes w) words
 abbrev pub borrowed : List (Bor (List ℕ)) → Words
 borrowed words = map (λ w. w.now) words
 
--- a command: to run files with so many workers and a budget, to run them by a script, to tell which
--- of their conditions are local, or to tell their storage layout
+-- a command: to run files with so many workers and a budget, and to tell the log of that run or not,
+-- to run them by a script, to tell which of their conditions are local, or to tell their storage
+-- layout
 pub data Command : Type 0 where
-  Run : (workers budget : ℕ) → (files : Words) → Command
+  Run : (workers budget : ℕ) → (log : Bool) → (files : Words) → Command
   Replay : (script : List ℕ) → (files : Words) → Command
   Check : (files : Words) → Command
   List_ : (files : Words) → Command
@@ -55,6 +57,10 @@ workers_of rows = number_or 1 most_workers 1 (first_of (codes "workers") rows)
 abbrev pub budget_of : List Row → Option ℕ
 budget_of rows = number_or 1 most_budget default_budget (first_of (codes "budget") rows)
 
+-- whether the option of this name is there, which has no value
+abbrev pub is_set : Text → List Row → Bool
+is_set name rows = option_map_or (λ t. bytes_eq t (codes "true")) (first_of name rows) false
+
 abbrev pub few : Words → Option Words
 few files =
     if nat_le 1 (length files) && nat_le (length files) most_files then Some files else None
@@ -65,7 +71,8 @@ files_of rows = option_and_then few (all_of (codes "FILE") rows)
 abbrev pub run_of : List Row → Option Command
 run_of rows =
     option_and_then (λ workers. option_and_then (λ budget. option_map (λ files.
-    Run workers budget files) (files_of rows)) (budget_of rows)) (workers_of rows)
+    Run workers budget (is_set (codes "log") rows) files)
+    (files_of rows)) (budget_of rows)) (workers_of rows)
 
 abbrev pub replay_of : List Row → Option Command
 replay_of rows =
@@ -121,7 +128,7 @@ pub record RunsInRange (workers budget : ℕ) (files : Words) : Type 0 where
 
 -- its numbers are in their ranges
 abbrev pub IsInRange : Command → Type 0
-IsInRange (Run workers budget files) = RunsInRange workers budget files
+IsInRange (Run workers budget log files) = RunsInRange workers budget files
 IsInRange (Replay script files) = AreFew files
 IsInRange (Check files) = AreFew files
 IsInRange (List_ files) = AreFew files

@@ -5,10 +5,11 @@ use std::alloc::AllocError;
 /// What words ask for. There are 1 to 64 files.
 #[derive(Drop)]
 pub enum Command<'a> {
-    /// To run these files with 1 to 16 workers and a budget of 1 to 10^9.
+    /// To run these files with 1 to 16 workers and a budget of 1 to 10^9, and to tell the log of the run or not.
     Run {
         workers: u32,
         budget: u64,
+        log: bool,
         files: Vec<&'a str>,
     },
     /// To run these files by this script.

@@ -3,10 +3,10 @@
 ghost use Rattle.std.specs.Prelude.{◌≡◌, false, IfOk};
 ghost use Rattle.clap.specs.Walk.{rule_of};
 ghost use Rattle.clap.specs.Simple.{app_of};
-ghost use Rattle.aos_words.specs.Forms.{option_rule, required_rule, files_rule};
+ghost use Rattle.aos_words.specs.Forms.{option_rule, required_rule, flag_rule, files_rule};
 ghost use Rattle.aos_words.specs.Forms.{run_form, replay_form, files_form};
 
-use clap::{Arg, Command};
+use clap::{Arg, ArgAction, Command};
 use std::alloc::{AllocError, Global};
 
 // `--NAME VALUE`
@@ -25,6 +25,14 @@ fn required<'a>(alloc: Global, name: &'a str) -> Arg<'a>
     Arg::new(alloc, name).long(name).required(true)
 }
 
+// `--NAME`
+fn flag<'a>(alloc: Global, name: &'a str) -> Arg<'a>
+    ensures rule { rule_of result ≡ flag_rule name.entry.now }
+    ensures local { result.global ≡ false }
+{
+    Arg::new(alloc, name).long(name).action(ArgAction::SetTrue)
+}
+
 // `FILE...`
 fn files<'a>(alloc: Global) -> Arg<'a>
     ensures rule { rule_of result ≡ files_rule }
@@ -33,13 +41,14 @@ fn files<'a>(alloc: Global) -> Arg<'a>
     Arg::new(alloc, "FILE").required(true).num_args(1..)
 }
 
-/// `run [--workers n] [--budget b] FILE...`
+/// `run [--workers n] [--budget b] [--log] FILE...`
 pub fn run_form<'a>(alloc: Global) -> Result<Command<'a>, AllocError>
     ensures { IfOk result (λ c. app_of c ≡ run_form) }
 {
     Command::new(alloc, "run")
         .arg(option(alloc, "workers"))?
         .arg(option(alloc, "budget"))?
+        .arg(flag(alloc, "log"))?
         .arg(files(alloc))
 }
 

@@ -3,7 +3,7 @@
 ghost use Rattle.std.specs.Prelude.{◌≡◌, ◌≤◌, option_map, IfSome};
 ghost use Rattle.clap.specs.Walk.{all_of, first_of, rows_of};
 ghost use Rattle.clap.specs.Matches.{found_of};
-ghost use Rattle.aos_words.specs.Words.{borrowed, number_or, workers_of, budget_of, files_of};
+ghost use Rattle.aos_words.specs.Words.{borrowed, number_or, workers_of, budget_of, is_set, files_of};
 ghost use Rattle.aos_words.specs.Shown.{AnswersBy};
 
 use crate::command::WordsErr;
@@ -71,6 +71,16 @@ pub fn budget(matches: &ArgMatches<'_>) -> Option<u64>
         MOST_BUDGET,
         DEFAULT_BUDGET,
     )
+}
+
+/// Whether an option that has no value is there. Clap's own call for it says nothing of other texts than `true` and `false`.
+pub fn is_set(matches: &ArgMatches<'_>, name: &str) -> bool
+    ensures { result ≡ is_set name.now (rows_of (found_of matches.now)) }
+{
+    match first_word(matches, name) {
+        Some(text) => text == "true",
+        None => false,
+    }
 }
 
 /// The files, 1 to 64 of them.

@@ -13,7 +13,7 @@ ghost use Rattle.aos_words.specs.Shown.{command_in, AnswersBy};
 
 use crate::command::{Command, WordsErr};
 use crate::forms::{files_form, replay_form, run_form};
-use crate::found::{budget, files, first_word, workers};
+use crate::found::{budget, files, first_word, is_set, workers};
 use clap::ArgMatches;
 use clap::error::ErrorKind;
 use std::alloc::Global;
@@ -47,6 +47,7 @@ fn run<'a>(alloc: Global, matches: &ArgMatches<'a>) -> Result<Command<'a>, Words
     Ok(Command::Run {
         workers,
         budget,
+        log: is_set(matches, "log"),
         files,
     })
 }

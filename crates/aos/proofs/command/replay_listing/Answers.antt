@@ -1,5 +1,5 @@
 use Rattle.std.proofs.Common.{[], ◌∷◌}
-use Rattle.aos.specs.Words.{Replay, words_of}
+use Rattle.aos_words.specs.Words.{Replay, borrowed}
 use Rattle.aos.specs.Report.{script_line}
 use Rattle.aos.specs.Cause.{bad_script}
 use Rattle.aos.specs.Shown.{texts_of, ServesTexts}
@@ -11,6 +11,6 @@ returns-in-Err c =
     let name = c.args.name.now in
     let listing = c.args.listing.now in
     let e = c.in-Err.e in
-    refused_script e listing c.refuse_script.result (ServesTexts (Replay name (words_of c.args.files.now)) (listing ∷ texts_of c.args.texts.now)) c.in-Err.ensures.refused
-    (λ a q h. λ shelf had words asks. causes_along words shelf a 10 [] (script_line e) h (bad_script e (record { script = name; asks = asks; had = had }) q))
+    refused_script e listing c.refuse_script.result (ServesTexts (Replay name (borrowed c.args.files.now)) (listing ∷ texts_of c.args.texts.now)) c.in-Err.ensures.refused
+    (λ a q h. λ shelf had words asks. causes_along words shelf a 10 [] (script_line e) h (bad_script e (record { asks = asks; had = had }) q))
     c.refuse_script.ensures.memory c.refuse_script.ensures.line

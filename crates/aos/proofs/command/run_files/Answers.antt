@@ -1,33 +1,21 @@
-use Rattle.std.proofs.Common.{ℕ, ◌≤◌, length, sym, ap, ◌∙◌, subst}
-use Rattle.std.specs.Prelude.{All}
+use Rattle.std.proofs.Common.{sym, subst}
+use Rattle.aos_words.specs.Words.{Run, borrowed}
 use Rattle.aos.specs.Call.{shelf_use}
-use Rattle.aos.specs.Words.{Run, words_of, text_files, text_limit}
-use Rattle.aos.proofs.Fetching.{all_came, one_stopped, stops_cause, count_had, limits_had}
+use Rattle.aos.specs.Wanted.{text_files}
+use Rattle.aos.specs.Shown.{AreTexts}
+use Rattle.aos.proofs.Fetching.{all_came, one_stopped, stops_cause, are_texts}
 use Rattle.aos.proofs.command.run_files.Goals as goal
 
-pub run_texts-requires-clause-some : goal.run_texts-requires-clause-some
-run_texts-requires-clause-some g c =
+pub run_texts-requires-clause-texts : goal.run_texts-requires-clause-texts
+run_texts-requires-clause-texts g c = λ _. λ _.
     let shelf = shelf_use g.F.Shelf c.args.shelf.now c.fetch_files.new.shelf in
-    let files = c.args.files.now in
-    let had = all_came shelf (text_files (words_of files)) c.in_ok-texts.field-0 c.in-Texts.texts c.in_ok-texts.ensures.fetched c.in-Texts.is in
-    subst (λ (n : ℕ). 1 ≤ n) (sym (ap length c.deref.ensures.value ∙ count_had shelf.texts files c.in-Texts.texts.items had)) c.requires.some
-
-pub run_texts-requires-clause-few : goal.run_texts-requires-clause-few
-run_texts-requires-clause-few g c =
-    let shelf = shelf_use g.F.Shelf c.args.shelf.now c.fetch_files.new.shelf in
-    let files = c.args.files.now in
-    let had = all_came shelf (text_files (words_of files)) c.in_ok-texts.field-0 c.in-Texts.texts c.in_ok-texts.ensures.fetched c.in-Texts.is in
-    subst (λ (n : ℕ). n ≤ 64) (sym (ap length c.deref.ensures.value ∙ count_had shelf.texts files c.in-Texts.texts.items had)) c.requires.few
-
-pub run_texts-requires-clause-limits : goal.run_texts-requires-clause-limits
-run_texts-requires-clause-limits g c =
-    let shelf = shelf_use g.F.Shelf c.args.shelf.now c.fetch_files.new.shelf in
-    let files = words_of c.args.files.now in
+    let files = borrowed c.args.files.now in
     let had = all_came shelf (text_files files) c.in_ok-texts.field-0 c.in-Texts.texts c.in_ok-texts.ensures.fetched c.in-Texts.is in
-    subst (λ xs. All (λ t. length t.items ≤ text_limit) xs) (sym c.deref.ensures.value) (limits_had shelf.texts files c.in-Texts.texts.items had)
+    subst (λ xs. AreTexts xs) (sym c.deref.ensures.value) (are_texts shelf.texts files c.in-Texts.texts.items c.requires.few had)
 
 pub returns-in-Stopped : goal.returns-in-Stopped
 returns-in-Stopped g c = λ words asks.
+    let s = c.args.setting in
     let shelf = shelf_use g.F.Shelf c.args.shelf.now c.fetch_files.new.shelf in
-    let files = words_of c.args.files.now in
-    stops_cause shelf words (Run files) (one_stopped shelf (text_files files) c.in_ok-texts.field-0 c.in-Stopped.answer c.in_ok-texts.ensures.fetched c.in-Stopped.is) asks
+    let files = borrowed c.args.files.now in
+    stops_cause shelf words (Run s.workers s.budget s.log files) (one_stopped shelf (text_files files) c.in_ok-texts.field-0 c.in-Stopped.answer c.in_ok-texts.ensures.fetched c.in-Stopped.is) asks

@@ -1,7 +1,7 @@
 use Rattle.std.proofs.Common.{[], ◌∷◌, refl}
 use Rattle.aos_report.specs.Texts.{refusal_text, too_long_text, unread_text}
 use Rattle.aos.specs.Call.{shelf_use}
-use Rattle.aos.specs.Words.{Wanted}
+use Rattle.aos.specs.Wanted.{Wanted}
 use Rattle.aos.specs.Cause.{whole}
 use Rattle.aos.proofs.Fetching.{stops_along, fails_alone, lacks_it, exceeds_it}
 use Rattle.aos.proofs.fetch.fetch_file.Goals as goal

@@ -1,6 +1,6 @@
 use Rattle.std.proofs.Common.{refl}
+use Rattle.aos_words.specs.Words.{words_of}
 use Rattle.aos.specs.Call.{Call, shelf_use, sink_use}
-use Rattle.aos.specs.Words.{words_of}
 use Rattle.aos.proofs.Clauses.{cause_status, of_answer, of_no_memory}
 use Rattle.aos.proofs.top.aos.Goals as goal
 
@@ -18,6 +18,8 @@ returns-in-Ok g c =
       status = c.put_answer.result;
     } in
     of_answer call c.in-Ok.answer c.in-Ok.ensures c.put_answer.ensures.whole c.put_answer.ensures.stopped c.put_answer.ensures.memory c.program_has_monitors.ensures
+    (λ texts p comes some few. c.conditions_last.ensures p (c.law_of_typing.ensures texts p comes some few))
 
 pub returns-in-Err : goal.returns-in-Err
-returns-in-Err g c = of_no_memory _ refl refl refl c.program_has_monitors.ensures
+returns-in-Err g c =
+    of_no_memory _ refl refl refl c.program_has_monitors.ensures (λ texts p comes some few. c.conditions_last.ensures p (c.law_of_typing.ensures texts p comes some few))

@@ -1,0 +1,4 @@
+pub mod Order
+pub mod Counts
+pub mod Parts
+pub mod Gathered
