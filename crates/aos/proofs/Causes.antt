@@ -1,5 +1,5 @@
 -- Answers with their causes.
-use Rattle.std.proofs.Common.{◌≡◌, ℕ, ◌≤◌, List, [], ◌∷◌, length, refl, sym, ap, ◌∙◌, subst, inl, inr}
+use Rattle.std.proofs.Common.{◌≡◌, ℕ, ◌≤◌, List, [], ◌∷◌, ◌++◌, length, Bool, refl, sym, ap, ◌∙◌, subst, inl, inr}
 use Rattle.std.specs.Prelude.{◌⊎◌, ◌^◌, Result, Ok, Err, IfOk}
 use Rattle.aos_base.specs.declared.text.NoMemory.{NoMemory}
 use Rattle.aos_base.specs.Observation.{Observation}
@@ -20,24 +20,25 @@ use Rattle.aos.specs.declared.answer.Answer.{Answer}
 use Rattle.aos.specs.declared.run.Setting.{Setting}
 use Rattle.aos.specs.declared.telling.Telling.{Telling}
 use Rattle.aos.specs.declared.telling.Telling.TheVariants.{Locals, Layout}
-use Rattle.aos.specs.Call.{ShelfUse}
+use Rattle.aos.specs.Call.{ShelfUse, ProbesUse}
 use Rattle.aos.specs.Wanted.{wanted_files, text_files, name_of}
 use Rattle.aos.specs.Report.{run_report, replay_report, script_line}
-use Rattle.aos.specs.Seen.{Seen, seen_of, replay_of, script_of}
+use Rattle.aos.specs.Seen.{Seen, seen_of, replay_of, events_of, replay_events, script_of}
 use Rattle.aos.specs.Cause.{Has, Takes, to_check, to_list, Cause, refused, ran, ran_by, told}
-use Rattle.aos.specs.Shown.{image_seen_of, image_replay_of, IsSet, IsReady, IsAnswer, IsImageOf, TellsRefusal, ShowsRun, ShowsReplayOf, TellsOfProgram, asks_for, Causes, Serves}
+use Rattle.aos.specs.Shown.{image_seen_of, image_replay_of, image_events_of, IsSet, IsReady, IsAnswer, IsImageOf, TellsRefusal, ShowsRun, ShowsReplayOf, TellsOfProgram, asks_for, Causes, Serves, ServesWith}
+use Rattle.aos.specs.Watched.{Watched, watch_text}
 use Rattle.aos.proofs.Bounds.{same_bound}
 
-module _ (words : List (List ℕ)) (shelf : ShelfUse) where
+module _ {probes : ProbesUse} (words : List (List ℕ)) (shelf : ShelfUse) where
   -- an answer with this status and these texts
-  pub causes_along : (a : Answer) (status : ℕ) (out err : List ℕ) → IsAnswer a status out err → Cause words shelf status out err → Causes words shelf a
+  pub causes_along : (a : Answer) (status : ℕ) (out err : List ℕ) → IsAnswer a status out err → Cause words shelf probes status out err → Causes words shelf probes a
   causes_along a status out err is h =
-      subst (λ x. Cause words shelf x a.out.items a.err.items) (sym is.status_is)
-      (subst (λ x. Cause words shelf status x a.err.items) (sym is.out_is)
-      (subst (λ x. Cause words shelf status out x) (sym is.err_is) h))
+      subst (λ x. Cause words shelf probes x a.out.items a.err.items) (sym is.status_is)
+      (subst (λ x. Cause words shelf probes status x a.err.items) (sym is.out_is)
+      (subst (λ x. Cause words shelf probes status out x) (sym is.err_is) h))
 
   -- the run of an image that shows the texts' program
-  pub ran_causes : (s : Setting) (files texts : List (List ℕ)) (p : Program) (image : Image) (a : Answer) → IsSet s → IsImageOf texts p image → ShowsRun s.workers s.budget s.log image a → Has words shelf (Run s.workers s.budget s.log files) texts → Causes words shelf a
+  pub ran_causes : (s : Setting) (files texts : List (List ℕ)) (p : Program) (image : Image) (a : Answer) → IsSet s → IsImageOf texts p image → ShowsRun s.workers s.budget s.log image a → Has words shelf (Run s.workers s.budget s.log files) texts → Causes words shelf probes a
   unfolding seen_of image_seen_of
   ran_causes s files texts p image a set made run has =
       let o = run.observation in
@@ -55,31 +56,33 @@ module _ (words : List (List ℕ)) (shelf : ShelfUse) where
       (ran p o has made.comes made.compiled seen)
 
   -- and its run by a script
-  pub replay_causes : (script listing : List ℕ) (files texts : List (List ℕ)) (s : Script) (p : Program) (image : Image) (a : Answer) → IsScript listing s → IsImageOf texts p image → ShowsReplayOf image s a → Has words shelf (Replay script files) (listing ∷ texts) → Causes words shelf a
-  unfolding seen_of image_seen_of
-  replay_causes script listing files texts s p image a read made run has =
+  pub replay_causes : (script listing : List ℕ) (watch : Bool) (files texts : List (List ℕ)) (s : Script) (p : Program) (image : Image) (a : Answer) → IsScript listing s → IsImageOf texts p image → ShowsReplayOf image s watch probes a → Has words shelf (Replay script watch files) (listing ∷ texts) → Causes words shelf probes a
+  unfolding seen_of image_seen_of events_of image_events_of
+  replay_causes script listing watch files texts s p image a read made run has =
       let same : image_replay_of image s ≡ replay_of p s = made.shows.observation s.budget (choices_of s) in
-      causes_along a (replay_of p s).status (replay_of p s).output (replay_report (names_of p) s (replay_of p s))
+      let events : image_events_of image s ≡ replay_events p s = made.shows.events s.budget (choices_of s) in
+      causes_along a (replay_of p s).status (replay_of p s).output (replay_report (names_of p) s (replay_of p s) ++ watch_text watch probes)
       (record {
         status_is = run.status ∙ ap (λ (o : Observation). o.status) same;
         out_is = run.out ∙ ap (λ (o : Observation). o.output) same;
-        err_is = run.err ∙ (λ i. replay_report (made.names i) s (same i));
+        err_is = run.err ∙ (λ i. replay_report (made.names i) s (same i) ++ watch_text watch probes);
       })
-      (ran_by s p has read made.comes made.compiled)
+      (ran_by s p has read made.comes made.compiled (subst (λ es. Watched watch es probes) events run.watched))
 
   -- what is told of the program
-  pub told_causes : (what : Telling) (files texts : List (List ℕ)) (p : Program) (image : Image) (a : Answer) → IsImageOf texts p image → TellsOfProgram what p a → Has words shelf (asks_for what files) texts → Causes words shelf a
+  pub told_causes : (what : Telling) (files texts : List (List ℕ)) (p : Program) (image : Image) (a : Answer) → IsImageOf texts p image → TellsOfProgram what p a → Has words shelf (asks_for what files) texts → Causes words shelf probes a
   told_causes what files texts p image a made tells has = causes_along a 0 tells.text [] tells.is (told p has made.comes made.compiled (tells.such files))
 
-  pub takes_for : (what : Telling) (files texts : List (List ℕ)) → Has words shelf (asks_for what files) texts → Takes words shelf files texts
-  takes_for Locals files texts has = to_check has
-  takes_for Layout files texts has = to_list has
-
   -- the refusal of the texts
-  pub refused_causes : (files texts : List (List ℕ)) (a : Answer) → TellsRefusal files texts a → Takes words shelf files texts → Causes words shelf a
+  pub refused_causes : (files texts : List (List ℕ)) (a : Answer) → TellsRefusal files texts a → Takes words shelf files texts → Causes words shelf probes a
   refused_causes files texts a tells takes =
       let r = tells.refusal in
       causes_along a 1 [] (refusal_text (name_of files r.file) r.rule r.pos) tells.is (refused r takes tells.comes)
+
+module _ (words : List (List ℕ)) (shelf : ShelfUse) where
+  pub takes_for : (what : Telling) (files texts : List (List ℕ)) → Has words shelf (asks_for what files) texts → Takes words shelf files texts
+  takes_for Locals files texts has = to_check has
+  takes_for Layout files texts has = to_list has
 
 -- a fact on an answer, where there is one
 pub on_answer : (P Q : Answer → Type 0) (r : Result Answer NoMemory) → ((a : Answer) → P a → Q a) → IfOk r P → IfOk r Q
@@ -87,8 +90,13 @@ on_answer P Q (Ok a) f h = f a h
 on_answer P Q (Err e) f h = h
 
 -- one that serves a command serves the same under another name
-pub serves_along : (c d : Command) (shelf : ShelfUse) (r : Result Answer NoMemory) → d ≡ c → IfOk r (Serves c shelf) → IfOk r (Serves d shelf)
-serves_along c d shelf r is h = subst (λ x. IfOk r (Serves x shelf)) (sym is) h
+pub serves_with_along : (c d : Command) (shelf : ShelfUse) (probes : ProbesUse) (r : Result Answer NoMemory) → d ≡ c → IfOk r (ServesWith c shelf probes) → IfOk r (ServesWith d shelf probes)
+serves_with_along c d shelf probes r is h = subst (λ x. IfOk r (ServesWith x shelf probes)) (sym is) h
+
+-- so does one that serves it whatever becomes of the probes
+pub serves_along : (c d : Command) (shelf : ShelfUse) (probes : ProbesUse) (r : Result Answer NoMemory) → d ≡ c → IfOk r (Serves c shelf) → IfOk r (ServesWith d shelf probes)
+serves_along c d shelf probes r is h =
+    serves_with_along c d shelf probes r is (on_answer (Serves c shelf) (ServesWith c shelf probes) r (λ a serves. serves probes) h)
 
 pub wanted_for : (what : Telling) (files : List (List ℕ)) → wanted_files (asks_for what files) ≡ text_files files
 wanted_for Locals files = refl

@@ -23,13 +23,14 @@ use Rattle.aos_compile.proofs.OneReading.{one_outcome}
 use Rattle.aos_words.specs.Words.{Command, Run, Replay, Check, List_, command_of, Asks}
 use Rattle.aos.specs.declared.answer.Answer.{Answer}
 use Rattle.aos.specs.Wanted.{wanted_files, name_of}
-use Rattle.aos.specs.Call.{ShelfUse, SinkUse, Call, Tells, ShelfFailed, GotWhole, GotNothing, SinksWorked, IsUndisturbed}
+use Rattle.aos.specs.Call.{ShelfUse, SinkUse, ProbesUse, Call, Tells, ShelfFailed, GotWhole, GotNothing, SinksWorked, IsUndisturbed}
 use Rattle.aos.specs.Fetched.{Fetched, Texts, NoFile, LongFile, Fetches}
 use Rattle.aos.specs.Report.{run_report, replay_report}
-use Rattle.aos.specs.Seen.{Seen, replay_of, script_of, EndsWell, EndsWithTrap, IsDead, IsSpent, IsGoing}
+use Rattle.aos.specs.Seen.{Seen, replay_of, replay_events, script_of, EndsWell, EndsWithTrap, IsDead, IsSpent, IsGoing}
 use Rattle.aos.specs.Told.{IsToldBy, IsTelling}
+use Rattle.aos.specs.Watched.{Watched, watch_text}
 use Rattle.aos.specs.Cause.{Has, Takes, to_run, to_replay, to_check, to_list, IsCompiled, Cause, wrong_words, unread, absent, too_long, bad_script, refused, ran, ran_by, told, Answered, PutInPart, out_failed, err_failed, AnsweredInPart}
-use Rattle.aos.specs.Promises.{IsRunStatus, IsReplayStatus, IsAbsentOrRefused, is_absent, is_refused, IsAsked, LeadsTo, ShowsTexts, ShowsReplay, ShowsProgram, ShowsRefusal, IsTooLong, IsNoScript, IsSeen, in_run, in_replay, IsTold, IsStatusWhere, GotJust, IsSame, KeepsConditions, LogIsReplayed, Promises}
+use Rattle.aos.specs.Promises.{IsRunStatus, IsReplayStatus, IsAbsentOrRefused, is_absent, is_refused, IsAsked, LeadsTo, ShowsTexts, ShowsReplay, ShowsProgram, ShowsRefusal, IsTooLong, IsNoScript, IsSeen, in_run, in_replay, IsTold, IsStatusWhere, GotJust, IsSame, KeepsConditions, LogIsReplayed, Promises, IsAlike, ProbesDontMatter}
 use Rattle.aos.specs.Shown.{Causes, IsWhole, IsStopped}
 use Rattle.aos.proofs.Logged.{log_is_script, log_shows}
 use Rattle.aos.proofs.Statuses.{differ, run_has, replay_has, run_status, replay_status, no_run, no_replay, none_1, none_2, none_6, none_7, none_8, none_10, Means, is_well, is_trapped, is_dead, is_spent, is_going}
@@ -71,7 +72,7 @@ no_command words c n h = let e : None ≡ Some c = sym n ∙ h in absurd (none_a
 -- the modules of a command, and their texts among those of all its files
 abbrev modules_of : Command → List (List ℕ)
 modules_of (Run workers budget log files) = files
-modules_of (Replay script files) = files
+modules_of (Replay script watch files) = files
 modules_of (Check files) = files
 modules_of (List_ files) = files
 
@@ -81,27 +82,27 @@ behind_first (listing ∷ texts) = texts
 
 abbrev texts_in : Command → List (List ℕ) → List (List ℕ)
 texts_in (Run workers budget log files) all = all
-texts_in (Replay script files) all = behind_first all
+texts_in (Replay script watch files) all = behind_first all
 texts_in (Check files) all = all
 texts_in (List_ files) all = all
 
 -- what is told by a command is told by one that tells
 telling : (c : Command) (p : Program) (text : List ℕ) → IsToldBy c p text → IsTelling c
 telling (Run workers budget log files) p text is = absurd is
-telling (Replay script files) p text is = absurd is
+telling (Replay script watch files) p text is = absurd is
 telling (Check files) p text is = tt
 telling (List_ files) p text is = tt
 
 never_run : {workers budget : ℕ} {log : Bool} {files : List (List ℕ)} (c : Command) → IsTelling c → c ≡ Run workers budget log files → ⊥
 never_run c tells e = subst IsTelling e tells
 
-never_replay : {script : List ℕ} {files : List (List ℕ)} (c : Command) → IsTelling c → c ≡ Replay script files → ⊥
+never_replay : {script : List ℕ} {watch : Bool} {files : List (List ℕ)} (c : Command) → IsTelling c → c ≡ Replay script watch files → ⊥
 never_replay c tells e = subst IsTelling e tells
 
 -- commands of two kinds differ
 abbrev kind : Command → ℕ
 kind (Run workers budget log files) = 0
-kind (Replay script files) = 1
+kind (Replay script watch files) = 1
 kind (Check files) = 2
 kind (List_ files) = 3
 
@@ -131,14 +132,14 @@ module _ (words : List (List ℕ)) (shelf : ShelfUse) where
 
   parts_of : {files texts : List (List ℕ)} → Takes words shelf files texts → Parts files texts
   parts_of (to_run {workers} {budget} {log} {files} {texts} h) = record { command = Run workers budget log files; all = texts; has = h; files_are = refl; texts_are = refl }
-  parts_of (to_replay {script} {listing} {files} {texts} s h read) = record { command = Replay script files; all = listing ∷ texts; has = h; files_are = refl; texts_are = refl }
+  parts_of (to_replay {script} {listing} {watch} {files} {texts} s h read) = record { command = Replay script watch files; all = listing ∷ texts; has = h; files_are = refl; texts_are = refl }
   parts_of (to_check {files} {texts} h) = record { command = Check files; all = texts; has = h; files_are = refl; texts_are = refl }
   parts_of (to_list {files} {texts} h) = record { command = List_ files; all = texts; has = h; files_are = refl; texts_are = refl }
 
   -- what a command tells that was asked for and tells of programs
   takes_telling : (c : Command) {texts : List (List ℕ)} → IsTelling c → Has words shelf c texts → Takes words shelf (modules_of c) texts
   takes_telling (Run workers budget log files) tells h = absurd tells
-  takes_telling (Replay script files) tells h = absurd tells
+  takes_telling (Replay script watch files) tells h = absurd tells
   takes_telling (Check files) tells h = to_check h
   takes_telling (List_ files) tells h = to_list h
 
@@ -147,7 +148,7 @@ module _ (words : List (List ℕ)) (shelf : ShelfUse) where
 
   -- Statuses, whether or not the shelf tells its texts
 
-  pub cause_status : {status : ℕ} {out err : List ℕ} → Cause words shelf status out err → (status ≢ 7) × (status ≢ 8)
+  pub cause_status : {probes : ProbesUse} {status : ℕ} {out err : List ℕ} → Cause words shelf probes status out err → (status ≢ 7) × (status ≢ 8)
   cause_status (wrong_words n) = (differ 2 7 refl, differ 2 8 refl)
   cause_status (unread h w b f) = (differ 6 7 refl, differ 6 8 refl)
   cause_status (absent h w n) = (differ 1 7 refl, differ 1 8 refl)
@@ -155,10 +156,10 @@ module _ (words : List (List ℕ)) (shelf : ShelfUse) where
   cause_status (bad_script x h n) = (differ 10 7 refl, differ 10 8 refl)
   cause_status (refused r k n) = (differ 1 7 refl, differ 1 8 refl)
   cause_status (ran {workers} {budget} p o h comes good s) = (no_run workers budget p o 7 s none_7, no_run workers budget p o 8 s none_8)
-  cause_status (ran_by s p h read comes good) = (no_replay p s 7 none_7, no_replay p s 8 none_8)
+  cause_status (ran_by s p h read comes good w) = (no_replay p s 7 none_7, no_replay p s 8 none_8)
   cause_status (told p h comes good is) = (differ 0 7 refl, differ 0 8 refl)
 
-  two_only : {status : ℕ} {out err : List ℕ} → Cause words shelf status out err → status ≡ 2 → command_of words ≡ None
+  two_only : {probes : ProbesUse} {status : ℕ} {out err : List ℕ} → Cause words shelf probes status out err → status ≡ 2 → command_of words ≡ None
   two_only (wrong_words n) e = n
   two_only (unread h w b f) e = differ 6 2 refl e
   two_only (absent h w n) e = differ 1 2 refl e
@@ -166,10 +167,10 @@ module _ (words : List (List ℕ)) (shelf : ShelfUse) where
   two_only (bad_script x h n) e = differ 10 2 refl e
   two_only (refused r k n) e = differ 1 2 refl e
   two_only (ran {workers} {budget} p o h comes good s) e = no_run workers budget p o 2 s none_2 e
-  two_only (ran_by s p h read comes good) e = no_replay p s 2 none_2 e
+  two_only (ran_by s p h read comes good w) e = no_replay p s 2 none_2 e
   two_only (told p h comes good is) e = differ 0 2 refl e
 
-  two_if : {status : ℕ} {out err : List ℕ} → Cause words shelf status out err → command_of words ≡ None → status ≡ 2
+  two_if : {probes : ProbesUse} {status : ℕ} {out err : List ℕ} → Cause words shelf probes status out err → command_of words ≡ None → status ≡ 2
   two_if (wrong_words n) none = refl
   two_if (unread {c} h w b f) none = no_command words c none h
   two_if (absent {c} h w n) none = no_command words c none h
@@ -177,12 +178,12 @@ module _ (words : List (List ℕ)) (shelf : ShelfUse) where
   two_if (bad_script x h n) none = no_has none h
   two_if (refused r k n) none = let t = of_takes k in no_command words t.1.command none t.1.asks
   two_if (ran p o h comes good s) none = no_has none h
-  two_if (ran_by s p h read comes good) none = no_has none h
+  two_if (ran_by s p h read comes good w) none = no_has none h
   two_if (told p h comes good is) none = no_has none h
 
 module _ (call : Call) where
   abbrev Of : ℕ → List ℕ → List ℕ → Type 0
-  Of status out err = Cause call.words call.shelf status out err
+  Of status out err = Cause call.words call.shelf call.probes status out err
 
   -- 1
   one_only : {status : ℕ} {out err : List ℕ} → Of status out err → status ≡ 1 → IsAbsentOrRefused call
@@ -193,7 +194,7 @@ module _ (call : Call) where
   one_only (bad_script x h n) e = differ 10 1 refl e
   one_only (refused {files} {texts} r k n) e = is_refused k (never_accepted texts r n)
   one_only (ran {workers} {budget} p o h comes good s) e = no_run workers budget p o 1 s none_1 e
-  one_only (ran_by s p h read comes good) e = no_replay p s 1 none_1 e
+  one_only (ran_by s p h read comes good w) e = no_replay p s 1 none_1 e
   one_only (told p h comes good is) e = differ 0 1 refl e
 
   -- 6
@@ -205,7 +206,7 @@ module _ (call : Call) where
   six_only (bad_script x h n) e = differ 10 6 refl e
   six_only (refused r k n) e = differ 1 6 refl e
   six_only (ran {workers} {budget} p o h comes good s) e = no_run workers budget p o 6 s none_6 e
-  six_only (ran_by s p h read comes good) e = no_replay p s 6 none_6 e
+  six_only (ran_by s p h read comes good w) e = no_replay p s 6 none_6 e
   six_only (told p h comes good is) e = differ 0 6 refl e
 
   -- 10
@@ -214,10 +215,10 @@ module _ (call : Call) where
   ten_only (unread h w b f) e = differ 6 10 refl e
   ten_only (absent h w n) e = differ 1 10 refl e
   ten_only (too_long h w n) e = differ 6 10 refl e
-  ten_only (bad_script {script} {listing} {files} {texts} x h n) e = record { script = script; listing = listing; files = files; texts = texts; error = x; has = h; refused = n }
+  ten_only (bad_script {script} {listing} {watch} {files} {texts} x h n) e = record { script = script; listing = listing; watch = watch; files = files; texts = texts; error = x; has = h; refused = n }
   ten_only (refused r k n) e = differ 1 10 refl e
   ten_only (ran {workers} {budget} p o h comes good s) e = no_run workers budget p o 10 s none_10 e
-  ten_only (ran_by s p h read comes good) e = no_replay p s 10 none_10 e
+  ten_only (ran_by s p h read comes good w) e = no_replay p s 10 none_10 e
   ten_only (told p h comes good is) e = differ 0 10 refl e
 
   -- 0, 3, 4, 5 and 9; what is told of a program has 0
@@ -231,7 +232,7 @@ module _ (call : Call) where
     seen_or_told (refused r k x) same on_out on_err e = differ 1 n m.no_1 e
     seen_or_told (ran {workers} {budget} p o h comes good s) same on_out on_err e =
         inl (in_run h (record { program = p; comes = comes; observation = o; seen = s; status = same; on_out = on_out; on_err = on_err }) (m.only o (run_has workers budget p o s) e))
-    seen_or_told (ran_by s p h read comes good) same on_out on_err e = inl (in_replay s p h read comes (m.only (replay_of p s) (replay_has p s) e))
+    seen_or_told (ran_by s p h read comes good w) same on_out on_err e = inl (in_replay s p h read comes (m.only (replay_of p s) (replay_has p s) e))
     seen_or_told (told {c} {texts} {text} p h comes good is) same on_out on_err e =
         inr (e, record { command = c; texts = texts; telling = telling c p text is; has = h; accepted = record { program = p; comes = comes } })
 
@@ -269,11 +270,11 @@ module _ (words : List (List ℕ)) (shelf : ShelfUse) (tells : Tells shelf) wher
       let e : Run workers budget log files ≡ Run workers' budget' log' files' = same_command h k in
       (cc e, cc e, cc e, cc e)
 
-  same_replay : {script listing script' listing' : List ℕ} {files texts files' texts' : List (List ℕ)} → Has words shelf (Replay script files) (listing ∷ texts) → Has words shelf (Replay script' files') (listing' ∷ texts') → (listing ≡ listing') × (files ≡ files') × (texts ≡ texts')
-  same_replay {script} {listing} {script'} {listing'} {files} {texts} {files'} {texts'} h k =
-      let e : Replay script files ≡ Replay script' files' = same_command h k in
+  same_replay : {script listing script' listing' : List ℕ} {watch watch' : Bool} {files texts files' texts' : List (List ℕ)} → Has words shelf (Replay script watch files) (listing ∷ texts) → Has words shelf (Replay script' watch' files') (listing' ∷ texts') → (listing ≡ listing') × (watch ≡ watch') × (files ≡ files') × (texts ≡ texts')
+  same_replay {script} {listing} {script'} {listing'} {watch} {watch'} {files} {texts} {files'} {texts'} h k =
+      let e : Replay script watch files ≡ Replay script' watch' files' = same_command h k in
       let e' : listing ∷ texts ≡ listing' ∷ texts' = same_texts h k in
-      (cc e', cc e, cc e')
+      (cc e', cc e, cc e, cc e')
 
   same_takes : {files texts files' texts' : List (List ℕ)} → Takes words shelf files texts → Takes words shelf files' texts' → (files ≡ files') × (texts ≡ texts')
   same_takes h k =
@@ -285,17 +286,17 @@ module _ (words : List (List ℕ)) (shelf : ShelfUse) (tells : Tells shelf) wher
       )
 
   -- a listing that is a script is never refused
-  no_bad : {A : Type 0} {script listing : List ℕ} {files texts files' texts' : List (List ℕ)} (e : ScriptErr) → Takes words shelf files texts → Has words shelf (Replay script files') (listing ∷ texts') → IsRefusedScript listing e → A
+  no_bad : {A : Type 0} {script listing : List ℕ} {watch : Bool} {files texts files' texts' : List (List ℕ)} (e : ScriptErr) → Takes words shelf files texts → Has words shelf (Replay script watch files') (listing ∷ texts') → IsRefusedScript listing e → A
   no_bad e (to_run h) k bad = has_apart words shelf h k refl
   no_bad e (to_check h) k bad = has_apart words shelf h k refl
   no_bad e (to_list h) k bad = has_apart words shelf h k refl
   no_bad {listing} e (to_replay s h read) k bad = absurd (not_both listing s e (subst (λ y. IsScript y s) (same_replay h k).0 read) bad)
 
-  same_script : {script listing script' listing' : List ℕ} {files texts files' texts' : List (List ℕ)} (s s' : Script) → Has words shelf (Replay script files) (listing ∷ texts) → IsScript listing s → Has words shelf (Replay script' files') (listing' ∷ texts') → IsScript listing' s' → s' ≡ s
+  same_script : {script listing script' listing' : List ℕ} {watch watch' : Bool} {files texts files' texts' : List (List ℕ)} (s s' : Script) → Has words shelf (Replay script watch files) (listing ∷ texts) → IsScript listing s → Has words shelf (Replay script' watch' files') (listing' ∷ texts') → IsScript listing' s' → s' ≡ s
   same_script {listing} s s' h read k read' = one_script listing s' s (subst (λ y. IsScript y s') (same_replay k h).0 read') read
 
   module _ (calm : ¬ ShelfFailed shelf) where
-    if_absent : {status : ℕ} {out err file : List ℕ} → Cause words shelf status out err → Comes words shelf (NoFile file) → status ≡ 1
+    if_absent : {probes : ProbesUse} {status : ℕ} {out err file : List ℕ} → Cause words shelf probes status out err → Comes words shelf (NoFile file) → status ≡ 1
     if_absent (wrong_words n) k = no_command words k.command n k.asks
     if_absent (unread h w b f) k = absurd (calm f)
     if_absent (absent h w n) k = refl
@@ -303,10 +304,10 @@ module _ (words : List (List ℕ)) (shelf : ShelfUse) (tells : Tells shelf) wher
     if_absent (bad_script x h n) k = not_absent k (of_has words shelf h)
     if_absent (refused r t n) k = not_absent k (of_takes words shelf t).1
     if_absent (ran p o h comes good s) k = not_absent k (of_has words shelf h)
-    if_absent (ran_by s p h read comes good) k = not_absent k (of_has words shelf h)
+    if_absent (ran_by s p h read comes good w) k = not_absent k (of_has words shelf h)
     if_absent (told p h comes good is) k = not_absent k (of_has words shelf h)
 
-    if_long : {status : ℕ} {out err file : List ℕ} {most : ℕ} → Cause words shelf status out err → Comes words shelf (LongFile file most) → status ≡ 6
+    if_long : {probes : ProbesUse} {status : ℕ} {out err file : List ℕ} {most : ℕ} → Cause words shelf probes status out err → Comes words shelf (LongFile file most) → status ≡ 6
     if_long (wrong_words n) k = no_command words k.command n k.asks
     if_long (unread h w b f) k = absurd (calm f)
     if_long (absent {c} h v n) k = not_both_lacks k (record { command = c; asks = h; comes = n })
@@ -314,14 +315,14 @@ module _ (words : List (List ℕ)) (shelf : ShelfUse) (tells : Tells shelf) wher
     if_long (bad_script x h n) k = not_long k (of_has words shelf h)
     if_long (refused r t n) k = not_long k (of_takes words shelf t).1
     if_long (ran p o h comes good s) k = not_long k (of_has words shelf h)
-    if_long (ran_by s p h read comes good) k = not_long k (of_has words shelf h)
+    if_long (ran_by s p h read comes good w) k = not_long k (of_has words shelf h)
     if_long (told p h comes good is) k = not_long k (of_has words shelf h)
 
     -- of the causes only these are left where all files are had, and a listing is a script
-    if_takes : {status : ℕ} {out err : List ℕ} {files texts : List (List ℕ)} (P : ℕ → List ℕ → List ℕ → Type 0) → Cause words shelf status out err → Takes words shelf files texts →
+    if_takes : {probes : ProbesUse} {status : ℕ} {out err : List ℕ} {files texts : List (List ℕ)} (P : ℕ → List ℕ → List ℕ → Type 0) → Cause words shelf probes status out err → Takes words shelf files texts →
         ((r : Refusal) → ComesTo texts (refused_by r) → P 1 [] (refusal_text (name_of files r.file) r.rule r.pos))
         → ((workers budget : ℕ) (log : Bool) (files' texts' : List (List ℕ)) (p : Program) (o : Observation) → Has words shelf (Run workers budget log files') texts' → ComesTo texts (went p) → IsCompiled p → (s : Seen workers budget p o) → P o.status o.output (run_report log (names_of p) (script_of workers budget s.schedule) o))
-        → ((script listing : List ℕ) (files' texts' : List (List ℕ)) (s : Script) (p : Program) → Has words shelf (Replay script files') (listing ∷ texts') → IsScript listing s → ComesTo texts (went p) → IsCompiled p → P (replay_of p s).status (replay_of p s).output (replay_report (names_of p) s (replay_of p s)))
+        → ((script listing : List ℕ) (watch : Bool) (files' texts' : List (List ℕ)) (s : Script) (p : Program) → Has words shelf (Replay script watch files') (listing ∷ texts') → IsScript listing s → ComesTo texts (went p) → IsCompiled p → Watched watch (replay_events p s) probes → P (replay_of p s).status (replay_of p s).output (replay_report (names_of p) s (replay_of p s) ++ watch_text watch probes))
         → ((c : Command) (texts' : List (List ℕ)) (text : List ℕ) (p : Program) → Has words shelf c texts' → ComesTo texts (went p) → IsCompiled p → IsToldBy c p text → P 0 text [])
         → P status out err
     if_takes P (wrong_words n) k not_one run by tell = let t = of_takes words shelf k in no_command words t.1.command n t.1.asks
@@ -334,8 +335,8 @@ module _ (words : List (List ℕ)) (shelf : ShelfUse) (tells : Tells shelf) wher
         subst (λ fs. P 1 [] (refusal_text (name_of fs r.file) r.rule r.pos)) (sym e.0) (not_one r (subst (λ ts. ComesTo ts (refused_by r)) e.1 comes))
     if_takes P (ran {workers} {budget} {log} {files} {texts} p o h comes good s) k not_one run by tell =
         run workers budget log files texts p o h (subst (λ ts. ComesTo ts (went p)) (same_takes (to_run h) k).1 comes) good s
-    if_takes P (ran_by {script} {listing} {files} {texts} s p h read comes good) k not_one run by tell =
-        by script listing files texts s p h read (subst (λ ts. ComesTo ts (went p)) (same_takes (to_replay s h read) k).1 comes) good
+    if_takes P (ran_by {script} {listing} {watch} {files} {texts} s p h read comes good w) k not_one run by tell =
+        by script listing watch files texts s p h read (subst (λ ts. ComesTo ts (went p)) (same_takes (to_replay s h read) k).1 comes) good w
     if_takes P (told {c} {texts} {text} p h comes good is) k not_one run by tell =
         tell c texts text p h (subst (λ ts. ComesTo ts (went p)) (same_takes (takes_telling words shelf c (telling c p text is) h) k).1 comes) good is
 
@@ -357,37 +358,43 @@ module _ (words : List (List ℕ)) (shelf : ShelfUse) (tells : Tells shelf) wher
         (subst (λ b. IsRunOf workers b log' texts status out err) e.1
         (subst (λ l. IsRunOf workers budget l texts status out err) e.2 h))
 
-    runs_it : {workers budget : ℕ} {log : Bool} {status : ℕ} {out err : List ℕ} {files texts : List (List ℕ)} → Cause words shelf status out err → Has words shelf (Run workers budget log files) texts → IsAccepted texts → IsRunOf workers budget log texts status out err
+    runs_it : {probes : ProbesUse} {workers budget : ℕ} {log : Bool} {status : ℕ} {out err : List ℕ} {files texts : List (List ℕ)} → Cause words shelf probes status out err → Has words shelf (Run workers budget log files) texts → IsAccepted texts → IsRunOf workers budget log texts status out err
     runs_it {workers} {budget} {log} {texts} c k ok =
         if_takes (IsRunOf workers budget log texts) c (to_run k)
         (λ r comes. absurd (never_accepted texts r comes ok))
         (λ workers' budget' log' files' texts' p o h comes good s.
         let e = same_run h k in
         run_along (e.0, e.1, e.2) (record { program = p; comes = comes; compiled = good; observation = o; seen = s; status_is = refl; out_is = refl; err_is = refl }))
-        (λ script listing files' texts' s p h read comes good. has_apart words shelf k h refl)
+        (λ script listing watch files' texts' s p h read comes good w. has_apart words shelf k h refl)
         (λ d texts' text p h comes good is. absurd (never_run d (telling d p text is) (same_command h k)))
 
-    record IsReplayOf (s : Script) (texts : List (List ℕ)) (status : ℕ) (out err : List ℕ) : Type 0 where
+    record IsReplayOf (watch : Bool) (probes : ProbesUse) (s : Script) (texts : List (List ℕ)) (status : ℕ) (out err : List ℕ) : Type 0 where
       pub program : Program
       pub comes : ComesTo texts (went program)
       pub status_is : status ≡ (replay_of program s).status
       pub out_is : out ≡ (replay_of program s).output
-      pub err_is : err ≡ replay_report (names_of program) s (replay_of program s)
+      pub err_is : err ≡ replay_report (names_of program) s (replay_of program s) ++ watch_text watch probes
+      pub watched : Watched watch (replay_events program s) probes
 
-    replays_it : {status : ℕ} {out err script listing : List ℕ} {files texts : List (List ℕ)} (s : Script) → Cause words shelf status out err → Has words shelf (Replay script files) (listing ∷ texts) → IsScript listing s → IsAccepted texts → IsReplayOf s texts status out err
-    replays_it {texts} s c k read ok =
-        if_takes (IsReplayOf s texts) c (to_replay s k read)
+    -- where the probes watch as the words say
+    replay_along : {watch watch' : Bool} {probes : ProbesUse} {s : Script} {texts : List (List ℕ)} {status : ℕ} {out err : List ℕ} → watch ≡ watch' → IsReplayOf watch probes s texts status out err → IsReplayOf watch' probes s texts status out err
+    replay_along {watch} {watch'} {probes} {s} {texts} {status} {out} {err} e h = subst (λ w. IsReplayOf w probes s texts status out err) e h
+
+    replays_it : {probes : ProbesUse} {status : ℕ} {out err script listing : List ℕ} {watch : Bool} {files texts : List (List ℕ)} (s : Script) → Cause words shelf probes status out err → Has words shelf (Replay script watch files) (listing ∷ texts) → IsScript listing s → IsAccepted texts → IsReplayOf watch probes s texts status out err
+    replays_it {probes} {status} {out} {err} {script} {listing} {watch} {files} {texts} s c k read ok =
+        if_takes (IsReplayOf watch probes s texts) c (to_replay s k read)
         (λ r comes. absurd (never_accepted texts r comes ok))
         (λ workers budget log files' texts' p o h comes good seen. has_apart words shelf h k refl)
-        (λ script' listing' files' texts' s' p h read' comes good.
+        (λ script' listing' watch' files' texts' s' p h read' comes good w.
         let same = same_script s s' k read h read' in
-        record {
+        replay_along (same_replay h k).1 (record {
           program = p;
           comes = comes;
           status_is = ap (λ z. (replay_of p z).status) same;
           out_is = ap (λ z. (replay_of p z).output) same;
-          err_is = ap (λ z. replay_report (names_of p) z (replay_of p z)) same;
-        })
+          err_is = ap (λ z. replay_report (names_of p) z (replay_of p z) ++ watch_text watch' probes) same;
+          watched = subst (λ z. Watched watch' (replay_events p z) probes) same w;
+        }))
         (λ d texts' text p h comes good is. absurd (never_replay d (telling d p text is) (same_command h k)))
 
     -- or told of
@@ -398,12 +405,12 @@ module _ (words : List (List ℕ)) (shelf : ShelfUse) (tells : Tells shelf) wher
       pub status_is : status ≡ 0
       pub err_is : err ≡ []
 
-    tells_it : {c : Command} {status : ℕ} {out err : List ℕ} {texts : List (List ℕ)} → Cause words shelf status out err → IsTelling c → Has words shelf c texts → IsAccepted texts → IsTextOf c texts status out err
+    tells_it : {probes : ProbesUse} {c : Command} {status : ℕ} {out err : List ℕ} {texts : List (List ℕ)} → Cause words shelf probes status out err → IsTelling c → Has words shelf c texts → IsAccepted texts → IsTextOf c texts status out err
     tells_it {c} {texts} cause t k ok =
         if_takes (IsTextOf c texts) cause (takes_telling words shelf c t k)
         (λ r comes. absurd (never_accepted texts r comes ok))
         (λ workers budget log files' texts' p o h comes good seen. absurd (never_run c t (same_command k h)))
-        (λ script listing files' texts' s p h read comes good. absurd (never_replay c t (same_command k h)))
+        (λ script listing watch files' texts' s p h read comes good w. absurd (never_replay c t (same_command k h)))
         (λ d texts' text p h comes good is. record { program = p; comes = comes; is = subst (λ x. IsToldBy x p text) (same_command h k) is; status_is = refl; err_is = refl })
 
     -- refused texts are told of
@@ -412,12 +419,12 @@ module _ (words : List (List ℕ)) (shelf : ShelfUse) (tells : Tells shelf) wher
       pub out_is : out ≡ []
       pub err_is : err ≡ refusal_text (name_of files r.file) r.rule r.pos
 
-    refuses_it : {status : ℕ} {out err : List ℕ} {files texts : List (List ℕ)} (r : Refusal) → Cause words shelf status out err → Takes words shelf files texts → ComesTo texts (refused_by r) → IsRefusalOf files r status out err
+    refuses_it : {probes : ProbesUse} {status : ℕ} {out err : List ℕ} {files texts : List (List ℕ)} (r : Refusal) → Cause words shelf probes status out err → Takes words shelf files texts → ComesTo texts (refused_by r) → IsRefusalOf files r status out err
     refuses_it {files} {texts} r c k comes =
         if_takes (IsRefusalOf files r) c k
         (λ r' comes'. record { status_is = refl; out_is = refl; err_is = ap (λ (x : Refusal). refusal_text (name_of files x.file) x.rule x.pos) (one_refusal texts r' r comes' comes) })
         (λ workers budget log files' texts' p o h comes' good s. absurd (never_accepted texts r comes (record { program = p; comes = comes' })))
-        (λ script listing files' texts' s p h read comes' good. absurd (never_accepted texts r comes (record { program = p; comes = comes' })))
+        (λ script listing watch files' texts' s p h read comes' good w. absurd (never_accepted texts r comes (record { program = p; comes = comes' })))
         (λ d texts' text p h comes' good is. absurd (never_accepted texts r comes (record { program = p; comes = comes' })))
 
 module _ (call : Call) (tells : Tells call.shelf) (calm : ¬ ShelfFailed call.shelf) where
@@ -427,7 +434,7 @@ module _ (call : Call) (tells : Tells call.shelf) (calm : ¬ ShelfFailed call.sh
       if_takes call.words call.shelf tells calm (λ n out err. n ≡ 1) c k
       (λ r comes. refl)
       (λ workers budget log files' texts' p o h comes good s. absurd (never (record { program = p; comes = comes })))
-      (λ script listing files' texts' s p h read comes good. absurd (never (record { program = p; comes = comes })))
+      (λ script listing watch files' texts' s p h read comes good w. absurd (never (record { program = p; comes = comes })))
       (λ d texts' text p h comes good is. absurd (never (record { program = p; comes = comes })))
 
   six_if : {status : ℕ} {out err : List ℕ} → Of call status out err → ShelfFailed call.shelf ⊎ IsTooLong call → status ≡ 6
@@ -442,7 +449,7 @@ module _ (call : Call) (tells : Tells call.shelf) (calm : ¬ ShelfFailed call.sh
   ten_if (bad_script x h n) k = refl
   ten_if (refused r t comes) k = no_bad call.words call.shelf tells k.error t k.has k.refused
   ten_if (ran p o h comes good s) k = has_apart call.words call.shelf h k.has refl
-  ten_if (ran_by s p h read comes good) k = no_bad call.words call.shelf tells k.error (to_replay s h read) k.has k.refused
+  ten_if (ran_by s p h read comes good w) k = no_bad call.words call.shelf tells k.error (to_replay s h read) k.has k.refused
   ten_if (told {c} {text} p h comes good is) k = absurd (never_replay c (telling c p text is) (same_command call.words call.shelf tells h k.has))
 
   seen_if : {status : ℕ} {out err : List ℕ} (n : ℕ) (Such : Observation → Type 0) → Means n Such → Of call status out err → call.status ≡ status → IsSeen call Such → status ≡ n
@@ -452,7 +459,7 @@ module _ (call : Call) (tells : Tells call.shelf) (calm : ¬ ShelfFailed call.sh
       if_takes call.words call.shelf tells calm (λ k out err. k ≡ n) c (to_replay s h read)
       (λ r comes'. absurd (never_accepted texts r comes' (record { program = p; comes = comes })))
       (λ workers budget log files' texts' q o k comes' good seen. has_apart call.words call.shelf k h refl)
-      (λ script listing files' texts' z q k read' comes' good.
+      (λ script listing watch files' texts' z q k read' comes' good w.
       let same_program = one_program texts p q comes comes' in
       let script_is = same_script call.words call.shelf tells z s k read' h read in
       let same_seen : replay_of p s ≡ replay_of q z = (λ i. replay_of (same_program i) (script_is i)) in
@@ -479,8 +486,8 @@ module _ (call : Call) (answered : IsUndisturbed call → Answered call) (in_par
         on_err = subst (GotWhole call.err) r.err_is a.on_err;
       }
 
-  shows_replay : (s : Script) (script listing : List ℕ) (files texts : List (List ℕ)) → IsAsked call (Replay script files) (listing ∷ texts) texts → IsScript listing s → IsUndisturbed call → ShowsReplay call s texts
-  shows_replay s script listing files texts k read u =
+  shows_replay : (s : Script) (script listing : List ℕ) (watch : Bool) (files texts : List (List ℕ)) → IsAsked call (Replay script watch files) (listing ∷ texts) texts → IsScript listing s → IsUndisturbed call → ShowsReplay call watch s texts
+  shows_replay s script listing watch files texts k read u =
       let a = answered u in
       let r = replays_it call.words call.shelf k.tells k.worked s a.cause k.has read k.accepted in
       record {
@@ -489,6 +496,7 @@ module _ (call : Call) (answered : IsUndisturbed call → Answered call) (in_par
         status = r.status_is;
         on_out = subst (GotWhole call.out) r.out_is a.on_out;
         on_err = subst (GotWhole call.err) r.err_is a.on_err;
+        watched = r.watched;
       }
 
   shows_program : (c : Command) (texts : List (List ℕ)) → IsTelling c → IsAsked call c texts texts → IsUndisturbed call → ShowsProgram call c texts
@@ -523,14 +531,14 @@ module _ (call : Call) (answered : IsUndisturbed call → Answered call) (in_par
       injective had a b e = cc e
 
   logs : LogIsReplayed call
-  logs workers budget files texts listing k u just again script others complete asked worked =
+  logs workers budget files texts listing k u just again script watch others complete asked worked =
       let a = answered u in
       let r = runs_it call.words call.shelf k.tells k.worked a.cause k.has k.accepted in
       let s = script_of workers budget r.seen.schedule in
       let o = r.observation in
       let same_text : listing ≡ run_report true (names_of r.program) s o = just_got call.err a.err listing a.on_err just ∙ r.err_is in
       let read : IsScript listing (joined_script s) = subst (λ l. IsScript l (joined_script s)) (sym same_text) (log_is_script r.program s o r.compiled.typed r.seen.script) in
-      elim (complete (joined_script s) script listing others texts asked read worked) [
+      elim (complete (joined_script s) script listing watch others texts asked read worked) [
         | inl eight ↦ inl eight
         | inr shown ↦
             let q = shown.1 in
@@ -563,9 +571,9 @@ module _ (call : Call) (answered : IsUndisturbed call → Answered call) (in_par
       let s = shows workers budget log files texts k u in
       (subst IsRunStatus (sym s.status) (run_status workers budget s.program s.observation s.seen), s)
 
-  replay_answer : (s : Script) (script listing : List ℕ) (files texts : List (List ℕ)) → IsAsked call (Replay script files) (listing ∷ texts) texts → IsScript listing s → IsUndisturbed call → IsReplayStatus call.status × ShowsReplay call s texts
-  replay_answer s script listing files texts k read u =
-      let r = shows_replay s script listing files texts k read u in (subst IsReplayStatus (sym r.status) (replay_status r.program s), r)
+  replay_answer : (s : Script) (script listing : List ℕ) (watch : Bool) (files texts : List (List ℕ)) → IsAsked call (Replay script watch files) (listing ∷ texts) texts → IsScript listing s → IsUndisturbed call → IsReplayStatus call.status × ShowsReplay call watch s texts
+  replay_answer s script listing watch files texts k read u =
+      let r = shows_replay s script listing watch files texts k read u in (subst IsReplayStatus (sym r.status) (replay_status r.program s), r)
 
   -- what a status tells of what is seen
   where_seen : (n : ℕ) (Such : Observation → Type 0) → Means n Such → (0 == n) ≡ false → IsStatusWhere call n (IsSeen call Such)
@@ -595,7 +603,7 @@ module _ (call : Call) (answered : IsUndisturbed call → Answered call) (in_par
     headline = shows;
     complete = λ workers budget log files texts k worked. whole_or_memory (IsRunStatus call.status × ShowsTexts call workers budget log texts) worked (run_answer workers budget log files texts k);
     replays = shows_replay;
-    replays_complete = λ s script listing files texts k read worked. whole_or_memory (IsReplayStatus call.status × ShowsReplay call s texts) worked (replay_answer s script listing files texts k read);
+    replays_complete = λ s script listing watch files texts k read worked. whole_or_memory (IsReplayStatus call.status × ShowsReplay call watch s texts) worked (replay_answer s script listing watch files texts k read);
     logs = logs;
     tells = shows_program;
     tells_complete = λ c texts tells k worked. whole_or_memory (ShowsProgram call c texts) worked (shows_program c texts tells k);
@@ -616,10 +624,10 @@ module _ (call : Call) (answered : IsUndisturbed call → Answered call) (in_par
   }
 
 -- an answer with its cause keeps them
-pub of_answer : (call : Call) (a : Answer) → Causes call.words call.shelf a → (call.status ≢ 7 → IsWhole a call.status call.out call.err) → (call.status ≡ 7 → IsStopped a call.out call.err) → call.status ≢ 8 → ((p : Program) → HasMonitors p) → KeepsConditions call → Promises call
+pub of_answer : (call : Call) (a : Answer) → Causes call.words call.shelf call.probes a → (call.status ≢ 7 → IsWhole a call.status call.out call.err) → (call.status ≡ 7 → IsStopped a call.out call.err) → call.status ≢ 8 → ((p : Program) → HasMonitors p) → KeepsConditions call → Promises call
 of_answer call a cause whole stopped memory monitors conditions =
     promises call
-    (λ u. let w = whole u.no_sink_failed in record { out = a.out.items; err = a.err.items; cause = subst (λ s. Cause call.words call.shelf s a.out.items a.err.items) (sym w.same) cause; on_out = w.on_out; on_err = w.on_err })
+    (λ u. let w = whole u.no_sink_failed in record { out = a.out.items; err = a.err.items; cause = subst (λ s. Cause call.words call.shelf call.probes s a.out.items a.err.items) (sym w.same) cause; on_out = w.on_out; on_err = w.on_err })
     (λ e. record { status = a.status; out = a.out.items; err = a.err.items; cause = cause; in_part = stopped e })
     (λ e. absurd (memory e)) monitors conditions
 
@@ -627,3 +635,22 @@ of_answer call a cause whole stopped memory monitors conditions =
 pub of_no_memory : (call : Call) → call.status ≡ 8 → GotNothing call.out → GotNothing call.err → ((p : Program) → HasMonitors p) → KeepsConditions call → Promises call
 of_no_memory call eight out err monitors conditions =
     promises call (λ u. absurd (u.no_memory_wanted eight)) (λ e. differ 8 7 refl (sym eight ∙ e)) (λ e. (out, err)) monitors conditions
+
+-- two calls that show the replay of one script over the same texts
+alike : (a b : Call) (s : Script) (texts : List (List ℕ)) → ShowsReplay a false s texts → ShowsReplay b false s texts → IsAlike a b
+alike a b s texts h k =
+    let same = one_program texts h.program k.program h.comes k.comes in
+    let text = λ (p : Program). replay_report (names_of p) s (replay_of p s) ++ [] in
+    record {
+      out = (replay_of h.program s).output;
+      err = text h.program;
+      out_of_a = h.on_out;
+      out_of_b = subst (λ (p : Program). GotWhole b.out (replay_of p s).output) (sym same) k.on_out;
+      err_of_a = h.on_err;
+      err_of_b = subst (λ (p : Program). GotWhole b.err (text p)) (sym same) k.on_err;
+      status = k.status ∙ ap (λ (p : Program). (replay_of p s).status) (sym same) ∙ sym h.status;
+    }
+
+pub dont_matter : ProbesDontMatter
+dont_matter a b s script script' listing files files' texts pa pb k k' read u u' =
+    alike a b s texts (pa.replays s script listing false files texts k read u) (pb.replays s script' listing false files' texts k' read u')

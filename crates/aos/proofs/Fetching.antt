@@ -14,7 +14,7 @@ use Rattle.aos.specs.declared.fetch.FetchedFile.TheVariants.{Text as FileText, S
 use Rattle.aos.specs.declared.fetch.FetchedFiles.{FetchedFiles}
 use Rattle.aos.specs.declared.fetch.FetchedFiles.TheVariants.{Texts as FilesTexts, Stopped as FilesStopped}
 use Rattle.aos_report.specs.Texts.{refusal_text, unread_text, too_long_text}
-use Rattle.aos.specs.Call.{ShelfUse, ShelfFailed}
+use Rattle.aos.specs.Call.{ShelfUse, ProbesUse, ShelfFailed}
 use Rattle.aos_words.specs.Words.{Words, Command, borrowed, AreFew, Asks}
 use Rattle.aos.specs.Wanted.{Wanted, wanted_files, IsWanted, text_file, text_files, text_limit}
 use Rattle.aos.specs.Fetched.{Fetched, Texts, NoFile, LongFile, with_text, fetch_one, fetch_all, AreWithin, Fetches, AreHad, Had}
@@ -131,7 +131,7 @@ module _ (shelf : ShelfUse) where
       (subst (Fetches shelf.texts (ws ++ vs)) (with_texts-long xs w.file w.most) (then_fetches shelf.texts ws vs xs (LongFile w.file w.most) k.told h))
 
   -- the cause of an answer where the files that the words ask for stop
-  pub stops_cause : (words : Words) (c : Command) {status : ℕ} {out err : List ℕ} → StopsBy shelf (wanted_files c) status out err → Asks words c → Cause words shelf status out err
+  pub stops_cause : (words : Words) (c : Command) {probes : ProbesUse} {status : ℕ} {out err : List ℕ} → StopsBy shelf (wanted_files c) status out err → Asks words c → Cause words shelf probes status out err
   stops_cause words c (by_fault is had f) asks = unread asks is had f
   stops_cause words c (by_absence is h) asks = absent asks is h
   stops_cause words c (by_length is h) asks = too_long asks is h

@@ -1,11 +1,12 @@
 -- A call of the program as its caller sees it: the words, what the shelf and the sinks told before
--- and after, and the status.
+-- and after, the probes, and the status.
 use Rattle.std.specs.Prelude.{◌≡◌, ◌≢◌, ℕ, List, Option, IsSome}
 use Rattle.aos_dev.specs.declared.shelf.Shelf as Shelf
 use Rattle.aos_dev.specs.declared.sink.Sink as Sink
 use Rattle.aos_dev.specs.Count.{Rose}
 use Rattle.aos_dev.specs.Shelf.{Named}
 use Rattle.aos_dev.specs.Sink.{appended, WrotePart}
+use Rattle.aos_probe.specs.Meaning.{Seen}
 use Rattle.aos_words.specs.Words.{Words}
 
 -- the shelf's texts, where it tells them, and its count of faults before and after
@@ -21,11 +22,17 @@ pub record SinkUse : Type 0 where
   pub faults_before : ℕ
   pub faults_after : ℕ
 
+-- the probes as they are handed in, and as they are left
+pub record ProbesUse : Type 0 where
+  pub before : List Seen
+  pub left : List Seen
+
 pub record Call : Type 0 where
   pub words : Words
   pub shelf : ShelfUse
   pub out : SinkUse
   pub err : SinkUse
+  pub probes : ProbesUse
   pub status : ℕ
 
 -- what a shelf told, between two of its states
@@ -46,6 +53,9 @@ sink_use sink old new =
       faults_before = sink.faults old;
       faults_after = sink.faults new;
     }
+
+abbrev pub probes_use : (before left : List Seen) → ProbesUse
+probes_use before left = record { before = before; left = left }
 
 -- the shelf tells its texts
 abbrev pub Tells : ShelfUse → Type 0

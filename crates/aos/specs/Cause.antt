@@ -1,5 +1,5 @@
 -- The causes of the program's answers.
-use Rattle.std.specs.Prelude.{◌≡◌, ℕ, List, [], ◌∷◌, Bool, None}
+use Rattle.std.specs.Prelude.{◌≡◌, ℕ, List, [], ◌∷◌, ◌++◌, Bool, None}
 use Rattle.aos_base.specs.declared.text.Pos.{Pos}
 use Rattle.aos_base.specs.declared.text.Refusal.{Refusal}
 use Rattle.aos_base.specs.Observation.{Observation}
@@ -14,12 +14,13 @@ use Rattle.aos_symbols.specs.Outcome.{went, refused as refused_by}
 use Rattle.aos_compile.specs.Elaborates.{ComesTo, names_of}
 use Rattle.aos_words.specs.Words.{Words, Command, Run, Replay, Check, List_, command_of, Asks}
 use Rattle.aos.specs.Wanted.{Wanted, wanted_files, IsWanted, name_of}
-use Rattle.aos.specs.Call.{ShelfUse, SinkUse, Call, ShelfFailed, SinkFailed}
+use Rattle.aos.specs.Call.{ShelfUse, SinkUse, ProbesUse, Call, ShelfFailed, SinkFailed}
 use Rattle.aos.specs.Call.{GotWhole, GotPart, GotNothing}
 use Rattle.aos.specs.Fetched.{NoFile, LongFile, Fetches, AreHad, Had}
 use Rattle.aos.specs.Report.{run_report, replay_report, script_line}
-use Rattle.aos.specs.Seen.{Seen, replay_of, script_of}
+use Rattle.aos.specs.Seen.{Seen, replay_of, replay_events, script_of}
 use Rattle.aos.specs.Told.{IsToldBy}
+use Rattle.aos.specs.Watched.{Watched, watch_text}
 
 abbrev pub whole : Pos
 whole = record { line = 0; col = 0 }
@@ -36,8 +37,8 @@ pub data Takes (words : Words) (shelf : ShelfUse)
     : (files : Words) → (texts : List (List ℕ)) → Type 0 where
   to_run : {workers budget : ℕ} {log : Bool} {files texts : List (List ℕ)}
       → Has words shelf (Run workers budget log files) texts → Takes words shelf files texts
-  to_replay : {script listing : List ℕ} {files texts : List (List ℕ)} (s : Script)
-      → Has words shelf (Replay script files) (listing ∷ texts) → IsScript listing s
+  to_replay : {script listing : List ℕ} {watch : Bool} {files texts : List (List ℕ)} (s : Script)
+      → Has words shelf (Replay script watch files) (listing ∷ texts) → IsScript listing s
       → Takes words shelf files texts
   to_check : {files texts : List (List ℕ)} → Has words shelf (Check files) texts
       → Takes words shelf files texts
@@ -49,50 +50,53 @@ pub record IsCompiled (p : Program) : Type 0 where
   pub typed : IsWellTyped p
 
 -- each cause of an answer, with the status and the texts for the two sinks
-pub data Cause (words : Words) (shelf : ShelfUse) : (status : ℕ) → (out err : List ℕ) → Type 0 where
+pub data Cause (words : Words) (shelf : ShelfUse) (probes : ProbesUse)
+    : (status : ℕ) → (out err : List ℕ) → Type 0 where
   -- the words are no command
-  wrong_words : command_of words ≡ None → Cause words shelf 2 [] usage_text
+  wrong_words : command_of words ≡ None → Cause words shelf probes 2 [] usage_text
   -- the shelf failed at a file, and those before it are had
   unread : {c : Command} {w : Wanted} → Asks words c → (is : IsWanted (wanted_files c) w)
       → AreHad shelf.texts is.before → ShelfFailed shelf
-      → Cause words shelf 6 [] (unread_text w.file)
+      → Cause words shelf probes 6 [] (unread_text w.file)
   -- the first file that isn't had is absent, or too long
   absent : {c : Command} {w : Wanted} → Asks words c → IsWanted (wanted_files c) w
       → Fetches shelf.texts (wanted_files c) (NoFile w.file)
-      → Cause words shelf 1 [] (refusal_text w.file 1 whole)
+      → Cause words shelf probes 1 [] (refusal_text w.file 1 whole)
   too_long : {c : Command} {w : Wanted} → Asks words c → IsWanted (wanted_files c) w
       → Fetches shelf.texts (wanted_files c) (LongFile w.file w.most)
-      → Cause words shelf 6 [] (too_long_text w.file w.most)
+      → Cause words shelf probes 6 [] (too_long_text w.file w.most)
   -- all files are had, and the listing is no script
-  bad_script : {script listing : List ℕ} {files texts : List (List ℕ)} (e : ScriptErr)
-      → Has words shelf (Replay script files) (listing ∷ texts) → IsRefusedScript listing e
-      → Cause words shelf 10 [] (script_line e)
+  bad_script : {script listing : List ℕ} {watch : Bool} {files texts : List (List ℕ)}
+      (e : ScriptErr)
+      → Has words shelf (Replay script watch files) (listing ∷ texts) → IsRefusedScript listing e
+      → Cause words shelf probes 10 [] (script_line e)
   -- the texts are refused, and the line names the file that the refusal tells
   refused : {files texts : List (List ℕ)} (r : Refusal) → Takes words shelf files texts
       → ComesTo texts (refused_by r)
-      → Cause words shelf 1 [] (refusal_text (name_of files r.file) r.rule r.pos)
+      → Cause words shelf probes 1 [] (refusal_text (name_of files r.file) r.rule r.pos)
   -- the texts have a program, which is run by workers
   ran : {workers budget : ℕ} {log : Bool} {files texts : List (List ℕ)}
       (p : Program) (o : Observation) → Has words shelf (Run workers budget log files) texts
       → ComesTo texts (went p) → IsCompiled p → (seen : Seen workers budget p o)
-      → Cause words shelf o.status o.output
+      → Cause words shelf probes o.status o.output
       (run_report log (names_of p) (script_of workers budget seen.schedule) o)
-  -- or by the script
-  ran_by : {script listing : List ℕ} {files texts : List (List ℕ)} (s : Script) (p : Program)
-      → Has words shelf (Replay script files) (listing ∷ texts) → IsScript listing s
-      → ComesTo texts (went p) → IsCompiled p
-      → Cause words shelf (replay_of p s).status (replay_of p s).output
-      (replay_report (names_of p) s (replay_of p s))
+  -- or by the script, whose events the probes are told where they watch
+  ran_by : {script listing : List ℕ} {watch : Bool} {files texts : List (List ℕ)} (s : Script)
+      (p : Program)
+      → Has words shelf (Replay script watch files) (listing ∷ texts) → IsScript listing s
+      → ComesTo texts (went p) → IsCompiled p → Watched watch (replay_events p s) probes
+      → Cause words shelf probes (replay_of p s).status (replay_of p s).output
+      (replay_report (names_of p) s (replay_of p s) ++ watch_text watch probes)
   -- or told of
   told : {c : Command} {texts : List (List ℕ)} {text : List ℕ} (p : Program)
       → Has words shelf c texts → ComesTo texts (went p) → IsCompiled p → IsToldBy c p text
-      → Cause words shelf 0 text []
+      → Cause words shelf probes 0 text []
 
 -- the status and the texts have a cause, and the sinks got these texts whole
 pub record Answered (call : Call) : Type 0 where
   pub out : List ℕ
   pub err : List ℕ
-  pub cause : Cause call.words call.shelf call.status out err
+  pub cause : Cause call.words call.shelf call.probes call.status out err
   pub on_out : GotWhole call.out out
   pub on_err : GotWhole call.err err
 
@@ -109,5 +113,5 @@ pub record AnsweredInPart (call : Call) : Type 0 where
   pub status : ℕ
   pub out : List ℕ
   pub err : List ℕ
-  pub cause : Cause call.words call.shelf status out err
+  pub cause : Cause call.words call.shelf call.probes status out err
   pub in_part : PutInPart call.out call.err out err

@@ -1,5 +1,6 @@
 pub mod Wanted
 pub mod Call
+pub mod Watched
 pub mod Fetched
 pub mod Report
 pub mod Seen

@@ -1,5 +1,5 @@
 -- What the program promises of every call.
-use Rattle.std.specs.Prelude.{◌≡◌, ◌≤◌, ℕ, ◌⊎◌, ◌↔◌, List, [], ◌∷◌, ◌++◌, length, Bool, true, Some, None}
+use Rattle.std.specs.Prelude.{◌≡◌, ◌≤◌, ℕ, ◌⊎◌, ◌↔◌, List, [], ◌∷◌, ◌++◌, length, Bool, true, false, Some, None}
 use Rattle.aos_base.specs.declared.text.Refusal.{Refusal}
 use Rattle.aos_base.specs.Observation.{Observation}
 use Rattle.aos_typed.specs.Program.{Program}
@@ -18,9 +18,10 @@ use Rattle.aos.specs.Call.{SinkUse, Call, Tells, ShelfFailed, GotWhole, GotNothi
 use Rattle.aos.specs.Call.{IsUndisturbed}
 use Rattle.aos.specs.Fetched.{NoFile, LongFile, Fetches}
 use Rattle.aos.specs.Report.{run_report, replay_report}
-use Rattle.aos.specs.Seen.{Seen, replay_of, script_of}
+use Rattle.aos.specs.Seen.{Seen, replay_of, replay_events, script_of}
 use Rattle.aos.specs.Seen.{EndsWell, EndsWithTrap, IsDead, IsSpent, IsGoing}
 use Rattle.aos.specs.Told.{IsToldBy, IsTelling}
+use Rattle.aos.specs.Watched.{Watched, watch_text}
 use Rattle.aos.specs.Cause.{Has, Takes, Answered, AnsweredInPart}
 
 -- the status of a run that is over: ended without a trap, ended with one, dead, or spent
@@ -69,13 +70,16 @@ module _ (call : Call) where
     pub on_err : GotWhole call.err
         (run_report log (names_of program) (script_of workers budget seen.schedule) observation)
 
-  -- they are those of the execution under a script
-  pub record ShowsReplay (s : Script) (texts : List (List ℕ)) : Type 0 where
+  -- They are those of the execution under a script. Where the probes watch, each was told the events
+  -- of that execution, and their lines stand last.
+  pub record ShowsReplay (watch : Bool) (s : Script) (texts : List (List ℕ)) : Type 0 where
     pub program : Program
     pub comes : ComesTo texts (went program)
     pub status : call.status ≡ (replay_of program s).status
     pub on_out : GotWhole call.out (replay_of program s).output
-    pub on_err : GotWhole call.err (replay_report (names_of program) s (replay_of program s))
+    pub on_err : GotWhole call.err
+        (replay_report (names_of program) s (replay_of program s) ++ watch_text watch call.probes)
+    pub watched : Watched watch (replay_events program s) call.probes
 
   -- the status is 0, and `out` got what the command tells of the texts' program
   pub record ShowsProgram (c : Command) (texts : List (List ℕ)) : Type 0 where
@@ -105,10 +109,11 @@ module _ (call : Call) where
   pub record IsNoScript : Type 0 where
     pub script : List ℕ
     pub listing : List ℕ
+    pub watch : Bool
     pub files : Words
     pub texts : List (List ℕ)
     pub error : ScriptErr
-    pub has : Has call.words call.shelf (Replay script files) (listing ∷ texts)
+    pub has : Has call.words call.shelf (Replay script watch files) (listing ∷ texts)
     pub refused : IsRefusedScript listing error
 
   -- what is seen of the texts' program is such: of the execution that the sinks show, or of that
@@ -117,9 +122,10 @@ module _ (call : Call) where
     in_run : {workers budget : ℕ} {log : Bool} {files texts : List (List ℕ)}
         → Has call.words call.shelf (Run workers budget log files) texts
         → (shown : ShowsTexts workers budget log texts) → Such shown.observation → IsSeen Such
-    in_replay : {script listing : List ℕ} {files texts : List (List ℕ)} (s : Script) (p : Program)
-        → Has call.words call.shelf (Replay script files) (listing ∷ texts) → IsScript listing s
-        → ComesTo texts (went p) → Such (replay_of p s) → IsSeen Such
+    in_replay : {script listing : List ℕ} {watch : Bool} {files texts : List (List ℕ)} (s : Script)
+        (p : Program)
+        → Has call.words call.shelf (Replay script watch files) (listing ∷ texts)
+        → IsScript listing s → ComesTo texts (went p) → Such (replay_of p s) → IsSeen Such
 
   -- the words are a command that tells of programs, whose files are had, and the texts are accepted
   pub record IsTold : Type 0 where
@@ -150,16 +156,18 @@ module _ (call : Call) where
 
   abbrev pub Replays : Type 0
   Replays =
-      (s : Script) (script listing : List ℕ) (files : Words) (texts : List (List ℕ))
-      → IsAsked (Replay script files) (listing ∷ texts) texts → IsScript listing s
-      → IsUndisturbed call → ShowsReplay s texts
+      (s : Script) (script listing : List ℕ) (watch : Bool) (files : Words)
+      (texts : List (List ℕ))
+      → IsAsked (Replay script watch files) (listing ∷ texts) texts → IsScript listing s
+      → IsUndisturbed call → ShowsReplay watch s texts
 
   abbrev pub ReplaysComplete : Type 0
   ReplaysComplete =
-      (s : Script) (script listing : List ℕ) (files : Words) (texts : List (List ℕ))
-      → IsAsked (Replay script files) (listing ∷ texts) texts → IsScript listing s
+      (s : Script) (script listing : List ℕ) (watch : Bool) (files : Words)
+      (texts : List (List ℕ))
+      → IsAsked (Replay script watch files) (listing ∷ texts) texts → IsScript listing s
       → SinksWorked call
-      → (call.status ≡ 8) ⊎ (IsReplayStatus call.status × ShowsReplay s texts)
+      → (call.status ≡ 8) ⊎ (IsReplayStatus call.status × ShowsReplay watch s texts)
 
   abbrev pub TellsPrograms : Type 0
   TellsPrograms =
@@ -208,8 +216,8 @@ LogIsReplayed call =
     (workers budget : ℕ) (files : Words) (texts : List (List ℕ)) (listing : List ℕ)
     → IsAsked call (Run workers budget true files) texts texts → IsUndisturbed call
     → GotJust call.err listing
-    → (again : Call) (script : List ℕ) (others : Words) → ReplaysComplete again
-    → IsAsked again (Replay script others) (listing ∷ texts) texts → SinksWorked again
+    → (again : Call) (script : List ℕ) (watch : Bool) (others : Words) → ReplaysComplete again
+    → IsAsked again (Replay script watch others) (listing ∷ texts) texts → SinksWorked again
     → (again.status ≡ 8) ⊎ IsSame call again
 
 -- what `aos` promises
@@ -223,7 +231,8 @@ pub record Promises (call : Call) : Type 0 where
   pub headline : Headline call
   -- and where no count rose, that is the answer, or memory was wanted
   pub complete : Complete call
-  -- by a script: they are those of the execution of the texts' program under the script
+  -- by a script: they are those of the execution of the texts' program under the script; where the
+  -- probes watch, each was told its events, and else none was told any
   pub replays : Replays call
   -- and where no count rose, that is the answer, or memory was wanted
   pub replays_complete : ReplaysComplete call
@@ -264,3 +273,23 @@ pub record Promises (call : Call) : Type 0 where
   -- holds, up to the waiter's next turn, it owns the lock; and its condition, if it is local, still
   -- holds
   pub conditions : KeepsConditions call
+
+-- both calls have one status, and put the same on both sinks
+pub record IsAlike (a b : Call) : Type 0 where
+  pub out : List ℕ
+  pub err : List ℕ
+  pub out_of_a : GotWhole a.out out
+  pub out_of_b : GotWhole b.out out
+  pub err_of_a : GotWhole a.err err
+  pub err_of_b : GotWhole b.err err
+  pub status : b.status ≡ a.status
+
+-- Without `--watch` no byte and no status of a replay depends on the probes: two calls over the same
+-- script and the same texts are alike, whatever probes they were handed.
+abbrev pub ProbesDontMatter : Type 0
+ProbesDontMatter =
+    (a b : Call) (s : Script) (script script' listing : List ℕ) (files files' : Words)
+    (texts : List (List ℕ)) → Promises a → Promises b
+    → IsAsked a (Replay script false files) (listing ∷ texts) texts
+    → IsAsked b (Replay script' false files') (listing ∷ texts) texts → IsScript listing s
+    → IsUndisturbed a → IsUndisturbed b → IsAlike a b

@@ -1,6 +1,7 @@
 -- What is seen of a program's execution.
 use Rattle.std.specs.Prelude.{◌≡◌, ◌≢◌, ℕ, List, []}
 use Rattle.aos_base.specs.declared.kernel.Outcome.TheVariants.{Going, Ended, Dead, Spent}
+use Rattle.aos_base.specs.declared.kernel.Event.{Event}
 use Rattle.aos_base.specs.declared.kernel.Sched.{Sched}
 use Rattle.aos_base.specs.Machine.{Choice, execution}
 use Rattle.aos_base.specs.Observation.{Observation, observation}
@@ -20,6 +21,15 @@ seen_of p budget schedule =
 -- that under a script, with its budget
 abbrev pub replay_of : Program → Script → Observation
 replay_of p s = seen_of p s.budget (choices_of s)
+
+-- the events of the program's execution under a schedule, with a budget
+unfoldable pub events_of : Program → ℕ → List Choice → List Event
+events_of p budget schedule =
+    (execution (source p) schedule (first_state p budget)).book.events
+
+-- those under a script, with its budget
+abbrev pub replay_events : Program → Script → List Event
+replay_events p s = events_of p s.budget (choices_of s)
 
 -- a schedule, written as entries, of so many workers with a budget, as a script
 abbrev pub script_of : (workers budget : ℕ) → List Sched → Script

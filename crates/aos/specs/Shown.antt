@@ -1,8 +1,9 @@
 -- Answers that show an image's run: for proofs and private functions alone.
-use Rattle.std.specs.Prelude.{◌≡◌, ◌≢◌, ℕ, ◌≤◌, ◌^◌, List, [], ◌∷◌, length, map, All, Bool}
+use Rattle.std.specs.Prelude.{◌≡◌, ◌≢◌, ℕ, ◌≤◌, ◌^◌, List, [], ◌∷◌, ◌++◌, length, map, All, Bool}
 use Rattle.std.specs.Prelude.{string_bytes, Vec}
 use Rattle.std.specs.declared.alloc.Global.{Global}
 use Rattle.aos_base.specs.declared.text.Refusal.{Refusal}
+use Rattle.aos_base.specs.declared.kernel.Event.{Event}
 use Rattle.aos_base.specs.declared.kernel.Outcome.TheVariants.{Going}
 use Rattle.aos_base.specs.declared.kernel.Sched.{Sched}
 use Rattle.aos_base.specs.Book.{TrapRow}
@@ -38,12 +39,13 @@ use Rattle.aos.specs.declared.fetch.FetchedFile.TheVariants.{Stopped as FileStop
 use Rattle.aos.specs.declared.fetch.FetchedFiles.{FetchedFiles}
 use Rattle.aos.specs.declared.fetch.FetchedFiles.TheVariants.{Texts as FilesTexts}
 use Rattle.aos.specs.declared.fetch.FetchedFiles.TheVariants.{Stopped as FilesStopped}
-use Rattle.aos.specs.Call.{ShelfUse, SinkUse, ShelfFailed, GotWhole}
+use Rattle.aos.specs.Call.{ShelfUse, SinkUse, ProbesUse, ShelfFailed, GotWhole}
 use Rattle.aos.specs.Wanted.{Wanted, wanted_files, IsWanted, name_of, text_limit}
 use Rattle.aos.specs.Fetched.{NoFile, LongFile, Fetches, AreHad, Had}
 use Rattle.aos.specs.Report.{report, run_report, replay_report}
 use Rattle.aos.specs.Seen.{script_of}
 use Rattle.aos.specs.Told.{IsToldBy}
+use Rattle.aos.specs.Watched.{Watched, watch_text}
 use Rattle.aos.specs.Cause.{IsCompiled, Cause, PutInPart, whole}
 
 -- What is seen of an image and of a kernel
@@ -65,6 +67,11 @@ pub record SeenOf (workers budget : ℕ) (image : Image) (o : Observation) : Typ
 -- that under a script, with its budget
 abbrev pub image_replay_of : Image → Script → Observation
 image_replay_of image s = image_seen_of image s.budget (choices_of s)
+
+-- the events of the image's execution under a script, with its budget
+unfoldable pub image_events_of : Image → Script → List Event
+image_events_of image s =
+    (execution (machine image) (choices_of s) (first_state image s.budget)).book.events
 
 -- the observation of a kernel's state
 unfoldable pub kernel_seen_of : KernelRun → Observation
@@ -144,24 +151,35 @@ pub record TellsLog (log : Bool) (r : KernelRun) (a : Answer) : Type 0 where
   pub out : a.out.items ≡ (kernel_seen_of r).output
   pub err : a.err.items ≡ run_report log (names_in r.image) (script_in r) (kernel_seen_of r)
 
--- the run is that by the script
-pub record ShowsReplayOf (image : Image) (s : Script) (a : Answer) : Type 0 where
+-- the run is that by the script, whose events the probes were told where they watch
+pub record ShowsReplayOf (image : Image) (s : Script) (watch : Bool) (probes : ProbesUse)
+    (a : Answer) : Type 0 where
   pub status : a.status ≡ (image_replay_of image s).status
   pub out : a.out.items ≡ (image_replay_of image s).output
-  pub err : a.err.items ≡ replay_report (names_in image) s (image_replay_of image s)
+  pub err : a.err.items
+      ≡ replay_report (names_in image) s (image_replay_of image s) ++ watch_text watch probes
+  pub watched : Watched watch (image_events_of image s) probes
 
 -- an answer that has a cause
-abbrev pub Causes : Words → ShelfUse → Answer → Type 0
-Causes words shelf a = Cause words shelf a.status a.out.items a.err.items
+abbrev pub Causes : Words → ShelfUse → ProbesUse → Answer → Type 0
+Causes words shelf probes a = Cause words shelf probes a.status a.out.items a.err.items
 
 -- it has one wherever the words are this command
+abbrev pub ServesWith : Command → ShelfUse → ProbesUse → Answer → Type 0
+ServesWith c shelf probes a = (words : Words) → Asks words c → Causes words shelf probes a
+
+-- whatever becomes of the probes
 abbrev pub Serves : Command → ShelfUse → Answer → Type 0
-Serves c shelf a = (words : Words) → Asks words c → Causes words shelf a
+Serves c shelf a = (probes : ProbesUse) → ServesWith c shelf probes a
 
 -- and the files that it wants have these texts
 abbrev pub ServesTexts : Command → List (List ℕ) → Answer → Type 0
 ServesTexts c all a =
     (shelf : ShelfUse) → Had shelf.texts (wanted_files c) all → Serves c shelf a
+
+abbrev pub ServesTextsWith : Command → List (List ℕ) → ProbesUse → Answer → Type 0
+ServesTextsWith c all probes a =
+    (shelf : ShelfUse) → Had shelf.texts (wanted_files c) all → ServesWith c shelf probes a
 
 -- texts as lists of bytes
 abbrev pub texts_of : List (Vec ℕ Global) → List (List ℕ)

@@ -23,13 +23,13 @@ IsLayoutOf p text = text ≡ lines_text (listing p)
 -- what a command tells of a program; one that runs it tells nothing so
 abbrev pub IsToldBy : Command → Program → List ℕ → Type 0
 IsToldBy (Run workers budget log files) p text = ⊥
-IsToldBy (Replay script files) p text = ⊥
+IsToldBy (Replay script watch files) p text = ⊥
 IsToldBy (Check files) p text = IsCheckOf p text
 IsToldBy (List_ files) p text = IsLayoutOf p text
 
 -- a command that tells of programs, and runs nothing
 abbrev pub IsTelling : Command → Type 0
 IsTelling (Run workers budget log files) = ⊥
-IsTelling (Replay script files) = ⊥
+IsTelling (Replay script watch files) = ⊥
 IsTelling (Check files) = Unit {0}
 IsTelling (List_ files) = Unit {0}

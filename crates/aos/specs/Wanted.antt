@@ -26,7 +26,7 @@ script_file file = record { file = file; most = script_limit }
 -- the files that a command wants, in the order in which they are fetched
 abbrev pub wanted_files : Command → List Wanted
 wanted_files (Run workers budget log files) = text_files files
-wanted_files (Replay script files) = script_file script ∷ text_files files
+wanted_files (Replay script watch files) = script_file script ∷ text_files files
 wanted_files (Check files) = text_files files
 wanted_files (List_ files) = text_files files
 

@@ -1,14 +1,14 @@
 // From the words and the shelf to an answer.
 
-ghost use Rattle.std.specs.Prelude.{◌≡◌, ◌≤◌, ◌^◌, [], ◌∷◌, length, IfOk};
+ghost use Rattle.std.specs.Prelude.{◌≡◌, ◌≤◌, ◌^◌, [], ◌∷◌, length, map, IfOk};
 ghost use Rattle.aos_script.specs.Listing.{IsScript};
 ghost use Rattle.aos_words.specs.Words.{Run, Replay, words_of, borrowed, AreFew, IsInRange};
 ghost use Rattle.aos_words.specs.Shown.{command_in};
-ghost use Rattle.aos.specs.Call.{shelf_use};
+ghost use Rattle.aos.specs.Call.{shelf_use, probes_use};
 ghost use Rattle.aos.specs.Wanted.{script_limit};
 ghost use Rattle.aos.specs.Report.{script_line};
 ghost use Rattle.aos.specs.Shown.{IsAnswer, IsSet, texts_of, AreTexts, asks_for};
-ghost use Rattle.aos.specs.Shown.{Causes, Serves, ServesTexts};
+ghost use Rattle.aos.specs.Shown.{Causes, Serves, ServesWith, ServesTexts, ServesTextsWith};
 
 use crate::answer::{Answer, message};
 use crate::compiled::{Compiled, compile_texts};
@@ -18,6 +18,7 @@ use crate::telling::{Telling, tell_program};
 use aos_base::NoMemory;
 use aos_dev::Shelf;
 use aos_gate::Gate;
+use aos_probe::Probe;
 use aos_report::{no_worker, script_refused, usage};
 use aos_script::{Script, ScriptErr, read_script};
 use aos_words::{Command, WordsErr, read_words};
@@ -86,19 +87,22 @@ fn run_files<R: Threads + Wait + Sync, F: Shelf, G: Gate + Sync>(
 fn replay_texts(
     alloc: Global,
     name: &str,
+    watch: bool,
     listing: &[u8],
     script: &Script,
     files: &[&str],
     texts: &[Vec<u8>],
+    probes: &mut Vec<Box<dyn Probe>>,
 ) -> Result<Answer, NoMemory>
     requires texts { AreTexts texts.now }
     requires read { IsScript listing.now script.now }
     requires runs { length script.now.runs ≤ 2 ^ 27 }
-    ensures { IfOk result (ServesTexts
-        (Replay name.now (borrowed files.now)) (listing.now ∷ texts_of texts.now)) }
+    ensures { IfOk result (ServesTextsWith
+        (Replay name.now watch (borrowed files.now)) (listing.now ∷ texts_of texts.now) (probes_use
+        (map (λ p. seen p) probes.old.items) (map (λ p. seen p) probes.new.items))) }
 {
     match compile_texts(alloc, files, texts)? {
-        Compiled::Went(program, image) => replay_image(alloc, image, script),
+        Compiled::Went(program, image) => replay_image(alloc, image, script, watch, probes),
         Compiled::Stopped(answer) => Ok(answer),
     }
 }
@@ -107,17 +111,20 @@ fn replay_texts(
 fn replay_listing(
     alloc: Global,
     name: &str,
+    watch: bool,
     listing: &[u8],
     files: &[&str],
     texts: &[Vec<u8>],
+    probes: &mut Vec<Box<dyn Probe>>,
 ) -> Result<Answer, NoMemory>
     requires texts { AreTexts texts.now }
     requires script { length listing.now ≤ script_limit }
-    ensures { IfOk result (ServesTexts
-        (Replay name.now (borrowed files.now)) (listing.now ∷ texts_of texts.now)) }
+    ensures { IfOk result (ServesTextsWith
+        (Replay name.now watch (borrowed files.now)) (listing.now ∷ texts_of texts.now) (probes_use
+        (map (λ p. seen p) probes.old.items) (map (λ p. seen p) probes.new.items))) }
 {
     match read_script(alloc, listing) {
-        Ok(script) => replay_texts(alloc, name, listing, &script, files, texts),
+        Ok(script) => replay_texts(alloc, name, watch, listing, &script, files, texts, probes),
         Err(e) => refuse_script(alloc, e),
     }
 }
@@ -126,12 +133,15 @@ fn replay_listing(
 fn replay_files<F: Shelf>(
     alloc: Global,
     name: &str,
+    watch: bool,
     files: &[&str],
     shelf: &mut F,
+    probes: &mut Vec<Box<dyn Probe>>,
 ) -> Result<Answer, NoMemory>
     requires { AreFew (borrowed files.now) }
-    ensures { IfOk result (Serves
-        (Replay name.now (borrowed files.now)) (shelf_use F.Shelf shelf.old shelf.new)) }
+    ensures { IfOk result (ServesWith
+        (Replay name.now watch (borrowed files.now)) (shelf_use F.Shelf shelf.old shelf.new) (probes_use
+        (map (λ p. seen p) probes.old.items) (map (λ p. seen p) probes.new.items))) }
 {
     let listing = match fetch_file(alloc, name, SCRIPT_LIMIT, shelf)? {
         FetchedFile::Text(listing) => listing,
@@ -141,7 +151,7 @@ fn replay_files<F: Shelf>(
         FetchedFiles::Texts(texts) => texts,
         FetchedFiles::Stopped(answer) => return Ok(answer),
     };
-    replay_listing(alloc, name, &listing, files, &texts)
+    replay_listing(alloc, name, watch, &listing, files, &texts, probes)
 }
 
 // The answer for files that have these texts, where the words ask to tell of their program.
@@ -184,11 +194,13 @@ fn serve<R: Threads + Wait + Sync, F: Shelf, G: Gate + Sync>(
     alloc: Global,
     command: Command<'_>,
     shelf: &mut F,
+    probes: &mut Vec<Box<dyn Probe>>,
     gate: &G,
 ) -> Result<Answer, NoMemory>
     requires { IsInRange (command_in command) }
     ensures { IfOk result
-        (Serves (command_in command.entry) (shelf_use F.Shelf shelf.old shelf.new)) }
+        (ServesWith (command_in command.entry) (shelf_use F.Shelf shelf.old shelf.new) (probes_use
+        (map (λ p. seen p) probes.old.items) (map (λ p. seen p) probes.new.items))) }
 {
     match command {
         Command::Run {
@@ -204,25 +216,32 @@ fn serve<R: Threads + Wait + Sync, F: Shelf, G: Gate + Sync>(
             };
             run_files(rt, alloc, setting, &files, shelf, gate)
         }
-        Command::Replay { script, files } => replay_files(alloc, script, &files, shelf),
+        Command::Replay {
+            script,
+            watch,
+            files,
+        } => replay_files(alloc, script, watch, &files, shelf, probes),
         Command::Check(files) => tell_files(alloc, Telling::Locals, &files, shelf),
         Command::List(files) => tell_files(alloc, Telling::Layout, &files, shelf),
     }
 }
 
-/// The answer to the words, from the shelf's texts. Want of memory is the only error.
+/// The answer to the words, from the shelf's texts; the probes are told the events of a run by a
+/// script where the words say so. Want of memory is the only error.
 pub fn answer<R: Threads + Wait + Sync, F: Shelf, G: Gate + Sync>(
     rt: &R,
     alloc: Global,
     words: &[String],
     shelf: &mut F,
+    probes: &mut Vec<Box<dyn Probe>>,
     gate: &G,
 ) -> Result<Answer, NoMemory>
     ensures { IfOk result
-        (Causes (words_of words.now) (shelf_use F.Shelf shelf.old shelf.new)) }
+        (Causes (words_of words.now) (shelf_use F.Shelf shelf.old shelf.new) (probes_use
+        (map (λ p. seen p) probes.old.items) (map (λ p. seen p) probes.new.items))) }
 {
     match read_words(alloc, words) {
-        Ok(command) => serve(rt, alloc, command, shelf, gate),
+        Ok(command) => serve(rt, alloc, command, shelf, probes, gate),
         Err(WordsErr::Refused) => Ok(message(alloc, 2, usage(alloc)?)),
         Err(WordsErr::NoMemory) => Err(NoMemory),
     }

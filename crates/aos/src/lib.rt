@@ -5,9 +5,11 @@ mod answer;
 mod command;
 mod compiled;
 mod fetch;
+mod law;
 mod run;
 mod telling;
 pub mod top;
 mod write;
 
+pub use law::probes_dont_matter;
 pub use top::aos;

@@ -1,10 +1,13 @@
 // An image's run, and what is seen of it.
 
-ghost use Rattle.std.specs.Prelude.{[], ◌≡◌, map, IfOk};
+ghost use Rattle.std.specs.Prelude.{[], ◌≡◌, List, map, true, false, IfOk};
 ghost use Rattle.std.specs.Arc.{arc_value};
 ghost use Rattle.aos_base.specs.Observation.{status_of};
-ghost use Rattle.aos_report.specs.Texts.{rows_text, waits_text};
+ghost use Rattle.aos_probe.specs.Meaning.{Seen};
+ghost use Rattle.aos_probe.specs.Told.{total_of};
+ghost use Rattle.aos_report.specs.Texts.{rows_text, waits_text, probes_text};
 ghost use Rattle.aos_script.specs.Print.{IsPrintable};
+ghost use Rattle.aos.specs.Call.{probes_use};
 ghost use Rattle.aos.specs.Report.{spent_text, ended_text, log_text};
 ghost use Rattle.aos.specs.Shown.{row_of, wait_row_of, module_names, names_in, kernel_seen_of};
 ghost use Rattle.aos.specs.Shown.{script_in, IsSet, IsReady};
@@ -15,8 +18,9 @@ use aos_base::{NoMemory, Outcome};
 use aos_code::{Image, ModuleDesc, TrapRec, WaitRec};
 use aos_gate::Gate;
 use aos_kernel::Kernel;
+use aos_probe::{Probe, totals};
 use aos_replay::replay;
-use aos_report::{budget_line, script_ended, trap_line, wait_line};
+use aos_report::{budget_line, probe_lines, script_ended, trap_line, wait_line};
 use aos_script::{Runs, Script, print_script};
 use aos_workers::run;
 use std::alloc::Global;
@@ -195,30 +199,94 @@ pub fn run_image<R: Threads + Wait + Sync, G: Gate + Sync>(
     run_kernel(rt, alloc, kernel, setting.log, gate)
 }
 
-// Drives a kernel in which nothing has happened yet by a script, and tells what is seen.
-fn replay_all(alloc: Global, kernel: &mut Kernel, script: &Script) -> Result<Answer, NoMemory>
+// The lines of the probes, in their order.
+fn watch_lines(alloc: Global, probes: &[Box<dyn Probe>]) -> Result<Vec<u8>, NoMemory>
+    ensures { IfOk result (λ lines.
+        lines.items ≡ probes_text 0 (map total_of (map (λ p. seen p) probes.now))) }
+{
+    probe_lines(alloc, &totals(alloc, probes)?)
+}
+
+// Drives a kernel in which nothing has happened yet by a script, and tells what is seen and what the
+// probes saw.
+fn replay_all(
+    alloc: Global,
+    kernel: &mut Kernel,
+    script: &Script,
+    probes: &mut Vec<Box<dyn Probe>>,
+) -> Result<Answer, NoMemory>
     requires script { IsReady script.now }
     requires first { kernel.old ≡ record kernel.old {
       workers = script.now.workers;
       budget = script.now.budget;
       log = [];
     } }
-    ensures { IfOk result (ShowsReplayOf kernel.old.image script.now) }
+    ensures { IfOk result (ShowsReplayOf kernel.old.image script.now true (probes_use
+        (map (λ p. seen p) probes.old.items) (map (λ p. seen p) probes.new.items))) }
 {
-    replay(kernel, script)?;
+    replay(kernel, script, probes)?;
     let outcome = kernel.outcome();
     let mut answer = answer_of(alloc, kernel)?;
     let ended = ended_line(alloc, outcome, script.steps())?;
     answer.err.extend_from_slice(&ended)?;
+    let lines = watch_lines(alloc, probes.as_slice())?;
+    answer.err.extend_from_slice(&lines)?;
     Ok(answer)
 }
 
-/// Runs an image by a script, with its workers and its budget.
-pub fn replay_image(alloc: Global, image: Image, script: &Script) -> Result<Answer, NoMemory>
+// The same where no probe watches.
+fn replay_unwatched(alloc: Global, kernel: &mut Kernel, script: &Script) -> Result<Answer, NoMemory>
+    requires script { IsReady script.now }
+    requires first { kernel.old ≡ record kernel.old {
+      workers = script.now.workers;
+      budget = script.now.budget;
+      log = [];
+    } }
+    ensures { IfOk result (λ a. (probes : List Seen) →
+        ShowsReplayOf kernel.old.image script.now false (probes_use probes probes) a) }
+{
+    let mut none: Vec<Box<dyn Probe>> = Vec::new(alloc);
+    replay_all(alloc, kernel, script, &mut none)
+}
+
+// Drives a kernel in which nothing has happened yet by a script, and tells what is seen, and what the
+// probes saw where they watch. Where they don't, no function that is called has them.
+fn replay_by(
+    alloc: Global,
+    kernel: &mut Kernel,
+    script: &Script,
+    watch: bool,
+    probes: &mut Vec<Box<dyn Probe>>,
+) -> Result<Answer, NoMemory>
+    requires script { IsReady script.now }
+    requires first { kernel.old ≡ record kernel.old {
+      workers = script.now.workers;
+      budget = script.now.budget;
+      log = [];
+    } }
+    ensures { IfOk result (ShowsReplayOf kernel.old.image script.now watch (probes_use
+        (map (λ p. seen p) probes.old.items) (map (λ p. seen p) probes.new.items))) }
+{
+    if watch {
+        return replay_all(alloc, kernel, script, probes);
+    }
+    replay_unwatched(alloc, kernel, script)
+}
+
+/// Runs an image by a script, with its workers and its budget. Where the probes watch they are told
+/// its events, and else none is told any.
+pub fn replay_image(
+    alloc: Global,
+    image: Image,
+    script: &Script,
+    watch: bool,
+    probes: &mut Vec<Box<dyn Probe>>,
+) -> Result<Answer, NoMemory>
     requires { IsReady script.now }
-    ensures { IfOk result (ShowsReplayOf image script.now) }
+    ensures { IfOk result (ShowsReplayOf image script.now watch (probes_use
+        (map (λ p. seen p) probes.old.items) (map (λ p. seen p) probes.new.items))) }
 {
     let image = shared_image(alloc, image)?;
     let mut kernel = Kernel::new(alloc, image, script.workers, script.budget)?;
-    replay_all(alloc, &mut kernel, script)
+    replay_by(alloc, &mut kernel, script, watch, probes)
 }

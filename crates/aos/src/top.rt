@@ -1,8 +1,8 @@
 // The top call.
 
-ghost use Rattle.std.specs.Prelude.{◌≡◌, ◌≢◌};
+ghost use Rattle.std.specs.Prelude.{◌≡◌, ◌≢◌, map};
 ghost use Rattle.aos_words.specs.Words.{words_of};
-ghost use Rattle.aos.specs.Call.{Call, shelf_use, sink_use};
+ghost use Rattle.aos.specs.Call.{Call, shelf_use, sink_use, probes_use};
 ghost use Rattle.aos.specs.Promises.{Promises};
 ghost use Rattle.aos.specs.Shown.{IsWhole, IsStopped};
 
@@ -14,6 +14,7 @@ use aos_compile::law_of_typing;
 use aos_dev::{Put, Shelf, Sink};
 use aos_gate::Gate;
 use aos_lasting::conditions_last;
+use aos_probe::Probe;
 use aos_sim::program_has_monitors;
 use std::alloc::Global;
 use std::sync::Wait;
@@ -47,10 +48,11 @@ fn put_answer<O: Sink, E: Sink>(answer: &Answer, out: &mut O, err: &mut E) -> u8
 /// shelf gives the files' texts, in this order, the texts are checked, compiled and run by 1 to 16
 /// workers, each in a thread of its own, which passes the gate before each of its rounds; what the
 /// run wrote goes to `out`, and its reports to `err`, with `--log` followed by the script of its
-/// schedule. `replay --script S FILE ..`: the same, but the run goes by the script, with its workers
-/// and its budget, on one thread. `check FILE ..`: the texts are checked and compiled, and `out` gets
-/// a line for each AWAIT, which says whether its condition is local. `list FILE ..`: it gets the
-/// storage layout.
+/// schedule. `replay --script S [--watch] FILE ..`: the same, but the run goes by the script, with
+/// its workers and its budget, on one thread; with `--watch` the probes are told its events, each
+/// once and as it happens, and a line for each probe with its total follows the reports.
+/// `check FILE ..`: the texts are checked and compiled, and `out` gets a line for each AWAIT, which
+/// says whether its condition is local. `list FILE ..`: it gets the storage layout.
 ///
 /// The status is 0 where the run ended or the program was told of, 3 where the run ended with a trap,
 /// 4 where activities are left that haven't ended and each of them waits for a lock, to enter a
@@ -65,6 +67,7 @@ pub fn aos<R: Threads + Wait + Sync, F: Shelf, O: Sink, E: Sink, G: Gate + Sync>
     shelf: &mut F,
     out: &mut O,
     err: &mut E,
+    probes: &mut Vec<Box<dyn Probe>>,
     gate: &G,
 ) -> u8
     // Each promise has a name and a line in specs/Promises.antt.
@@ -73,6 +76,8 @@ pub fn aos<R: Threads + Wait + Sync, F: Shelf, O: Sink, E: Sink, G: Gate + Sync>
       shelf = shelf_use F.Shelf shelf.old shelf.new;
       out = sink_use O.Sink out.old out.new;
       err = sink_use E.Sink err.old err.new;
+      probes = probes_use
+          (map (λ p. seen p) probes.old.items) (map (λ p. seen p) probes.new.items);
       status = result;
     } in Promises call }
 {
@@ -80,7 +85,7 @@ pub fn aos<R: Threads + Wait + Sync, F: Shelf, O: Sink, E: Sink, G: Gate + Sync>
     program_has_monitors();
     conditions_last();
     law_of_typing();
-    match answer(rt, alloc, words, shelf, gate) {
+    match answer(rt, alloc, words, shelf, probes, gate) {
         Ok(answer) => put_answer(&answer, out, err),
         Err(NoMemory) => NO_MEMORY,
     }

@@ -29,7 +29,14 @@ fn text_of(alloc: Global, command: &Command<'_>) -> Result<String, AllocError> {
             let log = if *log { "log " } else { "" };
             format!(in alloc; "run {workers} {budget} {log}{files:?}")
         }
-        Command::Replay { script, files } => format!(in alloc; "replay {script:?} {files:?}"),
+        Command::Replay {
+            script,
+            watch,
+            files,
+        } => {
+            let watch = if *watch { "watch " } else { "" };
+            format!(in alloc; "replay {script:?} {watch}{files:?}")
+        }
         Command::Check(files) => format!(in alloc; "check {files:?}"),
         Command::List(files) => format!(in alloc; "list {files:?}"),
     }

@@ -5,6 +5,7 @@ use crate::stop::Stop;
 use aos_base::{NoMemory, Sched};
 use aos_code::Image;
 use aos_kernel::{Kernel, Stepped};
+use aos_probe::Probe;
 use aos_replay::replay;
 use aos_script::{Script, read_script};
 use std::alloc::{AllocError, Global};
@@ -49,7 +50,8 @@ pub fn replayed(alloc: Global, image: Arc<Image>, text: &str) -> Result<Box<Kern
         return Err(Stop::Malformed("malformed: the script is refused"));
     };
     let mut kernel = Kernel::new(alloc, image, script.workers, script.budget)?;
-    replay(&mut kernel, &script)?;
+    let mut none: Vec<Box<dyn Probe>> = Vec::new(alloc);
+    replay(&mut kernel, &script, &mut none)?;
     Ok(kernel)
 }
 

@@ -1,9 +1,10 @@
-//! The program: it makes the real shelf, sinks and gate, hands the words in, and ends with the status.
+//! The program: it makes the real shelf, sinks, probes and gate, hands the words in, and ends with the status.
 #![tactic(auto)]
 
 use aos::aos;
 use aos_dev::{FileShelf, StdSink};
 use aos_gate::OpenGate;
+use aos_probe::{Counter, EventKind, Probe};
 use std::process::ExitCode;
 use std::rt::Env;
 use std::{env, io};
@@ -24,6 +25,14 @@ fn main(rt: HostRuntime) -> ExitCode {
     let Ok(words) = given_words(&rt) else {
         return ExitCode::from(NO_MEMORY);
     };
+    // The probes of a replay: one, which counts the passes of locks.
+    let Ok(counter) = Box::new(rt.alloc(), Counter::new(EventKind::Pass)) else {
+        return ExitCode::from(NO_MEMORY);
+    };
+    let mut probes: Vec<Box<dyn Probe>> = Vec::new(rt.alloc());
+    let Ok(()) = probes.push(counter) else {
+        return ExitCode::from(NO_MEMORY);
+    };
     let mut shelf = FileShelf::new(&rt);
     let mut out = StdSink::new(rt.stdout());
     let mut err = StdSink::new(rt.stderr());
@@ -34,6 +43,7 @@ fn main(rt: HostRuntime) -> ExitCode {
         &mut shelf,
         &mut out,
         &mut err,
+        &mut probes,
         &OpenGate,
     ))
 }

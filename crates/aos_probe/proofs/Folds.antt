@@ -9,7 +9,7 @@ pub after_all-append : (ds es : List Event) (ps : List Seen) → after_all (ds +
 after_all-append [] es ps = refl
 after_all-append (d ∷ ds) es ps = after_all-append ds es (after d ps)
 
-none_left : (es : List Event) → after_all es [] ≡ []
+pub none_left : (es : List Event) → after_all es [] ≡ []
 none_left [] = refl
 none_left (e ∷ es) = none_left es
 

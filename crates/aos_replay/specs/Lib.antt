@@ -1,2 +1,3 @@
 pub mod Continues
+pub mod Told
 pub mod Laws

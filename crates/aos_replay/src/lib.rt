@@ -1,4 +1,4 @@
-//! A kernel driven by a script: the steps and ticks that the script says, in its order.
+//! A kernel driven by a script: the steps and ticks that the script says, in its order, whose events probes are told.
 #![tactic(auto)]
 
 mod entry;

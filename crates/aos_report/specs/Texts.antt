@@ -1,5 +1,5 @@
 -- The lines that the program writes beside a run's output, and those of `check` and `list`. Each ends with the byte 10; numbers are decimal.
-use Rattle.std.specs.Prelude.{ℕ, List, [], ◌∷◌, ◌++◌, codes, decimal, slice_get, unwrap_or, Bool, true, false, ◌==◌, ◌||◌, if◌then◌else◌}
+use Rattle.std.specs.Prelude.{ℕ, ◌+◌, List, [], ◌∷◌, ◌++◌, codes, decimal, slice_get, unwrap_or, Bool, true, false, ◌==◌, ◌||◌, if◌then◌else◌}
 use Rattle.std.specs.List.{flat_map}
 use Rattle.aos_base.specs.declared.text.Pos.{Pos}
 use Rattle.aos_base.specs.declared.kernel.LockName.{LockName}
@@ -130,6 +130,15 @@ budget_text activity budget = codes "activity " ++ decimal activity ++ codes " b
 -- a script came to its end while the run was going on
 abbrev pub script_ended_text : (steps : ℕ) → List ℕ
 script_ended_text steps = codes "script ended after " ++ decimal steps ++ codes " steps\n"
+
+-- probe I T
+abbrev pub probe_text : (number total : ℕ) → List ℕ
+probe_text number total = codes "probe " ++ decimal number ++ codes " " ++ decimal total ++ codes "\n"
+
+-- the lines of probes with these totals, numbered from the first
+abbrev pub probes_text : (first : ℕ) → (totals : List ℕ) → List ℕ
+probes_text first [] = []
+probes_text first (total ∷ totals) = probe_text first total ++ probes_text (first + 1) totals
 
 -- this line of a script isn't what may stand there
 abbrev pub script_refused_text : (line : ℕ) → List ℕ

@@ -238,6 +238,29 @@ pub fn script_ended(alloc: Global, steps: u64) -> Result<Vec<u8>, NoMemory>
     Ok(line)
 }
 
+fn put_probe(text: &mut Vec<u8>, number: u64, total: u64) -> Result<(), NoMemory>
+    ensures { OnOk result (text.new.items ≡ text.old.items ++ report.probe_text number total) }
+{
+    put(text, "probe ")?;
+    put_number(text, number)?;
+    put(text, " ")?;
+    put_number(text, total)?;
+    put(text, "\n")
+}
+
+/// The lines of probes with these totals: `probe I T` for each, in their order, with I counted from 0.
+pub fn probe_lines(alloc: Global, totals: &[u64]) -> Result<Vec<u8>, NoMemory>
+    ensures { IfOk result (λ text. text.items ≡ report.probes_text 0 totals.now) }
+{
+    let mut text = Vec::new(alloc);
+    let mut i = 0;
+    while i < totals.len() {
+        put_probe(&mut text, i as u64, totals[i])?;
+        i += 1;
+    }
+    Ok(text)
+}
+
 /// The line for a script whose line of this number isn't what may stand there.
 pub fn script_refused(alloc: Global, number: u32) -> Result<Vec<u8>, NoMemory>
     ensures { IfOk result (λ line. line.items ≡ script_refused_text number) }

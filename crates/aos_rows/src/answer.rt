@@ -4,11 +4,13 @@ ghost use Rattle.std.specs.Prelude.{◌≡◌, ◌≢◌, OnOk, string_len};
 ghost use Rattle.aos_dev.specs.MemSink.{sink_bytes};
 
 use crate::given::{replay_words, shelf_by, shelf_of, sink_fails, wanted, words_of};
+use crate::probes::Restless;
 use aos::aos;
 use aos_base::NoMemory;
 use aos_cases::{Section, tell};
 use aos_dev::{MemShelf, MemSink, NoFailSink};
 use aos_gate::{Gate, MeetGate, OpenGate};
+use aos_probe::{Counter, EventKind, Probe};
 use std::alloc::{AllocError, Global};
 use std::sync::Wait;
 use std::thread::Threads;
@@ -27,7 +29,8 @@ struct Answer {
     err: MemSink,
 }
 
-// The top call. It has no clause, so that no other proof looks at what `aos` promises, where nothing is shown of it.
+// The top call over two probes: one that counts all events and would leave at each, and behind it one that counts the
+// passes. It has no clause, so that no other proof looks at what `aos` promises, where nothing is shown of it.
 fn status_of<R: Threads + Wait + Sync, G: Gate + Sync>(
     rt: &R,
     alloc: Global,
@@ -35,8 +38,11 @@ fn status_of<R: Threads + Wait + Sync, G: Gate + Sync>(
     shelf: &mut MemShelf,
     (out, err): (&mut MemSink, &mut MemSink),
     gate: &G,
-) -> u8 {
-    aos(rt, alloc, words, shelf, out, err, gate)
+) -> Result<u8, AllocError> {
+    let mut probes: Vec<Box<dyn Probe>> = Vec::new(alloc);
+    probes.push(Box::new(alloc, Restless::new())?)?;
+    probes.push(Box::new(alloc, Counter::new(EventKind::Pass))?)?;
+    Ok(aos(rt, alloc, words, shelf, out, err, &mut probes, gate))
 }
 
 // Its status over sinks that keep nothing, and never fail.
@@ -50,7 +56,10 @@ fn status_unkept<R: Threads + Wait + Sync>(
 {
     let mut out = NoFailSink::new();
     let mut err = NoFailSink::new();
-    aos(rt, alloc, words, shelf, &mut out, &mut err, &OpenGate)
+    let mut none: Vec<Box<dyn Probe>> = Vec::new(alloc);
+    aos(
+        rt, alloc, words, shelf, &mut out, &mut err, &mut none, &OpenGate,
+    )
 }
 
 // The answer to words over a shelf.
@@ -65,7 +74,7 @@ fn answer_over<R: Threads + Wait + Sync, G: Gate + Sync>(
     let mut out = MemSink::new(alloc, sink_fails(alloc, sections, "out-fails")?, ROOM)?;
     let mut err = MemSink::new(alloc, sink_fails(alloc, sections, "err-fails")?, ROOM)?;
     let sinks = (&mut out, &mut err);
-    let status = status_of(rt, alloc, words, &mut shelf, sinks, gate);
+    let status = status_of(rt, alloc, words, &mut shelf, sinks, gate)?;
     Ok(Answer { status, out, err })
 }
 

@@ -8,7 +8,7 @@ use std::alloc::{AllocError, Global};
 pub fn is_command(section: &Section) -> bool {
     matches!(
         section.name.as_str(),
-        "run" | "replay" | "check" | "list" | "logged" | "meet" | "unkept" | "words"
+        "run" | "replay" | "watch" | "check" | "list" | "logged" | "meet" | "unkept" | "words"
     )
 }
 
@@ -128,6 +128,7 @@ pub fn words_of(
     match command.name.as_str() {
         "words" => command_words(alloc, "", text, &[]),
         "replay" => replay_words(alloc, sections),
+        "watch" => command_words(alloc, "replay --script S --watch", "", sections),
         "logged" | "meet" => command_words(alloc, "run --log", text, sections),
         "unkept" => command_words(alloc, "run", text, sections),
         name => command_words(alloc, name, text, sections),
@@ -206,7 +207,8 @@ pub fn shelf_of(
     command: &Section,
 ) -> Result<MemShelf, AllocError> {
     let mut files = files_of(alloc, sections)?;
-    if command.name.as_str() == "replay" && !command.text.is_empty() {
+    let is_replay = matches!(command.name.as_str(), "replay" | "watch");
+    if is_replay && !command.text.is_empty() {
         add_script(alloc, &mut files, command.text.as_str())?;
     }
     Ok(MemShelf::new(files, shelf_fails(alloc, sections)?))

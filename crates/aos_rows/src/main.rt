@@ -4,6 +4,8 @@
 //!
 //! - `run OPTIONS` runs the files, `check` and `list` tell of them.
 //! - `replay` replays them by the script S, or by the lines in its text, which have `; ` between them.
+//! - `watch` does so with `--watch`, over two probes: the first counts all events and answers at each that it leaves, the second
+//!   counts the passes of locks.
 //! - `words WORDS` is any command; `""` stands for an empty word.
 //! - `logged OPTIONS` runs them with `--log`, and replays them by what that writes to `err`.
 //! - `meet OPTIONS` does so behind a gate at which workers 0 and 1 wait for each other, where they have to meet and both to
@@ -18,6 +20,7 @@
 
 mod answer;
 mod given;
+mod probes;
 
 use crate::answer::add_differences;
 use crate::given::{flaw_of, is_command};

@@ -76,7 +76,7 @@ run rows =
 replay : (rows : List Row) → IfSome (replay_of rows) IsInRange
 replay rows =
     and_then (λ _. ⊤) IsInRange _ (first_of (codes "script") rows) (any (first_of (codes "script") rows))
-    (λ script _. mapped AreFew IsInRange (λ fs. Replay script fs) (files_of rows) (files rows) (λ fs f. f))
+    (λ script _. mapped AreFew IsInRange (λ fs. Replay script (is_set (codes "watch") rows) fs) (files_of rows) (files rows) (λ fs f. f))
 
 by_form : {A : Type 0} (P : A → Type 0) (form : App) (made : List Row → Option A) (words : Words) → ((rows : List Row) → IfSome (made rows) P) → IfSome (by form made words) P
 by_form P form made words k = and_then (λ _. ⊤) P made (taken form words) (any (taken form words)) (λ rows _. k rows)

@@ -31,10 +31,11 @@ run_form =
     (option_rule (codes "workers"))) (option_rule (codes "budget"))) (flag_rule (codes "log")))
     files_rule
 
--- replay --script S FILE...
+-- replay --script S [--watch] FILE...
 abbrev pub replay_form : App
 replay_form =
-    with_rule (with_rule (new_app (codes "replay")) (required_rule (codes "script"))) files_rule
+    with_rule (with_rule (with_rule (new_app (codes "replay"))
+    (required_rule (codes "script"))) (flag_rule (codes "watch"))) files_rule
 
 -- NAME FILE...
 abbrev pub files_form : Text → App

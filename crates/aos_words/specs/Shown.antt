@@ -9,7 +9,7 @@ use Rattle.aos_words.specs.Words.{borrowed, Command, Run, Replay, Check, List_}
 -- the command as the code has it
 abbrev pub command_in : Given → Command
 command_in (given.Run workers budget log files) = Run workers budget log (borrowed files.items)
-command_in (given.Replay script files) = Replay script.now (borrowed files.items)
+command_in (given.Replay script watch files) = Replay script.now watch (borrowed files.items)
 command_in (given.Check files) = Check (borrowed files.items)
 command_in (given.List files) = List_ (borrowed files.items)
 

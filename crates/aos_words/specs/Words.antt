@@ -24,11 +24,11 @@ abbrev pub borrowed : List (Bor (List ℕ)) → Words
 borrowed words = map (λ w. w.now) words
 
 -- a command: to run files with so many workers and a budget, and to tell the log of that run or not,
--- to run them by a script, to tell which of their conditions are local, or to tell their storage
--- layout
+-- to run them by a script, and to tell what its probes saw or not, to tell which of their conditions
+-- are local, or to tell their storage layout
 pub data Command : Type 0 where
   Run : (workers budget : ℕ) → (log : Bool) → (files : Words) → Command
-  Replay : (script : List ℕ) → (files : Words) → Command
+  Replay : (script : List ℕ) → (watch : Bool) → (files : Words) → Command
   Check : (files : Words) → Command
   List_ : (files : Words) → Command
 
@@ -77,7 +77,8 @@ run_of rows =
 abbrev pub replay_of : List Row → Option Command
 replay_of rows =
     option_and_then (λ script. option_map (λ files.
-    Replay script files) (files_of rows)) (first_of (codes "script") rows)
+    Replay script (is_set (codes "watch") rows) files)
+    (files_of rows)) (first_of (codes "script") rows)
 
 -- The command that words are
 
@@ -129,6 +130,6 @@ pub record RunsInRange (workers budget : ℕ) (files : Words) : Type 0 where
 -- its numbers are in their ranges
 abbrev pub IsInRange : Command → Type 0
 IsInRange (Run workers budget log files) = RunsInRange workers budget files
-IsInRange (Replay script files) = AreFew files
+IsInRange (Replay script watch files) = AreFew files
 IsInRange (Check files) = AreFew files
 IsInRange (List_ files) = AreFew files

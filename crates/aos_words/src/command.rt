@@ -12,9 +12,10 @@ pub enum Command<'a> {
         log: bool,
         files: Vec<&'a str>,
     },
-    /// To run these files by this script.
+    /// To run these files by this script, and to tell what its probes saw or not.
     Replay {
         script: &'a str,
+        watch: bool,
         files: Vec<&'a str>,
     },
     /// To tell of each condition of these files whether it is local.

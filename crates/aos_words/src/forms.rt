@@ -52,12 +52,13 @@ pub fn run_form<'a>(alloc: Global) -> Result<Command<'a>, AllocError>
         .arg(files(alloc))
 }
 
-/// `replay --script S FILE...`
+/// `replay --script S [--watch] FILE...`
 pub fn replay_form<'a>(alloc: Global) -> Result<Command<'a>, AllocError>
     ensures { IfOk result (λ c. app_of c ≡ replay_form) }
 {
     Command::new(alloc, "replay")
         .arg(required(alloc, "script"))?
+        .arg(flag(alloc, "watch"))?
         .arg(files(alloc))
 }
 

@@ -60,7 +60,11 @@ fn replay<'a>(alloc: Global, matches: &ArgMatches<'a>) -> Result<Command<'a>, Wo
         return Err(WordsErr::Refused);
     };
     let files = files(alloc, matches)?;
-    Ok(Command::Replay { script, files })
+    Ok(Command::Replay {
+        script,
+        watch: is_set(matches, "watch"),
+        files,
+    })
 }
 
 // The run that the words are.

@@ -19,7 +19,7 @@ returns-in-Stopped g c = λ words asks.
     let shelf = shelf_use g.F.Shelf c.args.shelf.now c.fetch_file.new.shelf in
     let files = borrowed c.args.files.now in
     let script = script_file c.args.name.now in
-    stops_cause shelf words (Replay c.args.name.now files)
+    stops_cause shelf words (Replay c.args.name.now c.args.watch files)
     (stops_before shelf (script ∷ []) (text_files files) (came_stopped shelf script c.in_ok-listing.field-0 c.in-Stopped.answer c.in_ok-listing.ensures.fetched c.in-Stopped.is)) asks
 
 pub returns-in-Stopped-2 : goal.returns-in-Stopped-2
@@ -32,7 +32,7 @@ returns-in-Stopped-2 g c = λ words asks.
     let script = script_file c.args.name.now in
     let listing = c.in-Text.listing in
     let fetched = subst (λ (t : Option (List Named)). AreFetched (record { texts = t; faults_before = mid; faults_after = new }) files c.in_ok-texts.field-0) c.in_ok-listing.ensures.texts c.in_ok-texts.ensures.fetched in
-    stops_cause (record { texts = texts; faults_before = old; faults_after = new }) words (Replay c.args.name.now (borrowed c.args.files.now))
+    stops_cause (record { texts = texts; faults_before = old; faults_after = new }) words (Replay c.args.name.now c.args.watch (borrowed c.args.files.now))
     (stops_behind (record { texts = texts; faults_before = old; faults_after = new }) (script ∷ []) files (listing.items ∷ [])
     (came_text (record { texts = texts; faults_before = old; faults_after = mid }) script c.in_ok-listing.field-0 listing c.in_ok-listing.ensures.fetched c.in-Text.is)
     (stops_later texts old mid new files c.in_ok-listing.ensures.faults

@@ -14,7 +14,7 @@ run_texts-requires-clause-texts g c = λ _. λ _.
     subst (λ xs. AreTexts xs) (sym c.deref.ensures.value) (are_texts shelf.texts files c.in-Texts.texts.items c.requires.few had)
 
 pub returns-in-Stopped : goal.returns-in-Stopped
-returns-in-Stopped g c = λ words asks.
+returns-in-Stopped g c = λ probes words asks.
     let s = c.args.setting in
     let shelf = shelf_use g.F.Shelf c.args.shelf.now c.fetch_files.new.shelf in
     let files = borrowed c.args.files.now in

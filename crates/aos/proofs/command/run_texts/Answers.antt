@@ -13,11 +13,11 @@ returns-in-Went g c =
     let texts = texts_of c.args.texts.now in
     let made = subst (λ x. ComesOf files texts x) c.in-Went.is c.in_ok-program.ensures in
     on_answer (ShowsRun s.workers s.budget s.log c.in-Went.image) (ServesTexts (Run s.workers s.budget s.log files) texts) c.run_image.result
-    (λ a run. λ shelf had words asks. ran_causes words shelf s files texts (seen_program c.in-Went.program) c.in-Went.image a c.requires.set made.0 run (record { asks = asks; had = had }))
+    (λ a run. λ shelf had probes words asks. ran_causes words shelf s files texts (seen_program c.in-Went.program) c.in-Went.image a c.requires.set made.0 run (record { asks = asks; had = had }))
     c.run_image.ensures
 
 pub returns-in-Stopped : goal.returns-in-Stopped
-returns-in-Stopped g c = λ shelf had words asks.
+returns-in-Stopped g c = λ shelf had probes words asks.
     let files = borrowed c.args.files.now in
     let texts = texts_of c.args.texts.now in
     refused_causes words shelf files texts c.in-Stopped.answer (subst (λ x. ComesOf files texts x) c.in-Stopped.is c.in_ok-program.ensures) (to_run (record { asks = asks; had = had }))

@@ -2,7 +2,7 @@ use Rattle.std.proofs.Common.{sym, ap, ◌∙◌, subst}
 use Rattle.aos_words.specs.Words.{Run, Replay, Check, List_, borrowed, AreFew, IsInRange}
 use Rattle.aos_words.specs.Shown.{command_in}
 use Rattle.aos.specs.Call.{shelf_use}
-use Rattle.aos.proofs.Causes.{serves_along}
+use Rattle.aos.proofs.Causes.{serves_along, serves_with_along}
 use Rattle.aos.proofs.command.serve.Goals as goal
 
 pub run_files-requires-clause-set : goal.run_files-requires-clause-set
@@ -18,7 +18,7 @@ run_files-requires-clause-few g c = λ _. λ _.
 pub returns-in-Run : goal.returns-in-Run
 returns-in-Run g c =
     let run = c.in-Run in
-    serves_along (Run run.workers run.budget run.log (borrowed c.deref.result.now)) (command_in c.args.command) (shelf_use g.F.Shelf c.args.shelf.now c.run_files.new.shelf) c.run_files.result
+    serves_along (Run run.workers run.budget run.log (borrowed c.deref.result.now)) (command_in c.args.command) (shelf_use g.F.Shelf c.args.shelf.now c.run_files.new.shelf) _ c.run_files.result
     (ap command_in run.is ∙ ap (λ fs. Run run.workers run.budget run.log (borrowed fs)) (sym c.deref.ensures.value)) c.run_files.ensures
 
 pub replay_files-requires : goal.replay_files-requires
@@ -27,15 +27,16 @@ replay_files-requires g c = subst (λ fs. AreFew (borrowed fs)) (sym c.deref-in-
 pub returns-in-Replay : goal.returns-in-Replay
 returns-in-Replay g c =
     let script = c.in-Replay.script.now in
-    serves_along (Replay script (borrowed c.deref-in-Replay.result.now)) (command_in c.args.command) (shelf_use g.F.Shelf c.args.shelf.now c.replay_files.new.shelf) c.replay_files.result
-    (ap command_in c.in-Replay.is ∙ ap (λ fs. Replay script (borrowed fs)) (sym c.deref-in-Replay.ensures.value)) c.replay_files.ensures
+    let watch = c.in-Replay.watch in
+    serves_with_along (Replay script watch (borrowed c.deref-in-Replay.result.now)) (command_in c.args.command) (shelf_use g.F.Shelf c.args.shelf.now c.replay_files.new.shelf) _ c.replay_files.result
+    (ap command_in c.in-Replay.is ∙ ap (λ fs. Replay script watch (borrowed fs)) (sym c.deref-in-Replay.ensures.value)) c.replay_files.ensures
 
 pub tell_files-requires : goal.tell_files-requires
 tell_files-requires g c = subst (λ fs. AreFew (borrowed fs)) (sym c.deref-in-Check.ensures.value) (subst (λ x. IsInRange (command_in x)) c.in-Check.is c.requires)
 
 pub returns-in-Check : goal.returns-in-Check
 returns-in-Check g c =
-    serves_along (Check (borrowed c.deref-in-Check.result.now)) (command_in c.args.command) (shelf_use g.F.Shelf c.args.shelf.now c.tell_files.new.shelf) c.tell_files.result
+    serves_along (Check (borrowed c.deref-in-Check.result.now)) (command_in c.args.command) (shelf_use g.F.Shelf c.args.shelf.now c.tell_files.new.shelf) _ c.tell_files.result
     (ap command_in c.in-Check.is ∙ ap (λ fs. Check (borrowed fs)) (sym c.deref-in-Check.ensures.value)) c.tell_files.ensures
 
 pub tell_files-requires-in-List : goal.tell_files-requires-in-List
@@ -43,5 +44,5 @@ tell_files-requires-in-List g c = subst (λ fs. AreFew (borrowed fs)) (sym c.der
 
 pub returns-in-List : goal.returns-in-List
 returns-in-List g c =
-    serves_along (List_ (borrowed c.deref-in-List.result.now)) (command_in c.args.command) (shelf_use g.F.Shelf c.args.shelf.now c.tell_files-in-List.new.shelf) c.tell_files-in-List.result
+    serves_along (List_ (borrowed c.deref-in-List.result.now)) (command_in c.args.command) (shelf_use g.F.Shelf c.args.shelf.now c.tell_files-in-List.new.shelf) _ c.tell_files-in-List.result
     (ap command_in c.in-List.is ∙ ap (λ fs. List_ (borrowed fs)) (sym c.deref-in-List.ensures.value)) c.tell_files-in-List.ensures

@@ -25,7 +25,7 @@ returns-in-Texts g c =
     on_answer (ServesTexts command (texts_of c.deref.result.now)) (Serves command shelf) c.tell_texts.result (λ a serves. serves shelf wanted) c.tell_texts.ensures
 
 pub returns-in-Stopped : goal.returns-in-Stopped
-returns-in-Stopped g c = λ words asks.
+returns-in-Stopped g c = λ probes words asks.
     let shelf = shelf_use g.F.Shelf c.args.shelf.now c.fetch_files.new.shelf in
     let files = borrowed c.args.files.now in
     let a = c.in-Stopped.answer in

@@ -18,11 +18,11 @@ returns-in-Went c =
     let p = seen_program c.in-Went.program in
     let made = subst (λ x. ComesOf files texts x) c.in-Went.is c.in_ok-program.ensures in
     on_answer (TellsOfProgram what p) (ServesTexts (asks_for what files) texts) c.tell_program.result
-    (λ a tells. λ shelf had words asks. told_causes words shelf what files texts p c.in-Went.image a made.0 tells (record { asks = asks; had = had }))
+    (λ a tells. λ shelf had probes words asks. told_causes words shelf what files texts p c.in-Went.image a made.0 tells (record { asks = asks; had = had }))
     c.tell_program.ensures
 
 pub returns-in-Stopped : goal.returns-in-Stopped
-returns-in-Stopped c = λ shelf had words asks.
+returns-in-Stopped c = λ shelf had probes words asks.
     let files = borrowed c.args.files.now in
     let texts = texts_of c.args.texts.now in
     refused_causes words shelf files texts c.in-Stopped.answer (subst (λ x. ComesOf files texts x) c.in-Stopped.is c.in_ok-program.ensures) (takes_for words shelf c.args.what files texts (record { asks = asks; had = had }))

@@ -1,6 +1,6 @@
 use Rattle.std.proofs.Common.{refl}
 use Rattle.aos_words.specs.Words.{words_of}
-use Rattle.aos.specs.Call.{Call, shelf_use, sink_use}
+use Rattle.aos.specs.Call.{shelf_use}
 use Rattle.aos.proofs.Clauses.{cause_status, of_answer, of_no_memory}
 use Rattle.aos.proofs.top.aos.Goals as goal
 
@@ -10,14 +10,7 @@ put_answer-requires g c =
 
 pub returns-in-Ok : goal.returns-in-Ok
 returns-in-Ok g c =
-    let call : Call = record {
-      words = words_of c.args.words.now;
-      shelf = shelf_use g.F.Shelf c.args.shelf.now c.answer.new.shelf;
-      out = sink_use g.O.Sink c.args.out.now c.put_answer.new.out;
-      err = sink_use g.E.Sink c.args.err.now c.put_answer.new.err;
-      status = c.put_answer.result;
-    } in
-    of_answer call c.in-Ok.answer c.in-Ok.ensures c.put_answer.ensures.whole c.put_answer.ensures.stopped c.put_answer.ensures.memory c.program_has_monitors.ensures
+    of_answer _ c.in-Ok.answer c.in-Ok.ensures c.put_answer.ensures.whole c.put_answer.ensures.stopped c.put_answer.ensures.memory c.program_has_monitors.ensures
     (λ texts p comes some few. c.conditions_last.ensures p (c.law_of_typing.ensures texts p comes some few))
 
 pub returns-in-Err : goal.returns-in-Err

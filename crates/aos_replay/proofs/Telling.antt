@@ -1,0 +1,83 @@
+-- What probes are told while a run goes on: by nothing, by a step or a tick, by one after the other.
+use Rattle.std.proofs.Common.{◌≡◌, ◌∙◌, ℕ, Bool, true, List, [], ◌∷◌, ◌++◌, length, drop, ap, refl, sym, append_assoc}
+use Rattle.std.proofs.lemmas.List.{append-nil, drop_at}
+use Rattle.aos_base.specs.declared.kernel.Event.{Event}
+use Rattle.aos_base.specs.Machine.{Choice, Step, Tick, State}
+use Rattle.aos_base.specs.Schedule.{choices}
+use Rattle.aos_code.specs.Memory.{Memory}
+use Rattle.aos_code.specs.Machine.{Frames, machine}
+use Rattle.aos_kernel.specs.declared.log.Stepped.{Stepped}
+use Rattle.aos_kernel.specs.declared.log.Stepped.TheVariants.{Turned, Dispatched}
+use Rattle.aos_kernel.specs.Run.{Run, state_of, state_before, events_of, after_step, after_tick}
+use Rattle.aos_kernel.proofs.Histories.{state_after, state_before_is}
+use Rattle.aos_kernel.proofs.Logs.{choices-with_step, choices-with_tick}
+use Rattle.aos_probe.specs.Meaning.{Seen}
+use Rattle.aos_probe.specs.Told.{after_all}
+use Rattle.aos_probe.proofs.Folds.{after_all-append}
+use Rattle.aos_probe.proofs.Growing.{events_grow}
+use Rattle.aos_replay.specs.Told.{Told}
+
+pub tells_nothing : (r : Run) (ps : List Seen) → Told r r ps ps
+tells_nothing r ps = record { events = []; between = sym (append-nil (state_of r).book.events); told = refl }
+
+-- where the run stays
+pub tells_no_more : (old new : Run) (ps : List Seen) → new ≡ old → Told old new ps ps
+tells_no_more old new ps same = record {
+  events = [];
+  between = ap (λ r. (state_of r).book.events) same ∙ sym (append-nil (state_of old).book.events);
+  told = refl;
+}
+
+pub tells_then : (a b c : Run) (ps qs rs : List Seen) → Told a b ps qs → Told b c qs rs → Told a c ps rs
+tells_then a b c ps qs rs h k = record {
+  events = h.events ++ k.events;
+  between = k.between ∙ ap (λ l. l ++ k.events) h.between ∙ append_assoc (state_of a).book.events h.events k.events;
+  told = k.told ∙ ap (after_all k.events) h.told ∙ sym (after_all-append h.events k.events ps);
+}
+
+module _ (old new : Run) (c : Choice) (same : new ≡ record old { log = new.log }) (more : choices new.log ≡ choices old.log ++ c ∷ []) where
+  abbrev now : Run
+  now = record old { log = new.log }
+
+  abbrev earlier : List Event
+  earlier = (state_of old).book.events
+
+  -- the events of one choice more are those of the last
+  one_choice : (state_of now).book.events ≡ earlier ++ events_of now
+  one_choice =
+      let grown = events_grow (machine old.image) c (state_of old) in
+      let all : (state_of now).book.events ≡ earlier ++ grown.more =
+      ap (λ (s : State Memory Frames). s.book.events) (state_after old new.log c more) ∙ grown.is in
+      let last : events_of now ≡ grown.more =
+      (λ i. drop (length (state_before_is old new.log c more i).book.events) (all i))
+      ∙ drop_at earlier grown.more (length earlier) refl in
+      all ∙ ap (λ l. earlier ++ l) (sym last)
+
+  pub tells_choice : (ps qs : List Seen) → qs ≡ after_all (events_of new) ps → Told old new ps qs
+  tells_choice ps qs told = record {
+    events = events_of new;
+    between =
+        ap (λ (r : Run). (state_of r).book.events) same ∙ one_choice
+        ∙ ap (λ l. earlier ++ l) (sym (ap events_of same));
+    told = told;
+  }
+
+module _ (w : ℕ) (old new : Run) (ps qs : List Seen) where
+  pub tells_turned : (stepped : Stepped) → stepped ≡ Turned → new ≡ after_step stepped w old → new ≡ record old { log = new.log } → qs ≡ after_all (events_of new) ps → Told old new ps qs
+  tells_turned stepped turned is same told =
+      let log = ap (λ r. choices r.log) (is ∙ ap (λ s. after_step s w old) turned) ∙ choices-with_step w old.log in
+      tells_choice old new (Step w) same log ps qs told
+
+  pub tells_dispatched : (stepped : Stepped) → stepped ≡ Dispatched → new ≡ after_step stepped w old → new ≡ record old { log = new.log } → qs ≡ after_all (events_of new) ps → Told old new ps qs
+  tells_dispatched stepped dispatched is same told =
+      let log = ap (λ r. choices r.log) (is ∙ ap (λ s. after_step s w old) dispatched) ∙ choices-with_step w old.log in
+      tells_choice old new (Step w) same log ps qs told
+
+  pub tells_ticked : (ticked : Bool) → ticked ≡ true → new ≡ after_tick ticked w old → new ≡ record old { log = new.log } → qs ≡ after_all (events_of new) ps → Told old new ps qs
+  tells_ticked ticked so is same told =
+      let log = ap (λ r. choices r.log) (is ∙ ap (λ t. after_tick t w old) so) ∙ choices-with_tick w old.log in
+      tells_choice old new (Tick w) same log ps qs told
+
+-- the events that were told are those of the last step or tick
+pub told_of : (events : List Event) (ps : List Seen) (r : Run) → events ≡ events_of r → after_all events ps ≡ after_all (events_of r) ps
+told_of events ps r is = ap (λ l. after_all l ps) is
