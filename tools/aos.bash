@@ -21,7 +21,7 @@ _aos() {
         -*)
             case ${COMP_WORDS[1]} in
                 run) COMPREPLY=($(compgen -W '--workers --budget --log' -- "$word")) ;;
-                replay) COMPREPLY=($(compgen -W '--script' -- "$word")) ;;
+                replay) COMPREPLY=($(compgen -W '--script --watch' -- "$word")) ;;
             esac
             ;;
         *) mapfile -t COMPREPLY < <(compgen -f -X '!*.Mod' -- "$word"; compgen -d -- "$word") ;;
