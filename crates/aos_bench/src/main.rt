@@ -2,8 +2,11 @@
 //! one behind another; a line on `out` tells what each came to.
 //!
 //! - `scan FILE TIMES` scans a file's text so many times: how many tokens that found in all.
-//! - `lock locks WAITING TIMES`: so many times the owner of a lock leaves it and asks for it again, while so many others wait; and
-//!   `lock deque WAITING TIMES` does the same with a `VecDeque`. Who comes last.
+//! - `lock locks WAITING TIMES`: so many times the owner of a lock leaves it and asks for it again, while so many others wait to
+//!   enter; `lock conditions WAITING TIMES`: so many times it awaits a condition, and another one gets the lock whose condition
+//!   holds; and `lock deque WAITING TIMES` does the first with a `VecDeque`. Who comes last.
+//! - `queue HALF TIMES`: so many times the number in the middle of a queue of twice as many is taken out and put behind all others.
+//!   Which one stands behind the middle one then.
 //! - `kernel WAITING STEPS` makes so many steps of a kernel in which one lock passes from activity to activity, while so many
 //!   others, 1,000 at most, wait to enter: how many wait then.
 //! - `turns TIMES` makes so many turns of an activity on its own frames: how many were made.
@@ -12,6 +15,7 @@
 mod image;
 mod kernel;
 mod lock;
+mod queue;
 mod scan;
 mod stop;
 mod turns;
@@ -35,6 +39,7 @@ fn measured<S: Shelf>(
     match name {
         "scan" => scan::measured(alloc, shelf, words),
         "lock" => lock::measured(alloc, words),
+        "queue" => queue::measured(alloc, words),
         "kernel" => kernel::measured(alloc, words),
         "turns" => turns::measured(alloc, words),
         _ => Err(Stop::Usage),

@@ -25,7 +25,7 @@ impl Stop {
         match self {
             Stop::Usage => (
                 2,
-                "usage: aos_bench scan FILE TIMES | lock locks|deque WAITING TIMES | kernel WAITING STEPS | turns TIMES",
+                "usage: aos_bench scan FILE TIMES | lock locks|conditions|deque WAITING TIMES | queue HALF TIMES | kernel WAITING STEPS | turns TIMES",
             ),
             Stop::Unread => (1, "the file can't be read"),
             Stop::Refused => (1, "the text is refused"),

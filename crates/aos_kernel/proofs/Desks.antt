@@ -164,7 +164,7 @@ module _ (image : Image) (earlier : List Event) (d : Desk) (st : State Memory Fr
   pub shows_trapped : (traps : Vec TrapRec Global) (events : Vec Event Global) (activities : Vec Activity Global) (n c : ℕ) (at : ℕ × Pos) (locks : Vec LockName Global) → IsLive a d →
       ((made : ℕ → Option Made) (kept : Activity) (fs : Frames) → slice_get d.activities.items a ≡ Some kept → Alike image made fs (frames_in kept.frames) → position image fs ≡ where_in at) →
       ((made : ℕ → Option Made) (kept : Activity) (fs : Frames) → slice_get d.activities.items a ≡ Some kept → Alike image made fs (frames_in kept.frames) → reverse locks.items ≡ regions_of image fs.frames) →
-      traps.items ≡ d.traps.items ++ record { number = n; code = c; activity = a; «module» = at.0; pos = at.1 } ∷ [] → events.items ≡ d.events.items ++ event.Trap a n ∷ [] →
+      traps.items ≡ d.traps.items ++ record { number = n; code = c; activity = a; «module» = at.0; pos = at.1; restart = 0; calls = [] } ∷ [] → events.items ≡ d.events.items ++ event.Trap a n ∷ [] →
       ((kept : Activity) → slice_get d.activities.items a ≡ Some kept → activities.items ≡ slice_set d.activities.items a (record kept { next = Unwinds; locks = locks })) →
       Shows image earlier (record d { traps = traps; events = events; activities = activities }) (trap (machine image) a n c st)
   unfolding trap trapped next_is
@@ -178,8 +178,8 @@ module _ (image : Image) (earlier : List Event) (d : Desk) (st : State Memory Fr
         store = h.store;
         stands = h.stands;
         output = h.output;
-        traps = map-append rec_of st.book.traps (record { number = n; code = c; activity = a; at = position image (st.frames a); restart = 0 } ∷ [])
-            ∙ (λ i. h.traps i ++ rec_of (record { number = n; code = c; activity = a; at = p i; restart = 0 }) ∷ []) ∙ sym told;
+        traps = map-append rec_of st.book.traps (record { number = n; code = c; activity = a; at = position image (st.frames a); restart = 0; calls = [] } ∷ [])
+            ∙ (λ i. h.traps i ++ rec_of (record { number = n; code = c; activity = a; at = p i; restart = 0; calls = [] }) ∷ []) ∙ sym told;
         events = one_more image earlier d st h events (event.Trap a n) is;
         budget = h.budget;
         spent = h.spent;

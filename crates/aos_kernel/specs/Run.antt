@@ -3,10 +3,11 @@ use Rattle.std.specs.Prelude.{ℕ, ◌-◌, Bool, true, false, List, Option, Som
 use Rattle.aos_base.specs.declared.kernel.Event.{Event}
 use Rattle.aos_base.specs.declared.kernel.Outcome.{Outcome}
 use Rattle.aos_base.specs.declared.kernel.Outcome.TheVariants.{Going, Ended, Dead, Spent}
-use Rattle.aos_base.specs.Book.{TrapRow, outcome, on_worker, first_ready}
+use Rattle.aos_base.specs.Book.{Where, TrapRow, outcome, on_worker, first_ready}
 use Rattle.aos_base.specs.Machine.{Choice, State, execution}
 use Rattle.aos_base.specs.Observation.{WaitRow, waits_below}
 use Rattle.aos_code.specs.declared.image.Image.{Image}
+use Rattle.aos_code.specs.declared.report.CallRec.{CallRec}
 use Rattle.aos_code.specs.declared.report.TrapRec.{TrapRec}
 use Rattle.aos_code.specs.declared.report.WaitRec.{WaitRec}
 use Rattle.aos_code.specs.Memory.{Memory}
@@ -41,9 +42,21 @@ state_before r = after r.image r.budget (without_last (choices r.log))
 abbrev pub events_of : Run → List Event
 events_of r = drop (length (state_before r).book.events) (state_of r).book.events
 
--- a trap as it is told
+-- a call that led to a trap, and a trap, as they are told
+abbrev pub call_of : Where → CallRec
+call_of at = record { «module» = at.module_; pos = at.pos }
+
 abbrev pub rec_of : TrapRow → TrapRec
-rec_of row = record { number = row.number; code = row.code; activity = row.activity; «module» = row.at.module_; pos = row.at.pos }
+rec_of row =
+    record {
+      number = row.number;
+      code = row.code;
+      activity = row.activity;
+      «module» = row.at.module_;
+      pos = row.at.pos;
+      restart = row.restart;
+      calls = map call_of row.calls;
+    }
 
 abbrev pub traps_of : Run → List TrapRec
 traps_of r = map rec_of (state_of r).book.traps

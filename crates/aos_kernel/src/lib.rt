@@ -6,6 +6,7 @@ mod births;
 mod conditions;
 mod desk;
 pub mod kernel;
+mod laws;
 mod locks;
 pub mod log;
 mod traps;
@@ -13,4 +14,5 @@ mod turns;
 mod waits;
 
 pub use kernel::{Kernel, MAX_BUDGET, MAX_WORKERS};
+pub use laws::test_judges_waiters;
 pub use log::Stepped;

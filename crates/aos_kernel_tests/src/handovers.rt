@@ -55,30 +55,32 @@ enum Answer {
 
 const ALL_FAIL: [Verdict; 4] = [Fails, Fails, Fails, Fails];
 
-/// Calls on one lock by 0 to 3, what their conditions come to, the answer, and those who wait then: `e` to enter, and `w`
-/// for a condition.
-static CALLS: [(Call, [Verdict; 4], Answer, &str); 11] = [
-    (Enter(0), ALL_FAIL, Gets(Entered::Taken), ""),
-    (Enter(1), ALL_FAIL, Gets(Entered::Waits), "1e"),
-    (Wait(0), ALL_FAIL, Passes(Passed::Entrant(1)), "0w"),
-    (Enter(2), ALL_FAIL, Gets(Entered::Waits), "0w2e"),
-    (Enter(3), ALL_FAIL, Gets(Entered::Waits), "0w2e3e"),
-    (Enter(1), ALL_FAIL, Gets(Entered::Recursive), "0w2e3e"),
-    (Wait(1), ALL_FAIL, Passes(Passed::Entrant(2)), "0w3e1w"),
+/// Calls on one lock by 0 to 3, what their conditions come to, the answer, and who is to enter then, and who awaits a
+/// condition.
+static CALLS: [(Call, [Verdict; 4], Answer, &str, &str); 11] = [
+    (Enter(0), ALL_FAIL, Gets(Entered::Taken), "", ""),
+    (Enter(1), ALL_FAIL, Gets(Entered::Waits), "1", ""),
+    (Wait(0), ALL_FAIL, Passes(Passed::Entrant(1)), "", "0"),
+    (Enter(2), ALL_FAIL, Gets(Entered::Waits), "2", "0"),
+    (Enter(3), ALL_FAIL, Gets(Entered::Waits), "23", "0"),
+    (Enter(1), ALL_FAIL, Gets(Entered::Recursive), "23", "0"),
+    (Wait(1), ALL_FAIL, Passes(Passed::Entrant(2)), "3", "01"),
     (
         Leave(2),
         [Fails, Holds, Fails, Fails],
         Passes(Passed::Waiter(1)),
-        "0w3e",
+        "3",
+        "0",
     ),
     (
         Leave(1),
         [Traps(2), Fails, Fails, Fails],
         Passes(Passed::Waiter(0)),
-        "3e",
+        "3",
+        "",
     ),
-    (Leave(0), ALL_FAIL, Passes(Passed::Entrant(3)), ""),
-    (Leave(3), ALL_FAIL, Passes(Passed::Free), ""),
+    (Leave(0), ALL_FAIL, Passes(Passed::Entrant(3)), "", ""),
+    (Leave(3), ALL_FAIL, Passes(Passed::Free), "", ""),
 ];
 
 fn does_wait(entered: Entered) -> bool
@@ -202,26 +204,53 @@ fn is_behind(links: &Links, waits: &[bool], activity: u32) -> bool
     false
 }
 
-/// The first of those who wait.
-fn first(links: &Links, waits: &[bool]) -> Option<u32>
+fn set(flags: &mut [bool], activity: u32, on: bool) {
+    if (activity as usize) < flags.len() {
+        flags[activity as usize] = on;
+    }
+}
+
+/// Who waits from this call on awaits a condition, or else is to enter.
+fn note(awaits: &mut [bool], call: Call) {
+    match call {
+        Enter(activity) => set(awaits, activity, false),
+        Wait(activity) => set(awaits, activity, true),
+        Leave(_) => {},
+    }
+}
+
+/// Whether this one awaits a condition where it waits, or else is to enter.
+fn is_of(awaits: &[bool], activity: u32, of: bool) -> bool {
+    (activity as usize) < awaits.len() && awaits[activity as usize] == of
+}
+
+/// The first of those who await a condition, or else of those who are to enter.
+fn first(links: &Links, waits: &[bool], awaits: &[bool], of: bool) -> Option<u32>
     requires few { length waits.now ≤ 4 }
     requires room { length waits.now ≤ room_of links.now }
 {
     for activity in 0..waits.len() as u32 {
-        if waits[activity as usize] && !is_behind(links, waits, activity) {
+        let stands = waits[activity as usize] && is_of(awaits, activity, of);
+        if stands && !is_behind(links, waits, activity) {
             return Some(activity);
         }
     }
     None
 }
 
-/// Those who wait, in their order.
-fn shown(alloc: Global, links: &Links, waits: &[bool]) -> Result<String, Fail>
+/// Those who await a condition, or else those who are to enter, in their order.
+fn shown(
+    alloc: Global,
+    links: &Links,
+    waits: &[bool],
+    awaits: &[bool],
+    of: bool,
+) -> Result<String, Fail>
     requires few { length waits.now ≤ 4 }
     requires room { length waits.now ≤ room_of links.now }
 {
     let mut text = String::new(alloc);
-    let mut at = first(links, waits);
+    let mut at = first(links, waits, awaits, of);
     for _ in 0..waits.len() {
         let Some(activity) = at else {
             break;
@@ -229,8 +258,7 @@ fn shown(alloc: Global, links: &Links, waits: &[bool]) -> Result<String, Fail>
         if waits.len() <= activity as usize {
             break;
         }
-        let kind = if links.mark(activity) { "w" } else { "e" };
-        write!(text, "{activity}{kind}")?;
+        write!(text, "{activity}")?;
         at = links.behind(activity);
     }
     Ok(text)
@@ -244,7 +272,8 @@ fn passes_a_lock_on(rt: HostRuntime) -> Result<(), Fail> {
     let mut locks = Locks::new(alloc);
     locks.add()?;
     let mut waits = [false; 4];
-    for (call, of, wanted, list) in &CALLS {
+    let mut awaits = [false; 4];
+    for (call, of, wanted, entrants, waiters) in &CALLS {
         let found = make_call(
             &rt,
             &mut links,
@@ -254,8 +283,19 @@ fn passes_a_lock_on(rt: HostRuntime) -> Result<(), Fail> {
             Verdicts { of: *of },
         );
         assert_eq!(rt; found, *wanted, "at {call:?}");
-        let waiting = shown(alloc, &links, &waits)?;
-        assert_eq!(rt; waiting.as_str(), *list, "behind {call:?}");
+        note(&mut awaits, *call);
+        let entering = shown(alloc, &links, &waits, &awaits, false)?;
+        assert_eq!(rt;
+            entering.as_str(),
+            *entrants,
+            "who is to enter behind {call:?}"
+        );
+        let awaiting = shown(alloc, &links, &waits, &awaits, true)?;
+        assert_eq!(rt;
+            awaiting.as_str(),
+            *waiters,
+            "who awaits a condition behind {call:?}"
+        );
     }
     Ok(())
 }

@@ -3,10 +3,8 @@ use Rattle.std.proofs.Common.{◌≡◌, ◌≢◌, ℕ, suc, List, [], ◌∷�
 use Rattle.std.specs.List.{Contains}
 use Rattle.std.specs.Prelude.{Bool, true, false, ◌==◌, not, if◌then◌else◌, Some, slice_get}
 use Rattle.std.proofs.lemmas.Bool.Decides.{eqb_tells}
-use Rattle.aos_base.specs.Lock.{Waiting, without as waiting_without}
 use Rattle.aos_queue.specs.Lists.{IsOnce, without}
 use Rattle.aos_queue.proofs.Members.{here, there, among, none, without-none}
-use Rattle.aos_lock.specs.Waits.{numbers}
 
 -- by whether two numbers are one
 pub by_case : (P : Bool → Type 0) (x k : ℕ) → (x ≡ k → P true) → (x ≢ k → P false) → P (x == k)
@@ -47,11 +45,3 @@ longer a (n ∷ ns) = ap suc (longer a ns)
 pub first_within : (ns : List ℕ) (a : ℕ) → slice_get ns 0 ≡ Some a → Contains ns a
 first_within [] a e = absurd (cc e)
 first_within (n ∷ ns) a e = let z : n ≡ a = cc e in subst (λ k. Contains (n ∷ ns) k) z (here n ns)
-
--- those who wait, without one who doesn't
-pub waiting_none : (a : ℕ) (es : List Waiting) → (Contains (numbers es) a → ⊥) → waiting_without a es ≡ es
-waiting_none a [] out = refl
-waiting_none a (e ∷ es) out =
-    by_case (λ q. (if not q then e ∷ waiting_without a es else waiting_without a es) ≡ e ∷ es) e.activity a
-    (λ is. absurd (out (subst (λ k. Contains (numbers (e ∷ es)) k) is (here e.activity (numbers es)))))
-    (λ ne. ap (λ fs. e ∷ fs) (waiting_none a es (λ i. out (there e.activity a (numbers es) i))))

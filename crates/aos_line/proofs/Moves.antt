@@ -1,19 +1,21 @@
 -- What stands after one has left, or has joined.
 use Rattle.std.proofs.Common.{◌≡◌, ◌≢◌, ℕ, suc, ◌<◌, ◌≤◌, List, [], ◌∷◌, ◌++◌, length, refl, sym, ap, subst, ◌∙◌, arith}
 use Rattle.std.specs.List.{Contains}
-use Rattle.std.specs.Prelude.{Bool, true, false, not, ◌==◌, if◌then◌else◌, Option, Some, None, get_or, slice_get, slice_set}
-use Rattle.std.proofs.lemmas.List.{get_or-set_same, get_or-set_other, length-set, map-append, append-nil as append_nil}
+use Rattle.std.specs.Prelude.{Bool, true, false, if◌then◌else◌, Option, Some, None, get_or, slice_get, slice_set}
+use Rattle.std.proofs.lemmas.List.{get_or-set_same, get_or-set_other, length-set, append-nil as append_nil}
+use Rattle.std.proofs.lemmas.List.Elements.{Contains-append_left, Contains-append_right}
 use Rattle.std.proofs.lemmas.Option.{slice_get-get_or}
 use Rattle.aos_base.specs.declared.kernel.LockName.{LockName}
 use Rattle.aos_base.specs.declared.priority.Priority.{Priority}
-use Rattle.aos_base.specs.Lock.{Waiting, without as waiting_without}
+use Rattle.aos_base.specs.Lock.{Waiting, entrants, waiters, without as waiting_without}
 use Rattle.aos_base.specs.Book as book
 use Rattle.aos_base.specs.Book.{Stand, is_on, is_ready, wanted, listed, waiting, place_of, leave_line}
 use Rattle.aos_queue.specs.Lists.{IsOnce, room_of, without}
 use Rattle.aos_queue.proofs.Members.{once-push, without-none}
-use Rattle.aos_lock.specs.Heirs.{own, own_wants}
-use Rattle.aos_lock.specs.Waits.{count_of, owner_of, waiting_in, Belong as LocksBelong}
-use Rattle.aos_lock.proofs.Rows.{filter-map}
+use Rattle.aos_queue.specs.declared.links.Links.{Links}
+use Rattle.aos_lock.specs.declared.locks.Locks.{Locks}
+use Rattle.aos_lock.specs.Waits.{numbers, count_of, owner_of, entrants_in, waiters_in, numbers_in, StandsFor, SameWaiting, Belong as LocksBelong}
+use Rattle.aos_lock.proofs.Rows.{entrants-without, waiters-without, entrants-append, waiters-append}
 use Rattle.aos_ready.specs.Order.{number_of as priority_number, ready_in, Belong as ReadyBelong}
 use Rattle.aos_line.specs.declared.place.Place.{Place}
 use Rattle.aos_line.specs.declared.place.Place.TheVariants.{Nowhere}
@@ -23,12 +25,6 @@ use Rattle.aos_line.specs.Numbers.{number_of}
 use Rattle.aos_line.specs.Stands.{standing, anywhere, is_awake, of_worker, HasPlace, HasLock, Stands}
 use Rattle.aos_line.proofs.Members.{each_at, once_without, shorter, longer}
 use Rattle.aos_line.proofs.Readings.{standing-left, waiting-left, place-gone, place-other, standing-joined, waiting-joined, place-last, place-before, has_stands, nowhere, elsewhere, once_standing}
-
-without-own : (a : ℕ) (es : List Waiting) → waiting_without a (own es) ≡ own (waiting_without a es)
-without-own a es = filter-map (λ (e : Waiting). let f : Waiting = record { activity = e.activity; wants = own_wants e.activity e.wants } in f) (λ (e : Waiting). not (e.activity == a)) es
-
-own-joined : (es fs : List Waiting) → own (es ++ fs) ≡ own es ++ own fs
-own-joined es fs = map-append (λ (e : Waiting). let f : Waiting = record { activity = e.activity; wants = own_wants e.activity e.wants } in f) es fs
 
 -- the place of one activity has been set
 places_set : (places : List Place) (a : ℕ) (p : Place) (line line' : List Stand) → a < length places → HasPlace p (place_of line' a) → ((x : ℕ) → x ≢ a → place_of line' x ≡ place_of line x) →
@@ -47,7 +43,26 @@ abbrev pub OwnedBy : Line → Option ℕ → Option ℕ → Type 0
 OwnedBy m None owner = owner ≡ None
 OwnedBy m (Some n) owner = owner_of m.locks n ≡ owner
 
+-- the same wait for a lock, so it stands for the same lists
+pub stands_still : (before after : Links) (old new : Locks) (n : ℕ) (es : List Waiting) → SameWaiting before old after new n → StandsFor before old n es → StandsFor after new n es
+stands_still before after old new n es same h = record { entrants = same.entrants ∙ h.entrants; waiters = same.waiters ∙ h.waiters }
+
 -- One who leaves
+
+-- who waits for a lock, without one of them
+pub record LeftAt (l m : Line) (a n : ℕ) : Type 0 where
+  pub entrants : entrants_in m.links m.locks n ≡ without a (entrants_in l.links l.locks n)
+  pub waiters : waiters_in m.links m.locks n ≡ without a (waiters_in l.links l.locks n)
+
+-- who doesn't wait for it doesn't leave it
+pub left_same : (l m : Line) (a n : ℕ) → SameWaiting l.links l.locks m.links m.locks n → (Contains (numbers_in l.links l.locks n) a → ⊥) → LeftAt l m a n
+left_same l m a n same out =
+    let es = entrants_in l.links l.locks n in
+    let ws = waiters_in l.links l.locks n in
+    record {
+      entrants = same.entrants ∙ sym (without-none a es (λ i. out (Contains-append_left es ws a i)));
+      waiters = same.waiters ∙ sym (without-none a ws (λ i. out (Contains-append_right es ws a i)));
+    }
 
 pub record Left (l m : Line) (a : ℕ) (was : book.Place) : Type 0 where
   pub within : a < length l.places.items
@@ -56,7 +71,7 @@ pub record Left (l m : Line) (a : ℕ) (was : book.Place) : Type 0 where
   pub awake : (if is_awake was then suc m.awake else m.awake) ≡ l.awake
   pub running : (w : ℕ) → of_worker (get_or m.running w None) ≡ without a (of_worker (get_or l.running w None))
   pub ready : (p : Priority) → ready_in m.links m.ready p ≡ without a (ready_in l.links l.ready p)
-  pub waiting : (n : ℕ) → n < count_of l.locks → waiting_in m.links m.locks n ≡ waiting_without a (waiting_in l.links l.locks n)
+  pub waiting : (n : ℕ) → n < count_of l.locks → LeftAt l m a n
   pub numbers : m.numbers ≡ l.numbers
   pub count : count_of m.locks ≡ count_of l.locks
   pub room : room_of m.links ≡ room_of l.links
@@ -72,7 +87,10 @@ module _ (l m : Line) (a : ℕ) (was : book.Place) (line : List Stand) (owner ow
   left_lock k None is had = (waiting-left k a line ∙ ap (waiting_without a) had.0, subst (λ o. OwnedBy m o (owner' k)) is (owned k))
   left_lock k (Some n) is had = (
     subst (λ i. n < i) (sym c.count) had.0,
-    c.waiting n had.0 ∙ ap (waiting_without a) had.1 ∙ without-own a (waiting k line) ∙ ap own (sym (waiting-left k a line)),
+    record {
+      entrants = (c.waiting n had.0).entrants ∙ ap (without a) had.1.entrants ∙ sym (entrants-without a (waiting k line)) ∙ ap (λ es. numbers (entrants es)) (sym (waiting-left k a line));
+      waiters = (c.waiting n had.0).waiters ∙ ap (without a) had.1.waiters ∙ sym (waiters-without a (waiting k line)) ∙ ap (λ es. numbers (waiters es)) (sym (waiting-left k a line));
+    },
     subst (λ o. OwnedBy m o (owner' k)) is (owned k),
   )
 
@@ -106,6 +124,17 @@ module _ (l m : Line) (a : ℕ) (was : book.Place) (line : List Stand) (owner ow
 
 -- One who joins
 
+-- who waits for a lock, with these behind all others
+pub record JoinedAt (l m : Line) (n : ℕ) (more : List Waiting) : Type 0 where
+  pub entrants : entrants_in m.links m.locks n ≡ entrants_in l.links l.locks n ++ numbers (entrants more)
+  pub waiters : waiters_in m.links m.locks n ≡ waiters_in l.links l.locks n ++ numbers (waiters more)
+
+pub joined_same : (l m : Line) (n : ℕ) → SameWaiting l.links l.locks m.links m.locks n → JoinedAt l m n []
+joined_same l m n same = record {
+  entrants = same.entrants ∙ sym (append_nil (entrants_in l.links l.locks n));
+  waiters = same.waiters ∙ sym (append_nil (waiters_in l.links l.locks n));
+}
+
 pub record Joined (l m : Line) (a : ℕ) (p : Place) (now : book.Place) : Type 0 where
   pub within : a < length l.places.items
   pub places : m.places.items ≡ slice_set l.places.items a p
@@ -115,7 +144,7 @@ pub record Joined (l m : Line) (a : ℕ) (p : Place) (now : book.Place) : Type 0
   pub awake : m.awake ≡ (if is_awake now then suc l.awake else l.awake)
   pub running : (w : ℕ) → of_worker (get_or m.running w None) ≡ of_worker (get_or l.running w None) ++ (if is_on w now then a ∷ [] else [])
   pub ready : (q : Priority) → ready_in m.links m.ready q ≡ ready_in l.links l.ready q ++ (if is_ready (priority_number q) now then a ∷ [] else [])
-  pub waiting : (k : LockName) (n : ℕ) → number_of l.numbers k ≡ Some n → n < count_of l.locks → waiting_in m.links m.locks n ≡ waiting_in l.links l.locks n ++ own (listed (wanted k now) a [])
+  pub waiting : (k : LockName) (n : ℕ) → number_of l.numbers k ≡ Some n → n < count_of l.locks → JoinedAt l m n (listed (wanted k now) a [])
   pub unnumbered : (k : LockName) → number_of l.numbers k ≡ None → wanted k now ≡ None
   pub owners : (n : ℕ) → n < count_of l.locks → owner_of m.locks n ≡ owner_of l.locks n
   pub numbers : m.numbers ≡ l.numbers
@@ -136,7 +165,12 @@ module _ (l m : Line) (a : ℕ) (p : Place) (now : book.Place) (line : List Stan
   joined_lock k None is had = (waiting-joined k line (record { activity = a; place = now }) ∙ ap (λ es. es ++ listed (wanted k now) a []) had.0 ∙ ap (λ w. listed w a []) (c.unnumbered k is), had.1)
   joined_lock k (Some n) is had = (
     subst (λ i. n < i) (sym c.count) had.0,
-    c.waiting k n is had.0 ∙ ap (λ es. es ++ own (listed (wanted k now) a [])) had.1 ∙ sym (own-joined (waiting k line) (listed (wanted k now) a [])) ∙ ap own (sym (waiting-joined k line (record { activity = a; place = now }))),
+    record {
+      entrants = (c.waiting k n is had.0).entrants ∙ ap (λ ns. ns ++ numbers (entrants (listed (wanted k now) a []))) had.1.entrants
+          ∙ sym (entrants-append (waiting k line) (listed (wanted k now) a [])) ∙ ap (λ es. numbers (entrants es)) (sym (waiting-joined k line (record { activity = a; place = now })));
+      waiters = (c.waiting k n is had.0).waiters ∙ ap (λ ns. ns ++ numbers (waiters (listed (wanted k now) a []))) had.1.waiters
+          ∙ sym (waiters-append (waiting k line) (listed (wanted k now) a [])) ∙ ap (λ es. numbers (waiters es)) (sym (waiting-joined k line (record { activity = a; place = now })));
+    },
     c.owners n had.0 ∙ had.2,
   )
 

@@ -8,14 +8,14 @@ use Rattle.std.proofs.lemmas.List.{get_or-set_same, get_or-set_other, get_or_pas
 use Rattle.aos_base.specs.declared.kernel.LockName.{LockName}
 use Rattle.aos_base.specs.declared.priority.Priority.{Priority}
 use Rattle.aos_base.specs.declared.priority.Priority.TheVariants.{Low, Normal, High}
-use Rattle.aos_base.specs.Lock.{Waiting}
+use Rattle.aos_base.specs.Lock.{entrants, waiters}
 use Rattle.aos_base.specs.Book as book
 use Rattle.aos_base.specs.Book.{Stand, is_on, is_ready, is_at_lock, wanted, waiting, place_of}
 use Rattle.aos_queue.specs.declared.links.Links.{Links}
 use Rattle.aos_queue.specs.Lists.{without, KeepsOthers, SameTable}
 use Rattle.aos_queue.proofs.Members.{here, there, among, none, without-none, differ}
-use Rattle.aos_lock.specs.Heirs.{own}
-use Rattle.aos_lock.specs.Waits.{numbers, count_of, waiting_in, WaitsNowhere}
+use Rattle.aos_lock.specs.Waits.{numbers, count_of, numbers_in, WaitsNowhere}
+use Rattle.aos_lock.proofs.Rows.{parts_within}
 use Rattle.aos_lock.proofs.Changes.{still_belong, still_waiting}
 use Rattle.aos_ready.specs.declared.ready.Ready.{Ready}
 use Rattle.aos_ready.specs.Order.{number_of as priority_number, ready_in, all_ready, Belong as ReadyBelong}
@@ -25,9 +25,9 @@ use Rattle.aos_line.specs.declared.place.Place.TheVariants as place
 use Rattle.aos_line.specs.declared.line.Line.{Line}
 use Rattle.aos_line.specs.Numbers.{number_of}
 use Rattle.aos_line.specs.Stands.{standing, of_worker, HasLock, Stands}
-use Rattle.aos_line.proofs.Members.{by_case, each_at, waiting_none}
+use Rattle.aos_line.proofs.Members.{by_case, each_at}
 use Rattle.aos_line.proofs.Readings.{nowhere, elsewhere, stands_has, has_stands, at_lock, waiting_standing}
-use Rattle.aos_line.proofs.Moves.{Left, Joined}
+use Rattle.aos_line.proofs.Moves.{left_same, Left, joined_same, Joined}
 
 -- a worker's activity, as a list
 single : (o : Option ℕ) (a : ℕ) → Contains (of_worker o) a → o ≡ Some a
@@ -42,10 +42,6 @@ cleared running w = elim (cases_lt w (length running)) [
   | inl l ↦ get_or-set_same running w None None l
   | inr p ↦ get_or_past (slice_set running w None) w None (subst (λ n. n ≤ w) (sym (length-set running w None)) p)
 ]
-
-pub numbers_own : (es : List Waiting) → numbers (own es) ≡ numbers es
-numbers_own [] = refl
-numbers_own (e ∷ es) = ap (λ ns. e.activity ∷ ns) (numbers_own es)
 
 either_within : (ns ms : List ℕ) (x : ℕ) → Contains (ns ++ ms) x → (Contains ns x) ⊎ (Contains ms x)
 either_within [] ms x i = inr i
@@ -78,16 +74,20 @@ ready_is n (book.Ready m) e = by_case (λ q. q ≡ true → book.Ready m ≡ boo
 ready_is n (book.At k wants) e = absurd (cc e)
 
 module _ (l : Line) (line : List Stand) (owner : LockName → Option ℕ) (h : Stands l line owner) where
-  -- those who wait for the lock of a number, by its name
-  pub lock_numbers : (n : ℕ) → n < count_of l.locks → (k : LockName) × (number_of l.numbers k ≡ Some n) × (numbers (waiting_in l.links l.locks n) ≡ standing (at_lock k) line)
+  -- those who wait for the lock of a number stand at the lock of its name
+  pub lock_numbers : (n : ℕ) → n < count_of l.locks → (k : LockName) × (number_of l.numbers k ≡ Some n) × ((x : ℕ) → Contains (numbers_in l.links l.locks n) x → Contains (standing (at_lock k) line) x)
   lock_numbers n less =
       let k = h.named n less in
       let had : HasLock l (Some n) (waiting k.0 line) (owner k.0) = subst (λ o. HasLock l o (waiting k.0 line) (owner k.0)) k.1 (h.locks k.0) in
-      (k.0, k.1, ap numbers had.1 ∙ numbers_own (waiting k.0 line) ∙ waiting_standing k.0 line)
+      let all : numbers_in l.links l.locks n ≡ numbers (entrants (waiting k.0 line)) ++ numbers (waiters (waiting k.0 line)) = λ i. had.1.entrants i ++ had.1.waiters i in (
+        k.0,
+        k.1,
+        (λ x i. subst (λ ns. Contains ns x) (waiting_standing k.0 line) (parts_within (waiting k.0 line) x (subst (λ ns. Contains ns x) all i))),
+      )
 
   -- one who doesn't stand at a lock waits for none
-  pub not_waiting : (x : ℕ) → ((k : LockName) → Contains (standing (at_lock k) line) x → ⊥) → (n : ℕ) → n < count_of l.locks → Contains (numbers (waiting_in l.links l.locks n)) x → ⊥
-  not_waiting x out n less i = let k = lock_numbers n less in out k.0 (subst (λ ns. Contains ns x) k.2 i)
+  pub not_waiting : (x : ℕ) → ((k : LockName) → Contains (standing (at_lock k) line) x → ⊥) → (n : ℕ) → n < count_of l.locks → Contains (numbers_in l.links l.locks n) x → ⊥
+  not_waiting x out n less i = let k = lock_numbers n less in out k.0 (k.2 x i)
 
   pub idle : (x : ℕ) → ((k : LockName) → Contains (standing (at_lock k) line) x → ⊥) → WaitsNowhere l.links l.locks x
   idle x out = record { nowhere = not_waiting x out }
@@ -120,7 +120,7 @@ module _ (l : Line) (line : List Stand) (owner : LockName → Option ℕ) (h : S
     awake = two;
     running = λ v. subst (λ r. of_worker (get_or r v None) ≡ without a (of_worker (get_or l.running v None))) (sym is) (each_at (λ v. of_worker (get_or (slice_set l.running w None) v None) ≡ without a (of_worker (get_or l.running v None))) w here_on other_on v);
     ready = λ p. sym (without-none a (ready_in l.links l.ready p) (λ i. (let z = sym at ∙ ready_place p a i in absurd (cc z))));
-    waiting = λ n less. sym (waiting_none a (waiting_in l.links l.locks n) (not_waiting a (λ k. elsewhere (at_lock k) line a (book.On w) h.once at refl) n less));
+    waiting = λ n less. left_same l (record l { running = running; places = places; live = live; awake = awake }) a n (record { entrants = refl; waiters = refl }) (not_waiting a (λ k. elsewhere (at_lock k) line a (book.On w) h.once at refl) n less);
     numbers = refl;
     count = refl;
     room = refl;
@@ -152,8 +152,8 @@ module _ (l : Line) (line : List Stand) (owner : LockName → Option ℕ) (h : S
         awake = two;
         running = λ v. sym (without-none a (of_worker (get_or l.running v None)) (λ i. elsewhere (is_on v) line a (book.Ready (priority_number p)) h.once at refl (subst (λ ns. Contains ns a) (sym (h.running v)) i)));
         ready = lists;
-        waiting = λ n less. still_waiting l.links links l.locks (all_ready l.links l.ready) keeps h.waits rests table.marks n
-            ∙ sym (waiting_none a (waiting_in l.links l.locks n) (not_waiting a (λ k. elsewhere (at_lock k) line a (book.Ready (priority_number p)) h.once at refl) n less));
+        waiting = λ n less. left_same l (record l { links = links; ready = ready; places = places; live = live; awake = awake }) a n (still_waiting l.links links l.locks (all_ready l.links l.ready) keeps h.waits rests table.marks n)
+            (not_waiting a (λ k. elsewhere (at_lock k) line a (book.Ready (priority_number p)) h.once at refl) n less);
         numbers = refl;
         count = refl;
         room = table.room;
@@ -177,7 +177,7 @@ module _ (l : Line) (line : List Stand) (owner : LockName → Option ℕ) (h : S
         (λ v ne. ap of_worker (get_or-set_other l.running w v (Some a) None ne) ∙ sym (append_nil (of_worker (get_or l.running v None))) ∙ ap (λ q. of_worker (get_or l.running v None) ++ (if q then a ∷ [] else [])) (sym (differ w v (λ e. ne (sym e)))))
         v);
     ready = λ q. sym (append_nil (ready_in l.links l.ready q));
-    waiting = λ k n is less. sym (append_nil (waiting_in l.links l.locks n));
+    waiting = λ k n is less. joined_same l (record l { running = running; places = places; live = live; awake = awake }) n (record { entrants = refl; waiters = refl });
     unnumbered = λ k is. refl;
     owners = λ n less. refl;
     numbers = refl;
@@ -207,7 +207,7 @@ module _ (l : Line) (line : List Stand) (owner : LockName → Option ℕ) (h : S
               (last ∙ by_case (λ b. ready_in l.links l.ready p ++ a ∷ [] ≡ ready_in l.links l.ready p ++ (if b then a ∷ [] else [])) (priority_number p) (priority_number p) (λ _. refl) (λ ne. absurd (ne refl)))
           | inr ne ↦ lists q ne ∙ sym (append_nil (ready_in l.links l.ready q)) ∙ ap (λ b. ready_in l.links l.ready q ++ (if b then a ∷ [] else [])) (sym (number_differs p q (λ e. ne (sym e))))
         ];
-        waiting = λ k n is less. still_waiting l.links links l.locks (a ∷ ready_in l.links l.ready p) keeps h.waits rests table.marks n ∙ sym (append_nil (waiting_in l.links l.locks n));
+        waiting = λ k n is less. joined_same l (record l { links = links; ready = ready; places = places; live = live; awake = awake }) n (still_waiting l.links links l.locks (a ∷ ready_in l.links l.ready p) keeps h.waits rests table.marks n);
         unnumbered = λ k is. refl;
         owners = λ n less. refl;
         numbers = refl;

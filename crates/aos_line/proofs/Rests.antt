@@ -10,7 +10,7 @@ use Rattle.aos_queue.specs.declared.links.Links.{Links}
 use Rattle.aos_queue.specs.Lists.{room_of, mark_of, KeepsOthers, SameTable}
 use Rattle.aos_queue.proofs.Members.{none}
 use Rattle.aos_lock.specs.declared.locks.Locks.{Locks}
-use Rattle.aos_lock.specs.Waits.{count_of, owner_of, waiting_in, Belong as LocksBelong, WaitsNowhere}
+use Rattle.aos_lock.specs.Waits.{count_of, owner_of, SameWaiting, Belong as LocksBelong, WaitsNowhere}
 use Rattle.aos_lock.proofs.Changes.{still_belong, still_waiting}
 use Rattle.aos_ready.specs.declared.ready.Ready.{Ready}
 use Rattle.aos_ready.specs.Order.{ready_in, all_ready, Belong as ReadyBelong}
@@ -22,6 +22,7 @@ use Rattle.aos_line.specs.Numbers.{number_of}
 use Rattle.aos_line.specs.Stands.{HasPlace, HasLock, Stands}
 use Rattle.aos_line.proofs.Members.{by_case}
 use Rattle.aos_line.proofs.Shares.{ready_kept, ready_belong}
+use Rattle.aos_line.proofs.Moves.{stands_still}
 use Rattle.aos_line.proofs.Places.{ready_within, ready_idle}
 
 -- a place more, where nobody stands
@@ -69,7 +70,7 @@ module _ (l : Line) (line : List Stand) (owner : LockName → Option ℕ) (h : S
     where
       waits_same : (k : LockName) (o : Option ℕ) → HasLock l o (waiting k line) (owner k) → HasLock (record l { links = links; places = places }) o (waiting k line) (owner k)
       waits_same k None had = had
-      waits_same k (Some n) had = (had.0, still_waiting l.links links l.locks [] keeps h.waits (λ x i. absurd (none x i)) marks n ∙ had.1, had.2)
+      waits_same k (Some n) had = (had.0, stands_still l.links links l.locks l.locks n (waiting k line) (still_waiting l.links links l.locks [] keeps h.waits (λ x i. absurd (none x i)) marks n) had.1, had.2)
 
   -- a place more, where nobody stands
   pub placed : (places : Vec Place Global) → places.items ≡ l.places.items ++ Nowhere ∷ [] → length l.places.items < room_of l.links → Stands (record l { places = places }) line owner
@@ -114,11 +115,11 @@ module _ (l : Line) (line : List Stand) (owner : LockName → Option ℕ) (h : S
 
       waits_same : (k : LockName) (o : Option ℕ) → HasLock l o (waiting k line) (owner k) → HasLock (record l { links = links; ready = ready }) o (waiting k line) (owner k)
       waits_same k None had = had
-      waits_same k (Some n) had = (had.0, still_waiting l.links links l.locks (all_ready l.links l.ready) keeps h.waits rests table.marks n ∙ had.1, had.2)
+      waits_same k (Some n) had = (had.0, stands_still l.links links l.locks l.locks n (waiting k line) (still_waiting l.links links l.locks (all_ready l.links l.ready) keeps h.waits rests table.marks n) had.1, had.2)
 
   -- room has been made for a lock
   pub relocked : (names : Numbers) (locks : Locks) → ((k : LockName) → number_of names k ≡ number_of l.numbers k) → count_of locks ≡ count_of l.locks → ((n : ℕ) → n < count_of l.locks → owner_of locks n ≡ owner_of l.locks n) →
-      ((n : ℕ) → n < count_of l.locks → waiting_in l.links locks n ≡ waiting_in l.links l.locks n) → LocksBelong l.links locks → Stands (record l { numbers = names; locks = locks }) line owner
+      ((n : ℕ) → n < count_of l.locks → SameWaiting l.links l.locks l.links locks n) → LocksBelong l.links locks → Stands (record l { numbers = names; locks = locks }) line owner
   relocked names locks same count owners lists belong =
       record {
         once = h.once;
@@ -138,7 +139,7 @@ module _ (l : Line) (line : List Stand) (owner : LockName → Option ℕ) (h : S
     where
       still : (k : LockName) (o : Option ℕ) → HasLock l o (waiting k line) (owner k) → HasLock (record l { numbers = names; locks = locks }) o (waiting k line) (owner k)
       still k None had = had
-      still k (Some n) had = (subst (λ i. n < i) (sym count) had.0, lists n had.0 ∙ had.1, owners n had.0 ∙ had.2)
+      still k (Some n) had = (subst (λ i. n < i) (sym count) had.0, stands_still l.links l.links l.locks locks n (waiting k line) (lists n had.0) had.1, owners n had.0 ∙ had.2)
 
   -- nobody owned or awaited a lock that was never asked for, and nobody does
   pub same_owners : (o : LockName → Option ℕ) → ((k : LockName) → o k ≡ owner k) → Stands l line o

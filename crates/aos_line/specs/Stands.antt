@@ -1,5 +1,5 @@
 -- The line of the kernel's book, place by place: the list of each queue, the activity of each worker, and the owner of each lock.
-use Rattle.std.specs.Prelude.{◌≡◌, ◌≢◌, ◌<◌, ◌≤◌, ℕ, List, [], ◌∷◌, Bool, true, not, ◌==◌, if◌then◌else◌, Option, Some, None, length, get_or, slice_get, vec_len, vec_capacity}
+use Rattle.std.specs.Prelude.{◌≡◌, ◌≢◌, ◌<◌, ◌≤◌, ℕ, List, [], ◌∷◌, ◌++◌, Bool, true, not, ◌==◌, if◌then◌else◌, Option, Some, None, length, get_or, slice_get, vec_len, vec_capacity}
 use Rattle.aos_base.specs.declared.kernel.Outcome.{Outcome}
 use Rattle.aos_base.specs.declared.kernel.Outcome.TheVariants.{Going, Ended, Dead, Spent}
 use Rattle.aos_base.specs.declared.kernel.LockName.{LockName}
@@ -12,8 +12,7 @@ use Rattle.aos_lock.specs.declared.lock.Entered.{Entered}
 use Rattle.aos_lock.specs.declared.lock.Entered.TheVariants.{Taken, Waits, Recursive}
 use Rattle.aos_lock.specs.declared.lock.Passed.{Passed}
 use Rattle.aos_lock.specs.declared.lock.Passed.TheVariants.{Waiter, Entrant, Free}
-use Rattle.aos_lock.specs.Heirs.{own}
-use Rattle.aos_lock.specs.Waits.{count_of, owner_of, waiting_in, Belong as LocksBelong}
+use Rattle.aos_lock.specs.Waits.{count_of, owner_of, StandsFor, Belong as LocksBelong}
 use Rattle.aos_ready.specs.Order.{number_of as priority_number, ready_in, Belong as ReadyBelong}
 use Rattle.aos_line.specs.declared.place.Place.{Place}
 use Rattle.aos_line.specs.declared.place.Place.TheVariants.{Nowhere, On, Ready, At}
@@ -60,11 +59,12 @@ HasPlace (On w) p = p ≡ Some (book.On w)
 HasPlace (Ready q) p = p ≡ Some (book.Ready (priority_number q))
 HasPlace (At l awaits) p = (wants : Wants) × (p ≡ Some (book.At l wants)) × (awaits ≡ not (enters wants))
 
--- a lock, by its number: those who wait, with conditions by their waiters, and the owner. For one without a number nobody waits
+-- a lock, by its number: it stands for those who wait, its entrants and its waiters each in their order, and has this owner. For one
+-- without a number nobody waits
 abbrev pub HasLock : Line → Option ℕ → List Waiting → Option ℕ → Type 0
 HasLock l None es owner = (es ≡ []) × (owner ≡ None)
 HasLock l (Some n) es owner =
-    (n < count_of l.locks) × (waiting_in l.links l.locks n ≡ own es) × (owner_of l.locks n ≡ owner)
+    (n < count_of l.locks) × StandsFor l.links l.locks n es × (owner_of l.locks n ≡ owner)
 
 -- the line, and the owners of locks
 pub record Stands (l : Line) (line : List Stand) (owner : LockName → Option ℕ) : Type 0 where
@@ -109,6 +109,18 @@ outcome_by live awake spent = if live == 0 then Ended else if spent then Spent e
 pub record HasRoomMore (l : Line) : Type 0 where
   pub places : vec_len l.places < vec_capacity l.places
   pub links : length l.places.items < room_of l.links
+
+-- this holds of whatever line is shown
+abbrev pub OfLine : Line → (List Stand → Type 0) → Type 0
+OfLine l P = (line : List Stand) (owner : LockName → Option ℕ) → Stands l line owner → P line
+
+-- whatever was shown, with whatever owners, what becomes of it is shown
+abbrev pub Moved : Line → Line → (List Stand → List Stand) → Type 0
+Moved old new f = (line : List Stand) (owner : LockName → Option ℕ) → Stands old line owner → Stands new (f line) owner
+
+-- one more stands behind all others
+abbrev pub with_last : ℕ → book.Place → List Stand → List Stand
+with_last a place line = line ++ record { activity = a; place = place } ∷ []
 
 -- whatever was shown is shown
 abbrev pub StandsSame : Line → Line → Type 0

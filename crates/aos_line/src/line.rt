@@ -1,10 +1,10 @@
 // Where activities stand.
 
-ghost use Rattle.std.specs.Prelude.{◌≡◌, ℕ, ◌<◌, suc, [], ◌∷◌, ◌++◌, List, Option, None, length, get_or, slice_set, OnOk, IfSome, IsNone};
+ghost use Rattle.std.specs.Prelude.{◌≡◌, ℕ, ◌<◌, suc, [], List, Option, None, length, get_or, slice_set, OnOk, IfSome, IsNone};
 ghost use Rattle.aos_base.specs.declared.kernel.LockName.{LockName};
 ghost use Rattle.aos_base.specs.Book.{Stand, on_worker, first_ready, outcome_of, place_of as place_in, leave_line, move, On, Ready as IsReady};
 ghost use Rattle.aos_ready.specs.Order.{number_of as priority_number};
-ghost use Rattle.aos_line.specs.Stands.{places_of, started_of, live_of, running_of, HasPlace, Stands, IsStood, IsOn, IsNowhere, StandsSame, HasRoomMore, outcome_by as outcome_for};
+ghost use Rattle.aos_line.specs.Stands.{places_of, started_of, live_of, running_of, HasPlace, Stands, IsStood, IsOn, IsNowhere, OfLine, Moved, with_last, StandsSame, HasRoomMore, outcome_by as outcome_for};
 
 use crate::numbers::Numbers;
 use crate::place::Place;
@@ -80,8 +80,7 @@ impl Line {
     /// The activity of a worker.
     pub fn on(&self, worker: u32) -> Option<u32>
         ensures running { result ≡ running_of self.now worker }
-        ensures on { (line : List Stand) (owner : LockName → Option ℕ) → Stands self.now line owner →
-            result ≡ on_worker worker line }
+        ensures on { OfLine self.now (λ line. result ≡ on_worker worker line) }
     {
         match self.running.get(worker as usize) {
             Some(activity) => *activity,
@@ -92,24 +91,22 @@ impl Line {
     /// How many activities live.
     pub fn live(&self) -> usize
         ensures live { result ≡ live_of self.now }
-        ensures length { (line : List Stand) (owner : LockName → Option ℕ) → Stands self.now line owner →
-            result ≡ length line }
+        ensures length { OfLine self.now (λ line. result ≡ length line) }
     {
         self.live
     }
 
     /// Where an activity stands.
     pub fn place(&self, activity: u32) -> Place
-        ensures { (line : List Stand) (owner : LockName → Option ℕ) → Stands self.now line owner →
-            HasPlace result (place_in line activity) }
+        ensures { (line : List Stand) (owner : LockName → Option ℕ) →
+            Stands self.now line owner → HasPlace result (place_in line activity) }
     {
         place_at(&self.places, activity)
     }
 
     /// How far the execution is, where an activity has reached the budget or none has.
     pub fn outcome(&self, spent: Option<u32>) -> Outcome
-        ensures { (line : List Stand) (owner : LockName → Option ℕ) → Stands self.now line owner →
-            result ≡ outcome_of line spent }
+        ensures { OfLine self.now (λ line. result ≡ outcome_of line spent) }
     {
         outcome_by(self.live, self.awake, spent.is_some())
     }
@@ -136,8 +133,8 @@ impl Line {
         requires room { HasRoomMore self.old }
         requires live { live_of self.old < 1024 }
         requires started { started_of self.old < 65536 }
-        ensures stands { (line : List Stand) (owner : LockName → Option ℕ) → Stands self.old line owner →
-            Stands self.new (move (started_of self.old) (IsReady (priority_number priority)) line) owner }
+        ensures stands { Moved self.old self.new
+            (move (started_of self.old) (IsReady (priority_number priority))) }
         ensures on { (other : ℕ) → IsOn self.old other → IsOn self.new other }
         ensures started { started_of self.new ≡ suc (started_of self.old) }
     {
@@ -149,8 +146,7 @@ impl Line {
     /// An activity leaves its worker.
     pub fn leave(&mut self, activity: u32)
         requires { IsOn self.old activity }
-        ensures stands { (line : List Stand) (owner : LockName → Option ℕ) → Stands self.old line owner →
-            Stands self.new (leave_line activity line) owner }
+        ensures stands { Moved self.old self.new (leave_line activity) }
         ensures nowhere { IsNowhere self.new activity }
         ensures locks { self.new.locks ≡ self.old.locks }
         ensures numbers { self.new.numbers ≡ self.old.numbers }
@@ -167,9 +163,10 @@ impl Line {
     /// One that stands nowhere is ready, behind those of its priority.
     pub fn wake(&mut self, activity: u32, priority: Priority)
         requires { IsNowhere self.old activity }
-        ensures stands { (line : List Stand) (owner : LockName → Option ℕ) → Stands self.old line owner →
-            Stands self.new (line ++ record { activity = activity; place = IsReady (priority_number priority) } ∷ []) owner }
-        ensures places { places_of self.new ≡ slice_set (places_of self.old) activity (Place.Ready priority) }
+        ensures stands { Moved self.old self.new
+            (with_last activity (IsReady (priority_number priority))) }
+        ensures places { places_of self.new ≡
+            slice_set (places_of self.old) activity (Place.Ready priority) }
         ensures started { started_of self.new ≡ started_of self.old }
     {
         self.ready.add(&mut self.links, activity, priority);
@@ -181,8 +178,8 @@ impl Line {
     /// An activity leaves its worker, and is ready behind those of its priority.
     pub fn yield_to(&mut self, activity: u32, priority: Priority)
         requires { IsOn self.old activity }
-        ensures stands { (line : List Stand) (owner : LockName → Option ℕ) → Stands self.old line owner →
-            Stands self.new (move activity (IsReady (priority_number priority)) line) owner }
+        ensures stands { Moved self.old self.new
+            (move activity (IsReady (priority_number priority))) }
         ensures started { started_of self.new ≡ started_of self.old }
     {
         self.leave(activity);
@@ -192,9 +189,9 @@ impl Line {
     /// Takes the first ready one of the highest priority from those that are ready.
     fn take_ready(&mut self) -> Option<u32>
         requires { IsStood self.old }
-        ensures first { (line : List Stand) (owner : LockName → Option ℕ) → Stands self.old line owner →
-            result ≡ first_ready line }
-        ensures left { (line : List Stand) (owner : LockName → Option ℕ) → Stands self.old line owner →
+        ensures first { OfLine self.old (λ line. result ≡ first_ready line) }
+        ensures left { (line : List Stand) (owner : LockName → Option ℕ) →
+            Stands self.old line owner →
             IfSome result (λ a. Stands self.new (leave_line a line) owner) }
         ensures nowhere { IfSome result (λ a. IsNowhere self.new a) }
         ensures none { IsNone result → StandsSame self.old self.new }
@@ -217,8 +214,7 @@ impl Line {
         requires nowhere { IsNowhere self.old activity }
         requires worker { worker < 16 }
         requires idle { running_of self.old worker ≡ None }
-        ensures stands { (line : List Stand) (owner : LockName → Option ℕ) → Stands self.old line owner →
-            Stands self.new (line ++ record { activity = activity; place = On worker } ∷ []) owner }
+        ensures stands { Moved self.old self.new (with_last activity (On worker)) }
         ensures started { started_of self.new ≡ started_of self.old }
     {
         self.running[worker as usize] = Some(activity);
@@ -232,9 +228,9 @@ impl Line {
         requires stood { IsStood self.old }
         requires worker { worker < 16 }
         requires idle { running_of self.old worker ≡ None }
-        ensures first { (line : List Stand) (owner : LockName → Option ℕ) → Stands self.old line owner →
-            result ≡ first_ready line }
-        ensures stands { (line : List Stand) (owner : LockName → Option ℕ) → Stands self.old line owner →
+        ensures first { OfLine self.old (λ line. result ≡ first_ready line) }
+        ensures stands { (line : List Stand) (owner : LockName → Option ℕ) →
+            Stands self.old line owner →
             IfSome result (λ a. Stands self.new (move a (On worker) line) owner) }
         ensures none { IsNone result → StandsSame self.old self.new }
         ensures started { started_of self.new ≡ started_of self.old }

@@ -1,13 +1,13 @@
 // Locks: who asks for them, and to whom they pass.
 
-ghost use Rattle.std.specs.Prelude.{◌≡◌, ℕ, not, ◌++◌, ◌∷◌, [], List, Option, Some, IfOk, OnOk, OnErr};
+ghost use Rattle.std.specs.Prelude.{◌≡◌, ℕ, not, List, Option, Some, IfOk, OnOk, OnErr};
 ghost use Rattle.std.specs.List.{Contains};
 ghost use Rattle.aos_base.specs.declared.kernel.Verdict.{Verdict};
 ghost use Rattle.aos_base.specs.Lock.{is_lock, Waiting, Wants, Condition, enters, judged, heir};
 ghost use Rattle.aos_base.specs.Book.{Stand, put, waiting, move, At};
 ghost use Rattle.aos_lock.specs.Heirs.{by_waiter, passed_to, new_owner};
 ghost use Rattle.aos_line.specs.Numbers.{number_of};
-ghost use Rattle.aos_line.specs.Stands.{started_of, Stands, IsStood, IsOn, IsNowhere, StandsSame, HasEntered, left_by};
+ghost use Rattle.aos_line.specs.Stands.{started_of, Stands, IsStood, IsOn, IsNowhere, with_last, StandsSame, HasEntered, left_by};
 
 use crate::line::Line;
 use crate::place::Place;
@@ -38,8 +38,10 @@ impl Line {
     fn join(&mut self, activity: u32, lock: LockName, number: u32, awaits: bool)
         requires nowhere { IsNowhere self.old activity }
         requires number { number_of self.old.numbers lock ≡ Some number }
-        ensures stands { (line : List Stand) (owner : LockName → Option ℕ) → Stands self.old line owner → (wants : Wants) → awaits ≡ not (enters wants) →
-            Stands self.new (line ++ record { activity = activity; place = At lock wants } ∷ []) owner }
+        ensures stands { (line : List Stand) (owner : LockName → Option ℕ) →
+            Stands self.old line owner →
+            (wants : Wants) → awaits ≡ not (enters wants) →
+            Stands self.new (with_last activity (At lock wants) line) owner }
         ensures started { started_of self.new ≡ started_of self.old }
     {
         self.locks.join(&mut self.links, number, activity, awaits);
@@ -51,7 +53,8 @@ impl Line {
     /// else it leaves its worker and waits. Where memory is wanted, nothing changes.
     pub fn enter(&mut self, activity: u32, lock: LockName) -> Result<Entered, NoMemory>
         requires { IsOn self.old activity }
-        ensures entered { (line : List Stand) (owner : LockName → Option ℕ) → Stands self.old line owner →
+        ensures entered { (line : List Stand) (owner : LockName → Option ℕ) →
+            Stands self.old line owner →
             IfOk result (λ entered. HasEntered self.new entered activity lock line owner) }
         ensures err { OnErr result (StandsSame self.old self.new) }
         ensures on { IfOk result (λ entered. entered ≡ Entered.Recursive → IsOn self.new activity) }
@@ -78,8 +81,11 @@ impl Line {
     /// nothing changes.
     pub fn wait(&mut self, activity: u32, lock: LockName) -> Result<(), NoMemory>
         requires { IsOn self.old activity }
-        ensures stands { (line : List Stand) (owner : LockName → Option ℕ) → Stands self.old line owner → (condition : ℕ) →
-            OnOk result (Stands self.new (move activity (At lock (Condition condition)) line) owner) }
+        ensures stands { (line : List Stand) (owner : LockName → Option ℕ) →
+            Stands self.old line owner →
+            (condition : ℕ) →
+            OnOk result
+            (Stands self.new (move activity (At lock (Condition condition)) line) owner) }
         ensures err { OnErr result (StandsSame self.old self.new) }
         ensures started { started_of self.new ≡ started_of self.old }
     {
@@ -92,12 +98,15 @@ impl Line {
     /// A lock passes to its heir, who stands nowhere then. It takes no memory.
     pub fn release<T: Test>(&mut self, lock: LockName, test: &mut T) -> Passed
         requires { IsStood self.old }
-        ensures passed { (line : List Stand) (owner : LockName → Option ℕ) → Stands self.old line owner →
+        ensures passed { (line : List Stand) (owner : LockName → Option ℕ) →
+            Stands self.old line owner →
             (verdict : ℕ → ℕ → Verdict) →
             ((e : Waiting) → Contains (waiting lock line) e →
-            judged verdict e.activity e.wants ≡ judged (by_waiter (T.verdict_of test.old)) e.activity e.wants) →
+            judged verdict e.activity e.wants ≡
+            judged (by_waiter (T.verdict_of test.old)) e.activity e.wants) →
             result ≡ passed_to (heir verdict (waiting lock line)) }
-        ensures stands { (line : List Stand) (owner : LockName → Option ℕ) → Stands self.old line owner →
+        ensures stands { (line : List Stand) (owner : LockName → Option ℕ) →
+            Stands self.old line owner →
             Stands self.new (left_by result line) (put is_lock owner lock (new_owner result)) }
         ensures nowhere { (b : ℕ) → new_owner result ≡ Some b → IsNowhere self.new b }
         ensures held { (h : T.Held) → T.held test.old h → T.held test.new h }

@@ -29,7 +29,8 @@ fn at(numbers: &[Option<u32>], key: u32) -> Option<u32>
 /// Makes room for the number under a key.
 fn reserve(numbers: &mut Vec<Option<u32>>, key: u32) -> Result<(), NoMemory>
     ensures room { OnOk result (key < length numbers.new.items) }
-    ensures same { (other : ℕ) → get_or numbers.new.items other None ≡ get_or numbers.old.items other None }
+    ensures same { (other : ℕ) →
+        get_or numbers.new.items other None ≡ get_or numbers.old.items other None }
 {
     let room = numbers.len().max(key as usize + 1);
     numbers.resize(room, None)?;

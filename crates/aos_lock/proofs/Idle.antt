@@ -1,63 +1,69 @@
 -- Who waits for no lock after a call.
-use Rattle.std.proofs.Common.{◌≡◌, ◌≢◌, ◌<◌, ℕ, List, [], ◌∷◌, refl, sym, subst, ◌∙◌, inl, inr, Contains}
-use Rattle.std.specs.Prelude.{Bool, true, false, Some, ◌==◌, not, cond}
-use Rattle.std.proofs.lemmas.Bool.{eq-eqb, false≢true}
+use Rattle.std.proofs.Common.{◌≡◌, ◌≢◌, ◌<◌, ◌++◌, ℕ, List, subst, inl, inr, Contains}
+use Rattle.std.specs.Prelude.{Bool, Some}
 use Rattle.std.proofs.lemmas.Bool.Decides.{eqb_tells}
-use Rattle.aos_base.specs.declared.kernel.Verdict.{Verdict}
-use Rattle.aos_base.specs.Lock.{Waiting, after_heir, without}
+use Rattle.std.proofs.lemmas.List.Elements.{Contains-append_cases}
 use Rattle.aos_queue.specs.declared.links.Links.{Links}
-use Rattle.aos_queue.proofs.Members.{none, among}
-use Rattle.aos_lock.specs.declared.lock.Entered.{Entered}
+use Rattle.aos_queue.proofs.Members.{among, gone}
+use Rattle.aos_lock.specs.declared.lock.Passed.{Passed}
 use Rattle.aos_lock.specs.declared.locks.Locks.{Locks}
-use Rattle.aos_lock.specs.Heirs.{by_waiter, heir_by, passed_to, new_owner, entered_list}
-use Rattle.aos_lock.specs.Waits.{numbers, lock_at, count_of, waiting_in, Belong, WaitsNowhere, KeepsLocks}
-use Rattle.aos_lock.proofs.Rows.{entered_within}
-use Rattle.aos_lock.proofs.Walks.{chosen, leaves}
-use Rattle.aos_lock.proofs.Changes.{numbers_waiting}
+use Rattle.aos_lock.specs.Heirs.{new_owner, after_passed, joined}
+use Rattle.aos_lock.specs.Waits.{count_of, entrants_in, waiters_in, numbers_in, WaitsNowhere, SameWaiting, KeepsLocks}
+use Rattle.aos_lock.proofs.Rows.{both_joined, both_left, passed_leaves}
+
+same_numbers : (before after : Links) (old new : Locks) (lock : ℕ) → SameWaiting before old after new lock → numbers_in after new lock ≡ numbers_in before old lock
+same_numbers before after old new lock h = λ i. h.entrants i ++ h.waiters i
 
 -- one who doesn't come to the lock waits for as many locks as before
 pub idle_kept : (before after : Links) (old new : Locks) (lock a : ℕ) → lock < count_of old → KeepsLocks before old after new lock
-    → (Contains (numbers (waiting_in after new lock)) a → Contains (numbers (waiting_in before old lock)) a)
+    → (Contains (numbers_in after new lock) a → Contains (numbers_in before old lock) a)
     → WaitsNowhere before old a → WaitsNowhere after new a
 idle_kept before after old new lock a added keeps within h = record {
   nowhere = λ other l i. elim (eqb_tells other lock) [
-    | inl e ↦ h.nowhere lock added (within (subst (λ k. Contains (numbers (waiting_in after new k)) a) e.1 i))
-    | inr d ↦ h.nowhere other (subst (λ n. other < n) keeps.count l) (subst (λ es. Contains (numbers es) a) (keeps.lists other d.1) i)
+    | inl e ↦ h.nowhere lock added (within (subst (λ k. Contains (numbers_in after new k) a) e.1 i))
+    | inr d ↦ h.nowhere other (subst (λ n. other < n) keeps.count l) (subst (λ ns. Contains ns a) (same_numbers before after old new other (keeps.lists other d.1)) i)
   ];
 }
 
-pub idle_entered : (before after : Links) (old new : Locks) (lock a b : ℕ) (r : Entered) → lock < count_of old → KeepsLocks before old after new lock
-    → waiting_in after new lock ≡ entered_list r a (waiting_in before old lock) → a ≢ b → WaitsNowhere before old b → WaitsNowhere after new b
-idle_entered before after old new lock a b r added keeps e other h =
-    idle_kept before after old new lock b added keeps
-    (λ i. elim (among a b (numbers (waiting_in before old lock)) (entered_within r a (waiting_in before old lock) b (subst (λ es. Contains (numbers es) b) e i))) [
+-- nor does one where another one may have joined
+pub idle_joined : (before after : Links) (old new : Locks) (lock a x : ℕ) (b c : Bool) → lock < count_of old → KeepsLocks before old after new lock
+    → entrants_in after new lock ≡ joined b a (entrants_in before old lock) → waiters_in after new lock ≡ joined c a (waiters_in before old lock)
+    → a ≢ x → WaitsNowhere before old x → WaitsNowhere after new x
+idle_joined before after old new lock a x b c added keeps e w other h =
+    let es = entrants_in before old lock in
+    let ws = waiters_in before old lock in
+    let is : numbers_in after new lock ≡ joined b a es ++ joined c a ws = λ j. e j ++ w j in
+    idle_kept before after old new lock x added keeps
+    (λ i. elim (among a x (es ++ ws) (both_joined b c a es ws x (subst (λ ns. Contains ns x) is i))) [
       | inl q ↦ absurd (other q)
       | inr j ↦ j
     ]) h
 
+-- nor one from which the lock passes to somebody
+pub idle_left : (before after : Links) (old new : Locks) (lock x : ℕ) (p : Passed) → lock < count_of old → KeepsLocks before old after new lock
+    → entrants_in after new lock ≡ after_passed p (entrants_in before old lock) → waiters_in after new lock ≡ after_passed p (waiters_in before old lock)
+    → WaitsNowhere before old x → WaitsNowhere after new x
+idle_left before after old new lock x p added keeps e w h =
+    let es = entrants_in before old lock in
+    let ws = waiters_in before old lock in
+    let is : numbers_in after new lock ≡ after_passed p es ++ after_passed p ws = λ j. e j ++ w j in
+    idle_kept before after old new lock x added keeps (λ i. both_left p es ws x (subst (λ ns. Contains ns x) is i)) h
+
 -- who gets the lock waits for none
-gone_or : (a : ℕ) (e : Waiting) (fs : List Waiting) (b : Bool) → (e.activity == a) ≡ b → (Contains (numbers fs) a → ⊥) → Contains (numbers (cond (not b) (e ∷ fs) fs)) a → ⊥
-gone_or a e fs true q out i = out i
-gone_or a e fs false q out i = elim (among e.activity a (numbers fs) i) [ inl p ↦ false≢true (sym q ∙ eq-eqb e.activity a p) | inr j ↦ out j ]
+passed_gone : (p : Passed) (a : ℕ) (es ws : List ℕ) → new_owner p ≡ Some a → Contains (after_passed p es ++ after_passed p ws) a → ⊥
+passed_gone p a es ws is i = elim (Contains-append_cases (after_passed p es) (after_passed p ws) a i) [
+  | inl j ↦ gone a es (subst (λ ns. Contains ns a) (passed_leaves p a es is) j)
+  | inr j ↦ gone a ws (subst (λ ns. Contains ns a) (passed_leaves p a ws is) j)
+]
 
-pub gone : (a : ℕ) (es : List Waiting) → Contains (numbers (without a es)) a → ⊥
-gone a [] i = none a i
-gone a (e ∷ es) i = gone_or a e (without a es) (e.activity == a) refl (gone a es) i
-
-pub heir_idle : (before after : Links) (old new : Locks) (lock a : ℕ) (verdict : ℕ → Verdict) (es : List Waiting) → KeepsLocks before old after new lock
-    → ((other : ℕ) → other ≢ lock → other < count_of old → Contains (numbers (waiting_in before old other)) a → Contains (numbers es) a → ⊥)
-    → waiting_in after new lock ≡ after_heir (heir_by verdict es) es → new_owner (passed_to (heir_by verdict es)) ≡ Some a → WaitsNowhere after new a
-heir_idle before after old new lock a verdict es keeps apart e is = record {
-  nowhere = λ other l i. elim (eqb_tells other lock) [
-    | inl q ↦ gone a es (subst (λ fs. Contains (numbers fs) a) (e ∙ leaves (heir_by verdict es) a es is) (subst (λ k. Contains (numbers (waiting_in after new k)) a) q.1 i))
-    | inr d ↦ apart other d.1 (subst (λ n. other < n) keeps.count l) (subst (λ fs. Contains (numbers fs) a) (keeps.lists other d.1) i)
-        (chosen (by_waiter verdict) es a is)
-  ];
-}
-
--- nobody waits for two locks
-pub apart_waiting : (links : Links) (locks : Locks) (lock other a : ℕ) → Belong links locks → other ≢ lock → Contains (numbers (waiting_in links locks other)) a → Contains (numbers (waiting_in links locks lock)) a → ⊥
-apart_waiting links locks lock other a h d i j =
-    (h.apart other lock d).apart a
-    (subst (λ ns. Contains ns a) (numbers_waiting links locks other (lock_at locks other) refl) i)
-    (subst (λ ns. Contains ns a) (numbers_waiting links locks lock (lock_at locks lock) refl) j)
+pub heir_idle : (before after : Links) (old new : Locks) (lock a : ℕ) (p : Passed) (es ws : List ℕ) → KeepsLocks before old after new lock
+    → ((other : ℕ) → other ≢ lock → other < count_of old → Contains (numbers_in before old other) a → ⊥)
+    → entrants_in after new lock ≡ after_passed p es → waiters_in after new lock ≡ after_passed p ws → new_owner p ≡ Some a → WaitsNowhere after new a
+heir_idle before after old new lock a p es ws keeps apart e w is =
+    let all : numbers_in after new lock ≡ after_passed p es ++ after_passed p ws = λ j. e j ++ w j in
+    record {
+      nowhere = λ other l i. elim (eqb_tells other lock) [
+        | inl q ↦ passed_gone p a es ws is (subst (λ ns. Contains ns a) all (subst (λ k. Contains (numbers_in after new k) a) q.1 i))
+        | inr d ↦ apart other d.1 (subst (λ n. other < n) keeps.count l) (subst (λ ns. Contains ns a) (same_numbers before after old new other (keeps.lists other d.1)) i)
+      ];
+    }

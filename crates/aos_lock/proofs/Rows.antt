@@ -1,34 +1,70 @@
--- Rows of those who wait, by their numbers.
-use Rattle.std.proofs.Common.{◌≡◌, ◌≢◌, ℕ, List, [], ◌∷◌, ◌++◌, map, filter, refl, ap, subst, ◌∙◌, inl, inr, Contains}
-use Rattle.std.specs.Prelude.{Bool, ◌==◌, not, cond, true, false}
-use Rattle.std.proofs.lemmas.List.{map-append}
-use Rattle.std.proofs.lemmas.List.Elements.{Contains-push_cases}
-use Rattle.aos_base.specs.Lock.{Waiting, without, Heir, Nobody, Entrant, Waiter, Trapping, after_heir}
-use Rattle.aos_lock.specs.declared.lock.Entered.{Entered}
-use Rattle.aos_lock.specs.declared.lock.Entered.TheVariants.{Taken, Waits, Recursive}
-use Rattle.aos_lock.specs.Heirs.{entrant, entered_list}
-use Rattle.aos_queue.specs.declared.links.Links.{Links}
-use Rattle.aos_queue.specs.Lists.{mark_of, without as number_without}
+-- Lists of numbers, and lists of those who wait by their numbers.
+use Rattle.std.proofs.Common.{◌≡◌, ℕ, List, [], ◌∷◌, ◌++◌, map, filter, refl, sym, ap, subst, ◌∙◌, inl, inr, Contains}
+use Rattle.std.specs.Prelude.{Bool, Some, None, ◌==◌, not, cond, true, false}
+use Rattle.std.proofs.lemmas.List.{map-append, append-nil}
+use Rattle.std.proofs.lemmas.List.Elements.{All-filter, All-contains, All-contains_itself, filter-append, Contains-append_left, Contains-append_right, Contains-append_cases, Contains-push_cases}
+use Rattle.std.proofs.lemmas.Option.{same_Some}
+use Rattle.aos_base.specs.Lock.{Waiting, enters, entrants, waiters, without as waiting_without}
+use Rattle.aos_queue.specs.Lists.{without}
 use Rattle.aos_queue.proofs.Members.{here, there, among}
-use Rattle.aos_lock.specs.Waits.{wants_of, waits_of, numbers}
+use Rattle.aos_concurrency.proofs.Chosen.{filter_swap}
+use Rattle.aos_lock.specs.declared.lock.Passed.{Passed}
+use Rattle.aos_lock.specs.declared.lock.Passed.TheVariants.{Waiter as ToWaiter, Entrant as ToEntrant, Free}
+use Rattle.aos_lock.specs.Heirs.{entrant, waiter, queued, new_owner, after_passed, joined}
+use Rattle.aos_lock.specs.Waits.{numbers}
 
-pub map_same : (old new : Links) (ns : List ℕ) → ((n : ℕ) → Contains ns n → mark_of new n ≡ mark_of old n) → map (waits_of new) ns ≡ map (waits_of old) ns
-map_same old new [] h = refl
-map_same old new (n ∷ ns) h =
-    ap (λ (e : Waiting). e ∷ map (waits_of new) ns) (ap (λ b. record { activity = n; wants = wants_of b n }) (h n (here n ns)))
-    ∙ ap (λ es. waits_of old n ∷ es) (map_same old new ns (λ m i. h m (there n m ns i)))
+-- Numbers within lists
 
-pub map_joined : (old new : Links) (ns : List ℕ) (a : ℕ) (b : Bool) → (Contains ns a → ⊥) → ((n : ℕ) → n ≢ a → mark_of new n ≡ mark_of old n) → mark_of new a ≡ b
-    → map (waits_of new) (ns ++ a ∷ []) ≡ map (waits_of old) ns ++ record { activity = a; wants = wants_of b a } ∷ []
-map_joined old new [] a b out same is = ap (λ (c : Bool). let e : Waiting = record { activity = a; wants = wants_of c a } in e ∷ []) is
-map_joined old new (n ∷ ns) a b out same is =
-    ap (λ c. let e : Waiting = record { activity = n; wants = wants_of c n } in e ∷ map (waits_of new) (ns ++ a ∷ []))
-    (same n (λ q. out (subst (λ k. Contains (n ∷ ns) k) q (here n ns))))
-    ∙ ap (λ es. waits_of old n ∷ es) (map_joined old new ns a b (λ i. out (there n a ns i)) same is)
+pub cons_within : (a : ℕ) (xs ys : List ℕ) (n : ℕ) → (Contains xs n → Contains ys n) → Contains (a ∷ xs) n → Contains (a ∷ ys) n
+cons_within a xs ys n h i = elim (among a n xs i) [
+  | inl e ↦ subst (λ k. Contains (a ∷ ys) k) e (here a ys)
+  | inr j ↦ there a n ys (h j)
+]
 
-pub numbers_are : (links : Links) (ns : List ℕ) → numbers (map (waits_of links) ns) ≡ ns
-numbers_are links [] = refl
-numbers_are links (n ∷ ns) = ap (λ ms. n ∷ ms) (numbers_are links ns)
+pub either_within : (xs ys zs : List ℕ) (n : ℕ) → (Contains xs n → Contains zs n) → (Contains ys n → Contains zs n) → Contains (xs ++ ys) n → Contains zs n
+either_within xs ys zs n f g i = elim (Contains-append_cases xs ys n i) [ inl j ↦ f j | inr j ↦ g j ]
+
+pub filter_within : {X : Type 0} (p : X → Bool) (xs : List X) (x : X) → Contains (filter p xs) x → Contains xs x
+filter_within p xs x i = All-contains (Contains xs) (filter p xs) x (All-filter p (Contains xs) xs (All-contains_itself xs)) i
+
+pub joined_within : (b : Bool) (a : ℕ) (ns : List ℕ) (n : ℕ) → Contains (joined b a ns) n → Contains (a ∷ ns) n
+joined_within true a ns n i = elim (Contains-push_cases ns a n i) [
+  | inl j ↦ there a n ns j
+  | inr e ↦ subst (λ k. Contains (a ∷ ns) k) e (here a ns)
+]
+joined_within false a ns n i = there a n ns i
+
+-- of two lists that one may have joined
+pub both_joined : (b c : Bool) (a : ℕ) (es ws : List ℕ) (n : ℕ) → Contains (joined b a es ++ joined c a ws) n → Contains (a ∷ (es ++ ws)) n
+both_joined b c a es ws n i =
+    either_within (joined b a es) (joined c a ws) (a ∷ (es ++ ws)) n
+    (λ j. cons_within a es (es ++ ws) n (λ k. Contains-append_left es ws n k) (joined_within b a es n j))
+    (λ j. cons_within a ws (es ++ ws) n (λ k. Contains-append_right es ws n k) (joined_within c a ws n j)) i
+
+pub left_within : (p : Passed) (ns : List ℕ) (n : ℕ) → Contains (after_passed p ns) n → Contains ns n
+left_within (ToWaiter a) ns n i = filter_within (λ m. not (m == a)) ns n i
+left_within (ToEntrant a) ns n i = filter_within (λ m. not (m == a)) ns n i
+left_within Free ns n i = i
+
+-- of two lists from which one may have gone
+pub both_left : (p : Passed) (es ws : List ℕ) (n : ℕ) → Contains (after_passed p es ++ after_passed p ws) n → Contains (es ++ ws) n
+both_left p es ws n i =
+    either_within (after_passed p es) (after_passed p ws) (es ++ ws) n
+    (λ j. Contains-append_left es ws n (left_within p es n j)) (λ j. Contains-append_right es ws n (left_within p ws n j)) i
+
+-- A list without the one to whom a lock has passed
+
+pub passed_leaves : (p : Passed) (a : ℕ) (ns : List ℕ) → new_owner p ≡ Some a → after_passed p ns ≡ without a ns
+passed_leaves (ToWaiter b) a ns e = ap (λ k. without k ns) (same_Some b a e)
+passed_leaves (ToEntrant b) a ns e = ap (λ k. without k ns) (same_Some b a e)
+passed_leaves Free a ns e = absurd (cc e)
+
+pub nobody_leaves : (p : Passed) (ns : List ℕ) → new_owner p ≡ None → after_passed p ns ≡ ns
+nobody_leaves (ToWaiter b) ns e = absurd (cc e)
+nobody_leaves (ToEntrant b) ns e = absurd (cc e)
+nobody_leaves Free ns e = refl
+
+-- Those who wait, by their numbers
 
 filter_or : {X Y : Type 0} (f : X → Y) (x : X) (xs : List X) (ys : List Y) (b : Bool) → ys ≡ map f xs → cond b (f x ∷ ys) ys ≡ map f (cond b (x ∷ xs) xs)
 filter_or f x xs ys true e = ap (λ zs. f x ∷ zs) e
@@ -39,37 +75,75 @@ pub filter-map : {X Y : Type 0} (f : X → Y) (p : Y → Bool) (xs : List X) →
 filter-map f p [] = refl
 filter-map f p (x ∷ xs) = filter_or f x (filter (λ y. p (f y)) xs) (filter p (map f xs)) (p (f x)) (filter-map f p xs)
 
-pub without-map : (links : Links) (a : ℕ) (ns : List ℕ) → without a (map (waits_of links) ns) ≡ map (waits_of links) (number_without a ns)
-without-map links a ns = filter-map (waits_of links) (λ e. not (e.activity == a)) ns
+numbers-without : (a : ℕ) (es : List Waiting) → numbers (waiting_without a es) ≡ without a (numbers es)
+numbers-without a es = sym (filter-map (λ (e : Waiting). e.activity) (λ n. not (n == a)) es)
 
--- the numbers of a row that was changed are among those before, with the one who joined
-pub joined_within : (ns : List ℕ) (a n : ℕ) → Contains (ns ++ a ∷ []) n → Contains (a ∷ ns) n
-joined_within ns a n i = elim (Contains-push_cases ns a n i) [
-  | inl j ↦ there a n ns j
-  | inr e ↦ subst (λ k. Contains (a ∷ ns) k) e (here a ns)
-]
+-- the entrants and the waiters of those who are left
+pub entrants-without : (a : ℕ) (es : List Waiting) → numbers (entrants (waiting_without a es)) ≡ without a (numbers (entrants es))
+entrants-without a es =
+    ap numbers (filter_swap (λ (e : Waiting). enters e.wants) (λ (e : Waiting). not (e.activity == a)) es) ∙ numbers-without a (entrants es)
 
-pub numbers-joined : (es : List Waiting) (e : Waiting) → numbers (es ++ e ∷ []) ≡ numbers es ++ e.activity ∷ []
-numbers-joined es e = map-append (λ (w : Waiting). w.activity) es (e ∷ [])
+pub waiters-without : (a : ℕ) (es : List Waiting) → numbers (waiters (waiting_without a es)) ≡ without a (numbers (waiters es))
+waiters-without a es =
+    ap numbers (filter_swap (λ (e : Waiting). not (enters e.wants)) (λ (e : Waiting). not (e.activity == a)) es) ∙ numbers-without a (waiters es)
 
-pub entered_within : (r : Entered) (a : ℕ) (es : List Waiting) (n : ℕ) → Contains (numbers (entered_list r a es)) n → Contains (a ∷ numbers es) n
-entered_within Taken a es n i = there a n (numbers es) i
-entered_within Waits a es n i = joined_within (numbers es) a n (subst (λ ns. Contains ns n) (numbers-joined es (entrant a)) i)
-entered_within Recursive a es n i = there a n (numbers es) i
+-- and of more
+pub entrants-append : (es fs : List Waiting) → numbers (entrants (es ++ fs)) ≡ numbers (entrants es) ++ numbers (entrants fs)
+entrants-append es fs =
+    ap numbers (filter-append (λ (e : Waiting). enters e.wants) es fs) ∙ map-append (λ (e : Waiting). e.activity) (entrants es) (entrants fs)
 
-more_within : (b : Bool) (e : Waiting) (es fs : List Waiting) (n : ℕ) → ((m : ℕ) → Contains (numbers fs) m → Contains (numbers es) m) → Contains (numbers (cond b (e ∷ fs) fs)) n → Contains (numbers (e ∷ es)) n
-more_within true e es fs n rest i = elim (among e.activity n (numbers fs) i) [
-  | inl q ↦ subst (λ k. Contains (numbers (e ∷ es)) k) q (here e.activity (numbers es))
-  | inr j ↦ there e.activity n (numbers es) (rest n j)
-]
-more_within false e es fs n rest i = there e.activity n (numbers es) (rest n i)
+pub waiters-append : (es fs : List Waiting) → numbers (waiters (es ++ fs)) ≡ numbers (waiters es) ++ numbers (waiters fs)
+waiters-append es fs =
+    ap numbers (filter-append (λ (e : Waiting). not (enters e.wants)) es fs) ∙ map-append (λ (e : Waiting). e.activity) (waiters es) (waiters fs)
 
-without_within : (a : ℕ) (es : List Waiting) (n : ℕ) → Contains (numbers (without a es)) n → Contains (numbers es) n
-without_within a [] n i = i
-without_within a (e ∷ es) n i = more_within (not (e.activity == a)) e es (without a es) n (without_within a es) i
+-- they are among all
+numbers_part : (p : Waiting → Bool) (es : List Waiting) (n : ℕ) → Contains (numbers (filter p es)) n → Contains (numbers es) n
+numbers_part p [] n i = i
+numbers_part p (e ∷ es) n i =
+    (elim (p e) as (λ b. Contains (numbers (cond b (e ∷ filter p es) (filter p es))) n → Contains (numbers (e ∷ es)) n) [
+      | true ↦ λ j. cons_within e.activity (numbers (filter p es)) (numbers es) n (λ k. numbers_part p es n k) j
+      | false ↦ λ j. there e.activity n (numbers es) (numbers_part p es n j)
+    ]) i
 
-pub left_within : (h : Heir) (es : List Waiting) (n : ℕ) → Contains (numbers (after_heir h es)) n → Contains (numbers es) n
-left_within Nobody es n i = i
-left_within (Entrant a) es n i = without_within a es n i
-left_within (Waiter a) es n i = without_within a es n i
-left_within (Trapping a k) es n i = without_within a es n i
+pub parts_within : (es : List Waiting) (n : ℕ) → Contains (numbers (entrants es) ++ numbers (waiters es)) n → Contains (numbers es) n
+parts_within es n i =
+    either_within (numbers (entrants es)) (numbers (waiters es)) (numbers es) n
+    (λ j. numbers_part (λ (e : Waiting). enters e.wants) es n j) (λ j. numbers_part (λ (e : Waiting). not (enters e.wants)) es n j) i
+
+-- A list of given entrants and waiters
+
+numbers-entrants : (es : List ℕ) → numbers (map entrant es) ≡ es
+numbers-entrants [] = refl
+numbers-entrants (e ∷ es) = ap (λ ns. e ∷ ns) (numbers-entrants es)
+
+numbers-waiters : (ws : List ℕ) → numbers (map waiter ws) ≡ ws
+numbers-waiters [] = refl
+numbers-waiters (w ∷ ws) = ap (λ ns. w ∷ ns) (numbers-waiters ws)
+
+pub numbers-queued : (es ws : List ℕ) → numbers (queued es ws) ≡ es ++ ws
+numbers-queued es ws =
+    map-append (λ (e : Waiting). e.activity) (map entrant es) (map waiter ws) ∙ (λ i. numbers-entrants es i ++ numbers-waiters ws i)
+
+all_enter : (es : List ℕ) → entrants (map entrant es) ≡ map entrant es
+all_enter [] = refl
+all_enter (e ∷ es) = ap (λ (xs : List Waiting). entrant e ∷ xs) (all_enter es)
+
+none_enters : (ws : List ℕ) → entrants (map waiter ws) ≡ []
+none_enters [] = refl
+none_enters (w ∷ ws) = none_enters ws
+
+all_wait : (ws : List ℕ) → waiters (map waiter ws) ≡ map waiter ws
+all_wait [] = refl
+all_wait (w ∷ ws) = ap (λ (xs : List Waiting). waiter w ∷ xs) (all_wait ws)
+
+none_waits : (es : List ℕ) → waiters (map entrant es) ≡ []
+none_waits [] = refl
+none_waits (e ∷ es) = none_waits es
+
+pub entrants-queued : (es ws : List ℕ) → entrants (queued es ws) ≡ map entrant es
+entrants-queued es ws =
+    filter-append (λ (e : Waiting). enters e.wants) (map entrant es) (map waiter ws) ∙ (λ i. all_enter es i ++ none_enters ws i) ∙ append-nil (map entrant es)
+
+pub waiters-queued : (es ws : List ℕ) → waiters (queued es ws) ≡ map waiter ws
+waiters-queued es ws =
+    filter-append (λ (e : Waiting). not (enters e.wants)) (map entrant es) (map waiter ws) ∙ (λ i. none_waits es i ++ all_wait ws i)

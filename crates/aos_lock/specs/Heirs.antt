@@ -1,8 +1,9 @@
 -- What a lock answers: to one who asks for it, and where it goes when its owner leaves it.
-use Rattle.std.specs.Prelude.{◌++◌, ℕ, List, map, [], ◌∷◌, Option, Some, None, Bool, true, false}
+use Rattle.std.specs.Prelude.{◌++◌, ℕ, List, map, [], ◌∷◌, Option, Some, None, Bool, true, false, cond}
 use Rattle.aos_base.specs.declared.kernel.Verdict.{Verdict}
 use Rattle.aos_base.specs.declared.kernel.Verdict.TheVariants.{Holds, Fails, Traps}
-use Rattle.aos_base.specs.Lock.{Waiting, Wants, Entry, Condition, Heir, Nobody, Entrant, Waiter, Trapping, heir}
+use Rattle.aos_base.specs.Lock.{Waiting, Entry, Condition, Heir, Nobody, Entrant, Waiter, Trapping, heir}
+use Rattle.aos_queue.specs.Lists.{without}
 use Rattle.aos_lock.specs.declared.lock.Entered.{Entered}
 use Rattle.aos_lock.specs.declared.lock.Entered.TheVariants.{Taken, Waits, Recursive}
 use Rattle.aos_lock.specs.declared.lock.Passed.{Passed}
@@ -15,6 +16,10 @@ entrant a = record { activity = a; wants = Entry }
 -- one who awaits a condition. A lock knows the condition by its waiter: its number is the waiter's own
 abbrev pub waiter : ℕ → Waiting
 waiter a = record { activity = a; wants = Condition a }
+
+-- a list of those who wait that has these entrants and these waiters, each in their order
+abbrev pub queued : List ℕ → List ℕ → List Waiting
+queued es ws = map entrant es ++ map waiter ws
 
 -- what a waiter's condition comes to, by the waiter's number alone
 abbrev pub by_waiter : (ℕ → Verdict) → ℕ → ℕ → Verdict
@@ -37,18 +42,27 @@ new_owner (ToWaiter a) = Some a
 new_owner (ToEntrant a) = Some a
 new_owner Free = None
 
--- whether one who waits is a waiter whose condition doesn't fail
-abbrev pub is_waiter_served : Bool → Verdict → Bool
-is_waiter_served true Holds = true
-is_waiter_served true (Traps n) = true
-is_waiter_served true Fails = false
-is_waiter_served false verdict = false
+-- a list without the one to whom a lock has passed
+abbrev pub after_passed : Passed → List ℕ → List ℕ
+after_passed (ToWaiter a) ns = without a ns
+after_passed (ToEntrant a) ns = without a ns
+after_passed Free ns = ns
 
--- the first entrant, after one more who waits
-abbrev pub sooner : Option ℕ → ℕ → Bool → Option ℕ
-sooner entrant a true = entrant
-sooner None a false = Some a
-sooner (Some first) a false = Some first
+-- whether a waiter is served whose condition comes to this: unless it fails
+abbrev pub serves : Verdict → Bool
+serves Holds = true
+serves Fails = false
+serves (Traps n) = true
+
+-- the first of these waiters that is served
+abbrev pub first_served : (ℕ → Verdict) → List ℕ → Option ℕ
+first_served verdict [] = None
+first_served verdict (w ∷ ws) = cond (serves (verdict w)) (Some w) (first_served verdict ws)
+
+-- where a lock goes that has these entrants, if no waiter is served
+abbrev pub to_first : List ℕ → Passed
+to_first [] = Free
+to_first (e ∷ es) = ToEntrant e
 
 -- the owner after a call of enter
 abbrev pub entered_owner : Entered → ℕ → Option ℕ → Option ℕ
@@ -56,16 +70,13 @@ entered_owner Taken a owner = Some a
 entered_owner Waits a owner = owner
 entered_owner Recursive a owner = owner
 
--- those who wait after a call of enter: one who waits stands behind all others
-abbrev pub entered_list : Entered → ℕ → List Waiting → List Waiting
-entered_list Taken a es = es
-entered_list Waits a es = es ++ entrant a ∷ []
-entered_list Recursive a es = es
+-- whether who called enter waits then
+abbrev pub does_wait : Entered → Bool
+does_wait Taken = false
+does_wait Waits = true
+does_wait Recursive = false
 
--- the same list, whose conditions go by their waiters' numbers
-abbrev pub own_wants : ℕ → Wants → Wants
-own_wants a Entry = Entry
-own_wants a (Condition number) = Condition a
-
-abbrev pub own : List Waiting → List Waiting
-own es = map (λ e. record { activity = e.activity; wants = own_wants e.activity e.wants }) es
+-- a list with one more behind all others, or as it was
+abbrev pub joined : Bool → ℕ → List ℕ → List ℕ
+joined true a ns = ns ++ a ∷ []
+joined false a ns = ns

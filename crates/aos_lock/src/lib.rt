@@ -1,4 +1,5 @@
-//! Locks with those who wait for them, entrants and waiters in one order, and the release that gives a lock to its heir.
+//! Locks with those who wait for them, the entrants and the waiters each in a queue, and the release that gives a lock to
+//! its heir.
 #![tactic(auto)]
 
 mod law;
@@ -6,7 +7,7 @@ mod lock;
 mod locks;
 mod test;
 
-pub use law::{conditions_by_waiter, links_change};
+pub use law::{links_change, stands_for_lists};
 pub use lock::{Entered, Passed};
 pub use locks::Locks;
 pub use test::Test;

@@ -1,12 +1,10 @@
 // One lock: who asks for it, who waits, and to whom a release gives it.
 
-ghost use Rattle.std.specs.Prelude.{◌≡◌, ◌≢◌, ◌↔◌, ℕ, ◌<◌, ◌++◌, ◌∷◌, [], Some, None, Bool, not};
+ghost use Rattle.std.specs.Prelude.{◌≡◌, ◌↔◌, ℕ, ◌<◌, ◌++◌, ◌∷◌, [], Some, None, not};
 ghost use Rattle.std.specs.List.{Contains};
-ghost use Rattle.aos_base.specs.declared.kernel.Verdict.{Verdict};
-ghost use Rattle.aos_base.specs.Lock.{after_heir};
-ghost use Rattle.aos_queue.specs.Lists.{list_in, room_of, mark_of, Belongs, KeepsOthers, SameTable};
-ghost use Rattle.aos_lock.specs.Heirs.{heir_by, passed_to, new_owner, entered_owner, entered_list, waiter, is_waiter_served, sooner};
-ghost use Rattle.aos_lock.specs.Waits.{waits_in, joins, KeepsMarks};
+ghost use Rattle.aos_queue.specs.Lists.{list_in, room_of, Belongs, KeepsOthers, SameTable};
+ghost use Rattle.aos_lock.specs.Heirs.{heir_by, passed_to, new_owner, entered_owner, does_wait, joined, after_passed, queued, serves, first_served, to_first};
+ghost use Rattle.aos_lock.specs.Waits.{entrants_of, waiters_of, numbers_of, LockBelongs, KeepsMarks};
 
 use crate::test::Test;
 use aos_base::Verdict;
@@ -31,11 +29,12 @@ pub enum Passed {
     Free,
 }
 
-/// A lock: its owner, and those who wait. One who is marked awaits a condition, the others are to enter.
+/// A lock: its owner, those who are to enter, and those who await a condition, each in a queue.
 #[derive(Drop)]
 pub(crate) struct Lock {
     pub(crate) owner: Option<u32>,
-    pub(crate) queue: Queue,
+    pub(crate) entrants: Queue,
+    pub(crate) waiters: Queue,
 }
 
 impl Passed {
@@ -54,35 +53,41 @@ impl Passed {
 impl Lock {
     /// Puts one who waits behind all others: for a condition, or else to enter.
     pub(crate) fn join(&mut self, links: &mut Links, activity: u32, awaits: bool)
-        requires belongs { Belongs links.old self.old.queue }
+        requires belongs { LockBelongs links.old self.old }
         requires reserved { activity < room_of links.old }
-        requires elsewhere { Contains (list_in links.old self.old.queue) activity → ⊥ }
+        requires elsewhere { Contains (numbers_of links.old self.old) activity → ⊥ }
         ensures owner { self.new.owner ≡ self.old.owner }
-        ensures list { waits_in links.new self.new.queue ≡
-            waits_in links.old self.old.queue ++ joins awaits activity ∷ [] }
-        ensures belongs { Belongs links.new self.new.queue }
-        ensures others { let touched = activity ∷ list_in links.old self.old.queue in
+        ensures entrants { entrants_of links.new self.new ≡
+            joined (not awaits) activity (entrants_of links.old self.old) }
+        ensures waiters { waiters_of links.new self.new ≡
+            joined awaits activity (waiters_of links.old self.old) }
+        ensures belongs { LockBelongs links.new self.new }
+        ensures others { let touched = activity ∷ numbers_of links.old self.old in
             KeepsOthers links.old links.new touched }
         ensures marks { KeepsMarks links.old links.new activity }
     {
-        links.set_mark(activity, awaits);
-        links.put_last(&mut self.queue, activity);
+        if awaits {
+            links.put_last(&mut self.waiters, activity);
+        } else {
+            links.put_last(&mut self.entrants, activity);
+        }
     }
 
     /// Takes the lock for one who asks for it, where nobody owns it. Where another one owns it, it waits behind all others.
     pub(crate) fn enter(&mut self, links: &mut Links, activity: u32) -> Entered
-        requires belongs { Belongs links.old self.old.queue }
+        requires belongs { LockBelongs links.old self.old }
         requires reserved { activity < room_of links.old }
-        requires elsewhere { Contains (list_in links.old self.old.queue) activity → ⊥ }
+        requires elsewhere { Contains (numbers_of links.old self.old) activity → ⊥ }
         ensures recursive { (result ≡ Entered.Recursive) ↔ (self.old.owner ≡ Some activity) }
         ensures taken { (result ≡ Entered.Taken) ↔ (self.old.owner ≡ None) }
         ensures unchanged { result ≡ Entered.Recursive →
             (self.new ≡ self.old) × (links.new ≡ links.old) }
         ensures owner { self.new.owner ≡ entered_owner result activity self.old.owner }
-        ensures list { waits_in links.new self.new.queue ≡
-            entered_list result activity (waits_in links.old self.old.queue) }
-        ensures belongs { Belongs links.new self.new.queue }
-        ensures others { let touched = activity ∷ list_in links.old self.old.queue in
+        ensures entrants { entrants_of links.new self.new ≡
+            joined (does_wait result) activity (entrants_of links.old self.old) }
+        ensures waiters { waiters_of links.new self.new ≡ waiters_of links.old self.old }
+        ensures belongs { LockBelongs links.new self.new }
+        ensures others { let touched = activity ∷ numbers_of links.old self.old in
             KeepsOthers links.old links.new touched }
         ensures marks { KeepsMarks links.old links.new activity }
     {
@@ -103,38 +108,71 @@ impl Lock {
 
     /// Gives the lock to its heir, who no longer waits then.
     pub(crate) fn release<T: Test>(&mut self, links: &mut Links, test: &mut T) -> Passed
-        requires { Belongs links.old self.old.queue }
-        ensures heir { let es = waits_in links.old self.old.queue in
-            result ≡ passed_to (heir_by (T.verdict_of test.old) es) }
+        requires { LockBelongs links.old self.old }
+        ensures heir { let es = entrants_of links.old self.old in
+            let ws = waiters_of links.old self.old in
+            result ≡ passed_to (heir_by (T.verdict_of test.old) (queued es ws)) }
         ensures owner { self.new.owner ≡ new_owner result }
-        ensures list { let es = waits_in links.old self.old.queue in
-            waits_in links.new self.new.queue ≡ after_heir (heir_by (T.verdict_of test.old) es) es }
-        ensures belongs { Belongs links.new self.new.queue }
-        ensures others { KeepsOthers links.old links.new (list_in links.old self.old.queue) }
+        ensures entrants { entrants_of links.new self.new ≡
+            after_passed result (entrants_of links.old self.old) }
+        ensures waiters { waiters_of links.new self.new ≡
+            after_passed result (waiters_of links.old self.old) }
+        ensures belongs { LockBelongs links.new self.new }
+        ensures others { KeepsOthers links.old links.new (numbers_of links.old self.old) }
         ensures table { SameTable links.old links.new }
         ensures verdicts { (other : ℕ) → T.verdict_of test.new other ≡ T.verdict_of test.old other }
         ensures held { (h : T.Held) → T.held test.old h → T.held test.new h }
     {
-        let passed = heir(links, &self.queue, test);
-        self.owner = passed.owner();
-        if let Some(activity) = self.owner {
-            links.take(&mut self.queue, activity);
+        match served_waiter(links, &self.waiters, test) {
+            Some(waiter) => {
+                links.take(&mut self.waiters, waiter);
+                self.owner = Some(waiter);
+                Passed::Waiter(waiter)
+            },
+            None => self.let_in(links),
         }
-        passed
+    }
+
+    /// Gives the lock to the first entrant, or to nobody where there is none.
+    fn let_in(&mut self, links: &mut Links) -> Passed
+        requires { LockBelongs links.old self.old }
+        ensures first { result ≡ to_first (entrants_of links.old self.old) }
+        ensures owner { self.new.owner ≡ new_owner result }
+        ensures entrants { entrants_of links.new self.new ≡
+            after_passed result (entrants_of links.old self.old) }
+        ensures waiters { waiters_of links.new self.new ≡
+            after_passed result (waiters_of links.old self.old) }
+        ensures belongs { LockBelongs links.new self.new }
+        ensures others { KeepsOthers links.old links.new (numbers_of links.old self.old) }
+        ensures table { SameTable links.old links.new }
+    {
+        match links.take_first(&mut self.entrants) {
+            Some(entrant) => {
+                self.owner = Some(entrant);
+                Passed::Entrant(entrant)
+            },
+            None => {
+                self.owner = None;
+                Passed::Free
+            },
+        }
     }
 
     /// Puts one who awaits a condition behind all others, and gives the lock to its heir.
     pub(crate) fn wait<T: Test>(&mut self, links: &mut Links, activity: u32, test: &mut T) -> Passed
-        requires belongs { Belongs links.old self.old.queue }
+        requires belongs { LockBelongs links.old self.old }
         requires reserved { activity < room_of links.old }
-        requires elsewhere { Contains (list_in links.old self.old.queue) activity → ⊥ }
-        ensures heir { let es = waits_in links.old self.old.queue ++ waiter activity ∷ [] in
-            result ≡ passed_to (heir_by (T.verdict_of test.old) es) }
+        requires elsewhere { Contains (numbers_of links.old self.old) activity → ⊥ }
+        ensures heir { let es = entrants_of links.old self.old in
+            let ws = waiters_of links.old self.old ++ activity ∷ [] in
+            result ≡ passed_to (heir_by (T.verdict_of test.old) (queued es ws)) }
         ensures owner { self.new.owner ≡ new_owner result }
-        ensures list { let es = waits_in links.old self.old.queue ++ waiter activity ∷ [] in
-            waits_in links.new self.new.queue ≡ after_heir (heir_by (T.verdict_of test.old) es) es }
-        ensures belongs { Belongs links.new self.new.queue }
-        ensures others { let touched = activity ∷ list_in links.old self.old.queue in
+        ensures entrants { entrants_of links.new self.new ≡
+            after_passed result (entrants_of links.old self.old) }
+        ensures waiters { let ws = waiters_of links.old self.old ++ activity ∷ [] in
+            waiters_of links.new self.new ≡ after_passed result ws }
+        ensures belongs { LockBelongs links.new self.new }
+        ensures others { let touched = activity ∷ numbers_of links.old self.old in
             KeepsOthers links.old links.new touched }
         ensures marks { KeepsMarks links.old links.new activity }
         ensures verdicts { (other : ℕ) → T.verdict_of test.new other ≡ T.verdict_of test.old other }
@@ -145,47 +183,29 @@ impl Lock {
     }
 }
 
-/// Whether one who waits is a waiter whose condition doesn't fail.
-fn is_served<T: Test>(links: &Links, activity: u32, test: &mut T) -> bool
-    requires { activity < room_of links.now }
-    ensures served { let verdict = T.verdict_of test.old activity in
-        result ≡ is_waiter_served (mark_of links.now activity) verdict }
+/// Whether a waiter's condition doesn't fail.
+fn is_served<T: Test>(waiter: u32, test: &mut T) -> bool
+    ensures served { result ≡ serves (T.verdict_of test.old waiter) }
     ensures verdicts { (other : ℕ) → T.verdict_of test.new other ≡ T.verdict_of test.old other }
     ensures held { (h : T.Held) → T.held test.old h → T.held test.new h }
 {
-    links.mark(activity) && test.verdict(activity) != Verdict::Fails
+    test.verdict(waiter) != Verdict::Fails
 }
 
-/// The first entrant so far.
-fn first_of(entrant: Option<u32>, activity: u32, awaits: bool) -> Option<u32>
-    ensures { result ≡ sooner entrant activity awaits }
-{
-    if awaits {
-        entrant
-    } else {
-        entrant.or(Some(activity))
-    }
-}
-
-/// To whom a release gives the lock.
-fn heir<T: Test>(links: &Links, queue: &Queue, test: &mut T) -> Passed
-    requires { Belongs links.now queue.now }
-    ensures heir { let es = waits_in links.now queue.now in
-        result ≡ passed_to (heir_by (T.verdict_of test.old) es) }
+/// The first of these waiters whose condition doesn't fail.
+fn served_waiter<T: Test>(links: &Links, waiters: &Queue, test: &mut T) -> Option<u32>
+    requires { Belongs links.now waiters.now }
+    ensures first { let ws = list_in links.now waiters.now in
+        result ≡ first_served (T.verdict_of test.old) ws }
     ensures verdicts { (other : ℕ) → T.verdict_of test.new other ≡ T.verdict_of test.old other }
     ensures held { (h : T.Held) → T.held test.old h → T.held test.new h }
 {
-    let mut entrant = None;
-    let mut at = queue.first();
-    while let Some(activity) = at {
-        if is_served(links, activity, test) {
-            return Passed::Waiter(activity);
+    let mut at = waiters.first();
+    while let Some(waiter) = at {
+        if is_served(waiter, test) {
+            return Some(waiter);
         }
-        entrant = first_of(entrant, activity, links.mark(activity));
-        at = links.behind(activity);
+        at = links.behind(waiter);
     }
-    match entrant {
-        Some(activity) => Passed::Entrant(activity),
-        None => Passed::Free,
-    }
+    None
 }

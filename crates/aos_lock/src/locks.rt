@@ -1,11 +1,10 @@
 // All locks, by their numbers.
 
-ghost use Rattle.std.specs.Prelude.{◌≡◌, ◌≢◌, ◌↔◌, ℕ, ◌<◌, ◌+◌, ◌-◌, ◌^◌, ◌++◌, ◌∷◌, [], Some, None, IfOk, OnOk, OnErr};
-ghost use Rattle.aos_base.specs.Lock.{after_heir};
+ghost use Rattle.std.specs.Prelude.{◌≡◌, ◌↔◌, ℕ, ◌<◌, ◌+◌, ◌-◌, ◌^◌, ◌++◌, ◌∷◌, [], Some, None, not, IfOk, OnOk, OnErr};
 ghost use Rattle.aos_queue.specs.declared.links.Links.{Links};
 ghost use Rattle.aos_queue.specs.Lists.{room_of, mark_of, KeepsOthers, SameTable};
-ghost use Rattle.aos_lock.specs.Heirs.{heir_by, passed_to, new_owner, entered_owner, entered_list, waiter};
-ghost use Rattle.aos_lock.specs.Waits.{owner_of, waiting_in, count_of, numbers, joins, Belong, WaitsNowhere, KeepsLocks, KeepsMarks};
+ghost use Rattle.aos_lock.specs.Heirs.{heir_by, passed_to, new_owner, entered_owner, does_wait, joined, after_passed, queued};
+ghost use Rattle.aos_lock.specs.Waits.{count_of, owner_of, entrants_in, waiters_in, numbers_in, Belong, WaitsNowhere, IsUnawaited, SameWaiting, KeepsLocks, KeepsMarks};
 
 use crate::lock::{Entered, Lock, Passed};
 use crate::test::Test;
@@ -39,19 +38,20 @@ impl Locks {
         ensures ok { OnOk result (count_of self.new ≡ count_of self.old + 1) }
         ensures free { IfOk result (λ lock. owner_of self.new lock ≡ None) }
         ensures awaited { (links : Links) →
-            IfOk result (λ lock. waiting_in links self.new lock ≡ []) }
+            IfOk result (λ lock. IsUnawaited links self.new lock) }
         ensures err { OnErr result (count_of self.new ≡ count_of self.old) }
         ensures owners { (other : ℕ) → other < count_of self.old →
             owner_of self.new other ≡ owner_of self.old other }
         ensures lists { (links : Links) (other : ℕ) → other < count_of self.old →
-            waiting_in links self.new other ≡ waiting_in links self.old other }
+            SameWaiting links self.old links self.new other }
         ensures belong { (links : Links) → Belong links self.old → Belong links self.new }
     {
         self.locks.reserve(1)?;
         let lock = self.locks.len() as u32;
         self.locks.push_reserved(Lock {
             owner: None,
-            queue: Queue::new(),
+            entrants: Queue::new(),
+            waiters: Queue::new(),
         });
         Ok(lock)
     }
@@ -87,11 +87,12 @@ impl Locks {
         ensures unchanged { result ≡ Entered.Recursive → links.new ≡ links.old }
         ensures owner { owner_of self.new lock ≡
             entered_owner result activity (owner_of self.old lock) }
-        ensures list { waiting_in links.new self.new lock ≡
-            entered_list result activity (waiting_in links.old self.old lock) }
+        ensures entrants { entrants_in links.new self.new lock ≡
+            joined (does_wait result) activity (entrants_in links.old self.old lock) }
+        ensures waiters { waiters_in links.new self.new lock ≡ waiters_in links.old self.old lock }
         ensures belong { Belong links.new self.new }
         ensures others { KeepsLocks links.old self.old links.new self.new lock }
-        ensures queues { let touched = activity ∷ numbers (waiting_in links.old self.old lock) in
+        ensures queues { let touched = activity ∷ numbers_in links.old self.old lock in
             KeepsOthers links.old links.new touched }
         ensures marks { KeepsMarks links.old links.new activity }
     {
@@ -106,11 +107,13 @@ impl Locks {
         requires reserved { activity < room_of links.old }
         requires elsewhere { WaitsNowhere links.old self.old activity }
         ensures owner { owner_of self.new lock ≡ owner_of self.old lock }
-        ensures list { waiting_in links.new self.new lock ≡
-            waiting_in links.old self.old lock ++ joins awaits activity ∷ [] }
+        ensures entrants { entrants_in links.new self.new lock ≡
+            joined (not awaits) activity (entrants_in links.old self.old lock) }
+        ensures waiters { waiters_in links.new self.new lock ≡
+            joined awaits activity (waiters_in links.old self.old lock) }
         ensures belong { Belong links.new self.new }
         ensures others { KeepsLocks links.old self.old links.new self.new lock }
-        ensures queues { let touched = activity ∷ numbers (waiting_in links.old self.old lock) in
+        ensures queues { let touched = activity ∷ numbers_in links.old self.old lock in
             KeepsOthers links.old links.new touched }
         ensures marks { KeepsMarks links.old links.new activity }
     {
@@ -123,15 +126,17 @@ impl Locks {
     pub fn leave<T: Test>(&mut self, links: &mut Links, lock: u32, test: &mut T) -> Passed
         requires added { lock < count_of self.old }
         requires belong { Belong links.old self.old }
-        ensures heir { let es = waiting_in links.old self.old lock in
-            result ≡ passed_to (heir_by (T.verdict_of test.old) es) }
+        ensures heir { let es = entrants_in links.old self.old lock in
+            let ws = waiters_in links.old self.old lock in
+            result ≡ passed_to (heir_by (T.verdict_of test.old) (queued es ws)) }
         ensures owner { owner_of self.new lock ≡ new_owner result }
-        ensures list { let es = waiting_in links.old self.old lock in
-            waiting_in links.new self.new lock ≡
-            after_heir (heir_by (T.verdict_of test.old) es) es }
+        ensures entrants { entrants_in links.new self.new lock ≡
+            after_passed result (entrants_in links.old self.old lock) }
+        ensures waiters { waiters_in links.new self.new lock ≡
+            after_passed result (waiters_in links.old self.old lock) }
         ensures belong { Belong links.new self.new }
         ensures others { KeepsLocks links.old self.old links.new self.new lock }
-        ensures queues { let touched = numbers (waiting_in links.old self.old lock) in
+        ensures queues { let touched = numbers_in links.old self.old lock in
             KeepsOthers links.old links.new touched }
         ensures table { SameTable links.old links.new }
         ensures verdicts { (other : ℕ) → T.verdict_of test.new other ≡ T.verdict_of test.old other }
@@ -154,15 +159,17 @@ impl Locks {
         requires owner { owner_of self.old lock ≡ Some activity }
         requires reserved { activity < room_of links.old }
         requires elsewhere { WaitsNowhere links.old self.old activity }
-        ensures heir { let es = waiting_in links.old self.old lock ++ waiter activity ∷ [] in
-            result ≡ passed_to (heir_by (T.verdict_of test.old) es) }
+        ensures heir { let es = entrants_in links.old self.old lock in
+            let ws = waiters_in links.old self.old lock ++ activity ∷ [] in
+            result ≡ passed_to (heir_by (T.verdict_of test.old) (queued es ws)) }
         ensures owner { owner_of self.new lock ≡ new_owner result }
-        ensures list { let es = waiting_in links.old self.old lock ++ waiter activity ∷ [] in
-            waiting_in links.new self.new lock ≡
-            after_heir (heir_by (T.verdict_of test.old) es) es }
+        ensures entrants { entrants_in links.new self.new lock ≡
+            after_passed result (entrants_in links.old self.old lock) }
+        ensures waiters { let ws = waiters_in links.old self.old lock ++ activity ∷ [] in
+            waiters_in links.new self.new lock ≡ after_passed result ws }
         ensures belong { Belong links.new self.new }
         ensures others { KeepsLocks links.old self.old links.new self.new lock }
-        ensures queues { let touched = activity ∷ numbers (waiting_in links.old self.old lock) in
+        ensures queues { let touched = activity ∷ numbers_in links.old self.old lock in
             KeepsOthers links.old links.new touched }
         ensures marks { KeepsMarks links.old links.new activity }
         ensures verdicts { (other : ℕ) → T.verdict_of test.new other ≡ T.verdict_of test.old other }

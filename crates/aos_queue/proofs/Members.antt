@@ -1,8 +1,8 @@
 -- Numbers in lists.
 use Rattle.std.proofs.Common.{◌≡◌, ℕ, zero, suc, ◌<◌, ◌≤◌, List, [], ◌∷◌, ◌++◌, length, refl, sym, ap, subst, ◌∙◌, arith, ◌⊎◌, inl, inr, ◌≢◌}
 use Rattle.std.specs.List.{Contains, list_any, IsDistinct, AllByRecursion}
-use Rattle.std.specs.Prelude.{Bool, true, false, ◌||◌, not, cond}
-use Rattle.std.proofs.lemmas.Bool.{eqb-true, eq-eqb}
+use Rattle.std.specs.Prelude.{Bool, true, false, ◌||◌, ◌==◌, not, cond}
+use Rattle.std.proofs.lemmas.Bool.{eqb-true, eq-eqb, false≢true}
 use Rattle.std.proofs.lemmas.Bool.Decides.{eqb_tells}
 use Rattle.std.proofs.lemmas.Map.Steps.{length-le_from_distinct_below}
 use Rattle.std.proofs.lemmas.List.Elements.{Contains-push_cases}
@@ -75,6 +75,27 @@ pub without-none : (n : ℕ) (ns : List ℕ) → (Contains ns n → ⊥) → wit
 without-none n [] h = refl
 without-none n (m ∷ ms) h =
     without-cons n m ms (λ e. h (subst (λ k. Contains (m ∷ ms) k) e (here m ms))) ∙ ap (λ ks. m ∷ ks) (without-none n ms (λ i. h (there m n ms i)))
+
+-- a number that was taken out stands there no longer
+gone_or : (a n : ℕ) (ns : List ℕ) (b : Bool) → (n == a) ≡ b → (Contains ns a → ⊥) → Contains (cond (not b) (n ∷ ns) ns) a → ⊥
+gone_or a n ns true q out i = out i
+gone_or a n ns false q out i = elim (among n a ns i) [ inl p ↦ false≢true (sym q ∙ eq-eqb n a p) | inr j ↦ out j ]
+
+pub gone : (a : ℕ) (ns : List ℕ) → Contains (without a ns) a → ⊥
+gone a [] i = none a i
+gone a (n ∷ ns) i = gone_or a n (without a ns) (n == a) refl (gone a ns) i
+
+-- and the others do
+kept_or : (m n : ℕ) (ns : List ℕ) (b : Bool) → Contains ns n → Contains (cond (not b) (m ∷ ns) ns) n
+kept_or m n ns true i = i
+kept_or m n ns false i = there m n ns i
+
+pub stays : (a n : ℕ) (ns : List ℕ) → n ≢ a → Contains ns n → Contains (without a ns) n
+stays a n [] d i = i
+stays a n (m ∷ ms) d i = elim (among m n ms i) [
+  | inl e ↦ subst (λ ks. Contains ks n) (sym (without-cons a m ms (λ q. d (sym e ∙ q)))) (subst (λ k. Contains (m ∷ without a ms) k) e (here m (without a ms)))
+  | inr j ↦ kept_or m n (without a ms) (m == a) (stays a n ms d j)
+]
 
 pub without-split : (front : List ℕ) (n : ℕ) (back : List ℕ) → IsOnce (front ++ n ∷ back) → without n (front ++ n ∷ back) ≡ front ++ back
 without-split [] n back h = ap (λ b. cond (not b) (n ∷ without n back) (without n back)) (eq-eqb n n refl) ∙ without-none n back h.0

@@ -9,11 +9,15 @@ use Rattle.aos_queue.specs.declared.queue.Queue.{Queue}
 
 -- what a number has that isn't reserved
 abbrev pub blank : Node
-blank = record { next = None; is_marked = false }
+blank = record { next = None; before = 0; is_marked = false }
 
 -- the number behind another one
 abbrev pub next_in : List Node → ℕ → Option ℕ
 next_in nodes n = (slice_index_or nodes n blank).next
+
+-- the number before another one
+abbrev pub prior_in : List Node → ℕ → ℕ
+prior_in nodes n = (slice_index_or nodes n blank).before
 
 abbrev pub mark_in : List Node → ℕ → Bool
 mark_in nodes n = (slice_index_or nodes n blank).is_marked
@@ -43,6 +47,16 @@ abbrev pub IsRun : (ℕ → Option ℕ) → Option ℕ → List ℕ → Type 0
 IsRun next start [] = start ≡ None
 IsRun next start (n ∷ ns) = (start ≡ Some n) × IsRun next (next n) ns
 
+-- before each of these numbers the one in front of it, this one before the first
+abbrev pub IsBehind : (ℕ → ℕ) → ℕ → List ℕ → Type 0
+IsBehind before n [] = Unit {0}
+IsBehind before n (m ∷ ms) = (before m ≡ n) × IsBehind before m ms
+
+-- before each number the one in front of it; before the first there is any
+abbrev pub IsBack : (ℕ → ℕ) → List ℕ → Type 0
+IsBack before [] = Unit {0}
+IsBack before (n ∷ ns) = IsBehind before n ns
+
 -- no number twice
 abbrev pub IsOnce : List ℕ → Type 0
 IsOnce [] = Unit {0}
@@ -69,10 +83,11 @@ pub record Stands (next : ℕ → Option ℕ) (room : ℕ) (first : Option ℕ) 
   pub once : IsOnce ns
   pub reserved : (n : ℕ) → Contains ns n → n < room
 
--- a queue belongs to links: by them it is its list
+-- a queue belongs to links: by them it is its list, forward and back
 pub record Belongs (links : Links) (queue : Queue) : Type 0 where
   pub stands :
       Stands (next_in links.nodes.items) (length links.nodes.items) queue.first queue.last (list_in links queue)
+  pub back : IsBack (prior_in links.nodes.items) (list_in links queue)
 
 -- a queue that shares no number with these keeps its list and belongs to the links still
 pub record KeepsOthers (old new : Links) (touched : List ℕ) : Type 0 where

@@ -3,22 +3,24 @@
 ghost use Rattle.std.specs.Prelude.{◌≡◌, ◌≢◌, ℕ, ◌<◌, ◌++◌, ◌∷◌, [], List, max, false, length, IfSome, IfNone, IsNone, ◌↔◌, OnOk, OnErr, slice_get};
 ghost use Rattle.std.specs.List.{Contains};
 ghost use Rattle.aos_queue.specs.declared.queue.Queue.{Queue};
-ghost use Rattle.aos_queue.specs.Lists.{next_in, list_in, room_of, mark_of, without, Belongs, KeepsOthers, SameTable};
+ghost use Rattle.aos_queue.specs.Lists.{next_in, prior_in, list_in, room_of, mark_of, without, Belongs, KeepsOthers, SameTable};
 
 use crate::queue::Queue;
 use aos_base::NoMemory;
 use std::alloc::Global;
 use std::mem;
 
-/// What the table has of a number: the one behind it in its queue, and its mark.
+/// What the table has of a number: the ones behind it and before it in its queue, and its mark.
 #[derive(Clone, Copy)]
 pub(crate) struct Node {
     pub(crate) next: Option<u32>,
+    /// Of a queue's first number it says nothing.
+    pub(crate) before: u32,
     pub(crate) is_marked: bool,
 }
 
-/// The table through which queues are linked, and a mark for each number. The numbers below a bound, its room, are
-/// reserved.
+/// The table through which queues are linked both ways, and a mark for each number. The numbers below a bound, its
+/// room, are reserved.
 #[derive(Drop)]
 pub struct Links {
     nodes: Vec<Node>,
@@ -49,6 +51,7 @@ impl Links {
             room,
             Node {
                 next: None,
+                before: 0,
                 is_marked: false,
             },
         )?;
@@ -71,9 +74,34 @@ impl Links {
         ensures linked { next_in self.new.nodes.items n ≡ next }
         ensures others { (m : ℕ) → m ≢ n →
             next_in self.new.nodes.items m ≡ next_in self.old.nodes.items m }
+        ensures before { (m : ℕ) →
+            prior_in self.new.nodes.items m ≡ prior_in self.old.nodes.items m }
         ensures table { SameTable self.old self.new }
     {
         self.nodes[n as usize].next = next;
+    }
+
+    /// What the table has before a number.
+    #[tactic(auto, unfolding(crate::specs::Lists::room_of, crate::specs::Lists::mark_of))]
+    fn prior(&self, n: u32) -> u32
+        requires { n < room_of self.now }
+        ensures { result ≡ prior_in self.now.nodes.items n }
+    {
+        self.nodes[n as usize].before
+    }
+
+    /// Sets what the table has before a number.
+    #[tactic(auto, unfolding(crate::specs::Lists::room_of, crate::specs::Lists::mark_of))]
+    fn link_back(&mut self, n: u32, before: u32)
+        requires { n < room_of self.old }
+        ensures linked { prior_in self.new.nodes.items n ≡ before }
+        ensures others { (m : ℕ) → m ≢ n →
+            prior_in self.new.nodes.items m ≡ prior_in self.old.nodes.items m }
+        ensures next { (m : ℕ) →
+            next_in self.new.nodes.items m ≡ next_in self.old.nodes.items m }
+        ensures table { SameTable self.old self.new }
+    {
+        self.nodes[n as usize].before = before;
     }
 
     /// Puts a number that stands in no queue behind all others of this one. A queue that shares no number with this one,
@@ -89,6 +117,7 @@ impl Links {
     {
         self.link(n, None);
         let last = mem::replace(&mut queue.last, n);
+        self.link_back(n, last);
         match queue.first {
             None => queue.first = Some(n),
             Some(_) => self.link(last, Some(n)),
@@ -114,8 +143,7 @@ impl Links {
         Some(first)
     }
 
-    /// Takes a number out of its queue, by a walk from the first. A queue that shares no number with this one keeps its
-    /// list.
+    /// Takes a number out of its queue, with no walk. A queue that shares no number with this one keeps its list.
     pub fn take(&mut self, queue: &mut Queue, n: u32)
         requires belongs { Belongs self.old queue.old }
         requires within { Contains (list_in self.old queue.old) n }
@@ -129,29 +157,26 @@ impl Links {
             queue.first = next;
             return;
         }
-        let before = self.before(queue, n);
-        self.link(before, next);
-        if queue.last == n {
-            queue.last = before;
-        }
+        self.take_later(queue, n, next);
     }
 
-    /// The number before another one of the queue that isn't the first.
-    fn before(&self, queue: &Queue, n: u32) -> u32
-        requires belongs { Belongs self.now queue.now }
-        requires within { Contains (list_in self.now queue.now) n }
-        requires later { slice_get (list_in self.now queue.now) 0 ≢ Some n }
-        ensures { (front : List ℕ) × (back : List ℕ) ×
-            (list_in self.now queue.now ≡ front ++ result ∷ n ∷ back) }
+    /// Takes a number out that isn't the first of its queue; `next` is what the table has behind it.
+    fn take_later(&mut self, queue: &mut Queue, n: u32, next: Option<u32>)
+        requires belongs { Belongs self.old queue.old }
+        requires within { Contains (list_in self.old queue.old) n }
+        requires later { slice_get (list_in self.old queue.old) 0 ≢ Some n }
+        requires next { next ≡ next_in self.old.nodes.items n }
+        ensures taken { list_in self.new queue.new ≡ without n (list_in self.old queue.old) }
+        ensures belongs { Belongs self.new queue.new }
+        ensures others { KeepsOthers self.old self.new (list_in self.old queue.old) }
+        ensures table { SameTable self.old self.new }
     {
-        let mut at = queue.first.unwrap_or(n);
-        while let Some(next) = self.next(at) {
-            if next == n {
-                break;
-            }
-            at = next;
+        let before = self.prior(n);
+        self.link(before, next);
+        match next {
+            None => queue.last = before,
+            Some(behind) => self.link_back(behind, before),
         }
-        at
     }
 
     /// The number behind another one in a queue of these links, or None behind the last.

@@ -10,7 +10,7 @@ use Rattle.aos_queue.specs.declared.links.Links.{Links}
 use Rattle.aos_queue.specs.declared.queue.Queue.{Queue}
 use Rattle.aos_queue.specs.Lists.{list_in, without, Belongs, Apart, KeepsOthers, IsOnce}
 use Rattle.aos_queue.proofs.Members.{here, there, among, without-none}
-use Rattle.aos_queue.proofs.Runs.{is_once}
+use Rattle.aos_queue.proofs.Runs.{is_once, more_touched}
 use Rattle.aos_ready.specs.declared.ready.Ready.{Ready}
 use Rattle.aos_ready.specs.Order.{queue_of, ready_in, all_ready, highest_of, highest_in, without_first, Belong}
 
@@ -131,13 +131,6 @@ lists_gone old new r p q a belong keeps belongs is o =
       | inr ne ↦ other_ready old new r p q (list_in old (queue_of r p)) c o ne
           ∙ sym (without-none a (list_in old (queue_of r o)) (λ i. (belong.apart o p ne).apart a i (subst (λ ns. Contains ns a) (sym is) (here a (list_in new q)))))
     ]
-
--- more numbers may have been touched
-pub more_touched : (old new : Links) (touched more : List ℕ) → ((n : ℕ) → Contains touched n → Contains more n) → KeepsOthers old new touched → KeepsOthers old new more
-more_touched old new touched more within keeps = record {
-  belongs = λ other h a. keeps.belongs other h (record { apart = λ n i j. a.apart n i (within n j) });
-  list = λ other h a. keeps.list other h (record { apart = λ n i j. a.apart n i (within n j) });
-}
 
 pub within_left : (ns ms : List ℕ) (n : ℕ) → Contains ns n → Contains (ns ++ ms) n
 within_left [] ms n (k, l, e) = absurd (omega (arith, l))

@@ -260,7 +260,7 @@ module _ (p : Program) (image : Image) (well : IsWellTyped p) (ok : IsCodeOf p i
         regions = tt;
       }
 
-  matched : (budget : ℕ) (choices : List Choice) → Matches (SameStore p) (Together p image) (Outside (S.source p)) (execution (S.source p) choices (S.first_state p budget)) (execution (machine image) choices (I.first_state image budget))
+  pub matched : (budget : ℕ) (choices : List Choice) → Matches (SameStore p) (Together p image) (Outside (S.source p)) (execution (S.source p) choices (S.first_state p budget)) (execution (machine image) choices (I.first_state image budget))
   matched budget choices =
       execution_matches (SameStore p) (Together p image) (Outside (S.source p)) (S.source p) (machine image) simulates choices (S.first_state p budget) (I.first_state image budget)
       (sound_always (S.source p) (Stands p) (source_keeps p) (S.first_state p budget) (start_sound (S.first_store p) (S.first_frames p) budget (S.source p) (Stands p) tt refl))

@@ -6,6 +6,7 @@ ghost use Rattle.aos_typed.specs.Program.{Program};
 ghost use Rattle.aos_code.specs.declared.image.Image.{Image};
 ghost use Rattle.aos_typed.specs.WellTyped.{IsWellTyped};
 ghost use Rattle.aos_sim.specs.Shows.{IsCodeOf, Shows, NeverLost};
+ghost use Rattle.aos_sim.specs.Judges.{JudgesAsProgram};
 ghost use Rattle.aos_sim.specs.Monitors.{HasMonitors};
 ghost use Rattle.aos_sim.specs.Rewriting.{DesignatorRewrites, ExpressionRewrites, StatementRewrites, AssignedRewrites, AssignmentRewrites};
 
@@ -20,6 +21,14 @@ pub fn image_shows_program()
 /// which finds another operand than it takes, or a place that isn't there.
 pub fn image_is_never_lost()
     ensures { (p : Program) (image : Image) → IsWellTyped p → IsCodeOf p image → NeverLost image }
+{}
+
+/// What the conditions come to that are awaited is in an image that has a well-typed program's code
+/// what it is in the program: each over the frames of the one that awaits it, in every state of
+/// every execution and in the store that a turn leaves.
+pub fn image_judges_as_program()
+    ensures { (p : Program) (image : Image) → IsWellTyped p → IsCodeOf p image →
+        JudgesAsProgram p image }
 {}
 
 /// In every state of every execution of a program at most one activity is in a lock's regions and waits for no condition there, and it

@@ -4,8 +4,8 @@ use Rattle.std.specs.declared.alloc.Global.{Global}
 use Rattle.aos_base.specs.Lock.{Entry}
 use Rattle.aos_base.specs.Book as book
 use Rattle.aos_base.specs.Book.{leave_line}
-use Rattle.aos_lock.specs.Heirs.{entered_owner, entered_list}
-use Rattle.aos_lock.specs.Waits.{owner_of, waiting_in, numbers}
+use Rattle.aos_lock.specs.Heirs.{entered_owner, does_wait, joined}
+use Rattle.aos_lock.specs.Waits.{owner_of, entrants_in, numbers_in}
 use Rattle.aos_line.specs.Numbers.{number_of}
 use Rattle.aos_line.specs.declared.place.Place.{Place}
 use Rattle.aos_line.proofs.Readings.{elsewhere, at_lock}
@@ -70,8 +70,8 @@ returns-in-None-clause-entered c line owner h =
     let taken = e.taken.1 free in
     let p = on_place mid line owner g a on in (
       sym here.2 ∙ free,
-      owner_changed mid line owner g c.args.lock n c.in_ok-number.ensures.number c.enter.new.links c.enter.new.self (Some a) (a ∷ numbers (waiting_in mid.links mid.locks n))
-          (e.list ∙ ap (λ r. entered_list r a (waiting_in mid.links mid.locks n)) taken) (e.owner ∙ ap (λ r. entered_owner r a (owner_of mid.locks n)) taken) e.others e.belong e.queues
+      owner_changed mid line owner g c.args.lock n c.in_ok-number.ensures.number c.enter.new.links c.enter.new.self (Some a) (a ∷ numbers_in mid.links mid.locks n)
+          (record { entrants = e.entrants ∙ ap (λ r. joined (does_wait r) a (entrants_in mid.links mid.locks n)) taken; waiters = e.waiters }) (e.owner ∙ ap (λ r. entered_owner r a (owner_of mid.locks n)) taken) e.others e.belong e.queues
           (ready_apart mid line owner g c.args.lock n c.in_ok-number.ensures.number a (not_ready mid line owner g a p.0 p.1)) e.marks.room,
     )
 

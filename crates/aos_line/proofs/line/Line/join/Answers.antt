@@ -40,5 +40,5 @@ returns-clause-stands c line owner h wants told =
     let none = place_is l line owner h a Nowhere c.requires.nowhere.at in
     let within = slice_get_within l.places.items a Nowhere c.requires.nowhere.at in
     joins l _ a (At k w) (book.At k wants) line owner h none
-    (joined_lock l line owner h k n c.requires.number a w wants c.join.new.links c.join.new.self (with_item l.places a (At k w)) (l.live + 1) told none within e.list e.owner e.others e.belong e.queues e.marks.room refl
+    (joined_lock l line owner h k n c.requires.number a w wants c.join.new.links c.join.new.self (with_item l.places a (At k w)) (l.live + 1) told none within e.entrants e.waiters e.owner e.others e.belong e.queues e.marks.room refl
     c.requires.nowhere.room (omega arith))

@@ -1,8 +1,8 @@
 use Rattle.std.proofs.Common.{◌≡◌, ◌∙◌, ◌∷◌, [], ℕ, List, length, subst, sym, ap, Contains}
 use Rattle.std.specs.Prelude.{Option}
-use Rattle.aos_queue.specs.Lists.{Stands, list_in, next_in, room_of}
+use Rattle.aos_queue.specs.Lists.{IsBack, Stands, list_in, next_in, prior_in, room_of}
 use Rattle.aos_queue.proofs.Members.{here}
-use Rattle.aos_queue.proofs.Runs.{stands_list, stands_belongs, nobody, first_taken}
+use Rattle.aos_queue.proofs.Runs.{stands_list, stands_belongs, back_rest, nobody, first_taken}
 use Rattle.aos_queue.proofs.links.Links.take_first.Goals as goal
 
 pub returns-in_default-clause-empty : goal.returns-in_default-clause-empty
@@ -39,3 +39,4 @@ returns-clause-belongs c =
     let t = first_taken _ _ q.first q.last c.in-Some.first _ c.requires.stands c.in-Some.is in
     stands_belongs links _ t.0
     (subst (λ (s : Option ℕ). Stands (next_in links.nodes.items) (length links.nodes.items) s q.last t.0) (sym c.next-queue.ensures) t.2)
+    (back_rest (prior_in links.nodes.items) c.in-Some.first t.0 (subst (λ (ns : List ℕ). IsBack (prior_in links.nodes.items) ns) t.1 c.requires.back))

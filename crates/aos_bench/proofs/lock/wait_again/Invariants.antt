@@ -1,5 +1,5 @@
 use Rattle.aos_bench.specs.Holder.{Holds}
-use Rattle.aos_bench.proofs.lock.with_locks.Given as goal
+use Rattle.aos_bench.proofs.lock.wait_again.Given as goal
 
 abbrev pub invariant-loop : goal.invariant-loop
 invariant-loop l = Holds l.links l.locks l.lock l.owner
