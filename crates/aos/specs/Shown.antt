@@ -6,12 +6,13 @@ use Rattle.aos_base.specs.declared.text.Refusal.{Refusal}
 use Rattle.aos_base.specs.declared.kernel.Event.{Event}
 use Rattle.aos_base.specs.declared.kernel.Outcome.TheVariants.{Going}
 use Rattle.aos_base.specs.declared.kernel.Sched.{Sched}
-use Rattle.aos_base.specs.Book.{TrapRow}
+use Rattle.aos_base.specs.Book.{Where, TrapRow}
 use Rattle.aos_base.specs.Machine.{Choice, execution}
 use Rattle.aos_base.specs.Observation.{WaitRow, Observation, observation}
 use Rattle.aos_base.specs.Schedule.{choices, IsEntry}
 use Rattle.aos_code.specs.declared.image.Image.{Image}
 use Rattle.aos_code.specs.declared.image.ModuleDesc.{ModuleDesc}
+use Rattle.aos_code.specs.declared.report.CallRec.{CallRec}
 use Rattle.aos_code.specs.declared.report.TrapRec.{TrapRec}
 use Rattle.aos_code.specs.declared.report.WaitRec.{WaitRec}
 use Rattle.aos_code.specs.Machine.{machine, first_state}
@@ -84,7 +85,10 @@ module_names modules = map (λ d. string_bytes d.name) modules
 abbrev pub names_in : Image → List (List ℕ)
 names_in image = module_names image.modules.items
 
--- a trap as the kernel tells it
+-- a call that led to a trap, and a trap, as the kernel tells them
+abbrev pub where_of : CallRec → Where
+where_of c = record { module_ = c.module; pos = c.pos }
+
 abbrev pub row_of : TrapRec → TrapRow
 row_of t =
     record {
@@ -92,7 +96,8 @@ row_of t =
       code = t.code;
       activity = t.activity;
       at = record { module_ = t.module; pos = t.pos };
-      restart = 0;
+      restart = t.restart;
+      calls = map where_of t.calls;
     }
 
 -- one who waits, as the kernel tells it

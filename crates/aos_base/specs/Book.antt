@@ -36,13 +36,14 @@ pub record Where : Type 0 where
   pub module_ : ℕ
   pub pos : Pos
 
--- a trap that happened; `restart` counts the restart that follows it, and is 0 where none does
+-- a trap that happened; `restart` counts the restart that follows it, and is 0 where none does; the calls that led to it are told of none
 pub record TrapRow : Type 0 where
   pub number : ℕ
   pub code : ℕ
   pub activity : ℕ
   pub at : Where
   pub restart : ℕ
+  pub calls : List Where
 
 pub record Book : Type 0 where
   pub budget : ℕ
@@ -170,7 +171,8 @@ may_restart restarts = nat_le (suc restarts) 8
 unfoldable pub trapped : ℕ → (number code : ℕ) → Where → (locks : List LockName) → (safe : Bool) → Book → Book
 trapped a number code at locks safe b =
     let r = (b.activity a).restarts in
-    let row : TrapRow = record { number = number; code = code; activity = a; at = at; restart = if safe && may_restart r then suc r else 0 } in
+    let restart = if safe && may_restart r then suc r else 0 in
+    let row : TrapRow = record { number = number; code = code; activity = a; at = at; restart = restart; calls = [] } in
     next_is a (Unwinds locks) (tell (event.Trap a number) (record b { traps = b.traps ++ row ∷ [] }))
 
 unfoldable pub ended : ℕ → Book → Book

@@ -8,4 +8,4 @@ pub mod report;
 pub use aos_base::Root;
 pub use image::{Body, Image, ModuleDesc, ParamKind, ProcShape, TypeDesc};
 pub use instr::{Cell, Instr, Kind};
-pub use report::{AwaitRec, LayoutLine, TrapRec, WaitRec};
+pub use report::{AwaitRec, CallRec, Calls, LayoutLine, TrapRec, WaitRec};

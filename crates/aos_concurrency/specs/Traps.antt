@@ -95,6 +95,7 @@ module _ {S F : Type 0} (m : Machine S F) where
         activity = a;
         at = m.position (st.frames a);
         restart = if is_some (m.anew (st.frames a)) && may_restart r then suc r else 0;
+        calls = [];
       }
 
   -- the row of an activity's turn, if it traps: behind its own part, or as it is due
