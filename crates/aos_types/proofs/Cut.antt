@@ -1,11 +1,11 @@
 -- Where each type that contains itself becomes a record without fields, none is left that does: a circle of the new table has
 -- none of these types on it, so it was one of the old table.
 use Rattle.std.proofs.Common.{◌≡◌, ℕ, zero, suc, ◌+◌, ◌<◌, List, [], ◌∷◌, ◌++◌, length, map, get_or, take, drop, Option, Some, None, refl, sym, ap, ◌∙◌, subst, arith}
-use Rattle.std.specs.Prelude.{◌↔◌, Bool, true, false, if◌then◌else◌, slice_get, slice_set, replicate}
+use Rattle.std.specs.Prelude.{Bool, true, false, if◌then◌else◌, slice_get, slice_set, replicate}
 use Rattle.std.specs.List.{flat_map, range_with_len}
 use mathlib.Core.Logic.{◌⊎◌, inl, inr}
 use Rattle.std.proofs.lemmas.Bool.{cases_Bool}
-use Rattle.std.proofs.lemmas.List.FromFn.{get_or-map-range_with_len, length-map-range_with_len, map-range_with_len_more}
+use Rattle.std.proofs.lemmas.List.FromFn.{get_or-map-range_with_len, length-map-range_with_len}
 use Rattle.aos_types.specs.declared.row.TypeId.{TypeId}
 use Rattle.aos_types.specs.declared.row.TypeRow.{TypeRow}
 use Rattle.aos_types.specs.declared.row.TypeRow.TheVariants as row
@@ -120,7 +120,7 @@ module _ (rows : List TypeRow) (bs : List Bool) (long : length bs ≡ length row
   chain_was t p [] c same = (was t p c.0 same, tt)
   chain_was t p (x ∷ ps) c same = (was t x c.0 (begins_kept x p ps c.1).1, chain_was x p ps c.1 same)
 
-flag_of : (rows : List TypeRow) (t : TypeId) → t.0 < length rows → get_or (circles rows) t.0 false ≡ contains_itself rows t
+pub flag_of : (rows : List TypeRow) (t : TypeId) → t.0 < length rows → get_or (circles rows) t.0 false ≡ contains_itself rows t
 flag_of rows t l =
     get_or-map-range_with_len (λ k. contains_itself rows (record { 0 = k })) 0 (length rows) t.0 t.0 false l (omega arith)
 
@@ -155,24 +155,9 @@ cut_none (suc n) (r ∷ rows) = ap (λ z. r ∷ z) (cut_none n rows)
 pub nothing_cut : (rows : List TypeRow) → NoneContainsItself rows → cut (circles rows) rows ≡ rows
 nothing_cut rows free = ap (λ bs. cut bs rows) (none_marked rows free) ∙ cut_none (length rows) rows
 
--- the test of a walk is that of the definition
-pub test_is : (rows : List TypeRow) (t : TypeId) (b : Bool) → (b ≡ true) ↔ ContainsItself rows t → b ≡ contains_itself rows t
-test_is rows t b h = at_test b (contains_itself rows t) (λ e. (circle_test rows t).1 (h.0 e)) (λ e. h.1 ((circle_test rows t).0 e))
-  where
-    at_test : (x y : Bool) → (x ≡ true → y ≡ true) → (y ≡ true → x ≡ true) → x ≡ y
-    at_test true y f g = sym (f refl)
-    at_test false true f g = g refl
-    at_test false false f g = refl
-
 pub circles_long : (rows : List TypeRow) → length (circles rows) ≡ length rows
 circles_long rows =
     length-map-range_with_len (λ k. contains_itself rows (record { 0 = k })) 0 (length rows)
-
--- one more type was tested
-pub circles_more : (rows : List TypeRow) (n : ℕ) (b : Bool) (bs bs' : List Bool) → bs' ≡ bs ++ b ∷ [] → bs ≡ map (λ k. contains_itself rows (record { 0 = k })) (range_with_len 0 n) → (b ≡ true) ↔ ContainsItself rows (record { 0 = n }) → bs' ≡ map (λ k. contains_itself rows (record { 0 = k })) (range_with_len 0 (n + 1))
-circles_more rows n b bs bs' e f h =
-    let own = test_is rows (record { 0 = n }) b h in
-    e ∙ (λ i. f i ++ own i ∷ []) ∙ sym (map-range_with_len_more (λ k. contains_itself rows (record { 0 = k })) 0 n n (omega arith))
 
 -- the rows after they were written
 pub written : (rows old new at : List TypeRow) (bs : List Bool) (n : ℕ) → new ≡ cut bs at → bs ≡ circles rows → at ≡ rows → n ≡ length rows → take n (new ++ drop (length new) old) ≡ cut (circles rows) rows

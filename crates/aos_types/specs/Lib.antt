@@ -6,6 +6,7 @@ pub mod Signature
 pub mod Shape
 pub mod Contents
 pub mod Chain
+pub mod Circle
 pub mod Walk
 pub mod Count
 pub mod Limit

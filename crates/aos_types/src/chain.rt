@@ -145,20 +145,6 @@ pub(crate) fn contains_itself(
     Ok(walk.has(t))
 }
 
-/// For each type whether it contains itself.
-#[tactic(auto, using(crate::proofs::Cut::test_is))]
-pub(crate) fn circles(alloc: Global, rows: &[TypeRow]) -> Result<Vec<bool>, AllocError>
-    requires few { length rows.now ≤ 2 ^ 32 }
-    ensures { IfOk result (λ flags. flags.items ≡ chain.circles rows.now) }
-{
-    let mut flags = Vec::with_capacity(alloc, rows.len())?;
-    for number in 0..rows.len() {
-        let is_circle = contains_itself(alloc, rows, TypeId(number as u32))?;
-        flags.push_reserved(is_circle);
-    }
-    Ok(flags)
-}
-
 fn cut_one(alloc: Global, rows: &mut [TypeRow], number: usize)
     requires { number < length rows.old }
     ensures { rows.new ≡ slice_set rows.old number (row.Record None []) }

@@ -3,6 +3,7 @@
 #![tactic(auto)]
 
 mod chain;
+mod circle;
 mod count;
 mod extension;
 mod fit;

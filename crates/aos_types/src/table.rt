@@ -11,7 +11,7 @@ ghost use Rattle.aos_types.specs.Fit.{fits as fits_of};
 
 use crate::count::{Step, above, count_all, count_last, recount, within_limit};
 use crate::row::{TypeId, TypeRow};
-use crate::{chain, extension, fit, limit, sameness};
+use crate::{chain, circle, extension, fit, limit, sameness};
 use aos_base::NoMemory;
 use std::alloc::Global;
 use std::marker::Model;
@@ -190,7 +190,7 @@ impl Types {
             let flags = chain::no_marks(alloc, self.rows.len())?;
             return Ok(flags);
         }
-        let flags = chain::circles(alloc, &self.rows)?;
+        let flags = circle::circles(alloc, &self.rows)?;
         chain::cut(alloc, &mut self.rows, &flags);
         recount(
             &self.rows,
