@@ -18,7 +18,7 @@ use Rattle.aos_types.specs.declared.row.TypeId.{TypeId}
 use Rattle.aos_symbols.specs.declared.env.Env.{Env}
 use Rattle.aos_symbols.specs.Scope.{empty}
 use Rattle.aos_symbols.specs.Judged.{Judged, judged, kept, bind, walk}
-use Rattle.aos_check_decl.specs.Types.{FieldsMet, fields_met, MembersMet, members_met, variable_in, variables_in, member_in, members_in, object_slot, object_in, object_of, is_empty, arrays, lengths_of, open_of, type_in, held_in, pointer_in, target_breaches, pointer_to, fields_in, field_in, field_names, array_in, record_in, record_of}
+use Rattle.aos_check_decl.specs.Types.{FieldsMet, fields_met, MembersMet, members_met, variable_in, variables_in, member_in, members_in, object_slot, object_in, object_of, is_empty, arrays, lengths_of, open_of, type_in, held_in, pointer_in, pointer_behind, fields_in, field_in, field_names, array_in, record_in, record_of}
 
 -- the fields of a record, as a row and as a list
 fields_row : (n : _) (f : FieldsMet) (r : Row_of-Fields n) → fields_in f r ≡ walk field_in f (items-the_row-Fields n r)
@@ -47,7 +47,7 @@ unfolding hidden-the_row-TypeExpr-3 shape-the_row-TypeExpr-3 hidden
 held may_be_open e t = refl
 
 led : (slot : Option TypeId) (e : Env) (p : Pos) (t : TypeExpr) → pointer_in slot e p (hidden-the_row-TypeExpr-3 t)
-    ≡ bind (bind (judged (target_breaches t) e) (λ e. type_in true None e t)) (λ m. kept (pointer_to slot p t m))
+    ≡ bind (type_in true None e t) (λ m. pointer_behind slot p t m)
 unfolding hidden-the_row-TypeExpr-3 shape-the_row-TypeExpr-3 hidden
 led slot e p t = refl
 
@@ -82,7 +82,7 @@ record_met may_be_open slot e t p base fs is =
 
 -- a pointer, which is met behind what it leads to
 pub pointer_met : (may_be_open : Bool) (slot : Option TypeId) (e : Env) (t : TypeExpr) (p : Pos) (to : TypeExpr) → t ≡ type.Pointer p to →
-    type_in may_be_open slot e t ≡ bind (bind (judged (target_breaches to) e) (λ e. type_in true None e to)) (λ m. kept (pointer_to slot p to m))
+    type_in may_be_open slot e t ≡ bind (type_in true None e to) (λ m. pointer_behind slot p to m)
 pointer_met may_be_open slot e t p to is = ap (type_in may_be_open slot e) is ∙ led slot e p to
 
 -- an object type, whose declarations are a list

@@ -1,9 +1,9 @@
 -- One more type, result or variable that is judged.
-use Rattle.std.proofs.Common.{◌≡◌, ◌<◌, ◌≤◌, ◌⊎◌, inl, inr, ℕ, zero, suc, List, [], ◌∷◌, ◌+◌, length, get_or, take, drop, drop-cons, add-one, ◌++◌, Bor, Bool, nat_le, sum_by, Option, Some, None, slice_get, refl, ap, ◌∙◌, sym}
+use Rattle.std.proofs.Common.{◌≡◌, ◌<◌, ◌≤◌, ◌⊎◌, inl, inr, ℕ, zero, suc, List, [], ◌∷◌, ◌+◌, length, get_or, take, drop, drop-cons, add-one, ◌++◌, Bor, Bool, true, false, nat_le, if◌then◌else◌, sum_by, Option, Some, None, slice_get, refl, ap, ◌∙◌, sym}
 use Rattle.std.specs.List.{zip, flat_map}
 use Rattle.std.proofs.lemmas.List.{take_all}
 use Rattle.std.proofs.lemmas.List.Sums.{sum_by_more}
-use Rattle.std.proofs.lemmas.Option.{none-some, slice_get_within, slice_get_cases, get_or_from_slice_get}
+use Rattle.std.proofs.lemmas.Option.{none-some, same_Some, slice_get_within, slice_get_cases, get_or_from_slice_get}
 use Rattle.aos_tree.specs.declared.decl.Def.{Def}
 use Rattle.aos_tree.specs.declared.decl.Proc.{Proc}
 use Rattle.aos_tree.specs.declared.decl.Decl.{Decl}
@@ -19,7 +19,7 @@ use Rattle.aos_symbols.specs.Declarations.{Procedure, all_procedures, seen_proce
 use Rattle.aos_symbols.specs.Scope.{Scope}
 use Rattle.aos_symbols.proofs.Keeping.{after_more, after_two, after_three}
 use Rattle.aos_symbols.proofs.Paths.{past}
-use Rattle.aos_check_decl.specs.Limits.{Written, written, type_breaches, types_from, result_of, result_breaches, results_from, counted, variables_of, scalars_of, variables_past, asked_result, cut_off}
+use Rattle.aos_check_decl.specs.Limits.{Written, written, type_breaches, types_from, result_of, result_breaches, results_from, counted, is_counted, counted_in, variables_of, scalars_of, variables_past, asked_result, cut_off}
 
 module _ (flags : List Bool) (rows : List TypeRow) where
   -- the rules of one type, and of those behind it
@@ -96,28 +96,65 @@ module _ (rows : List TypeRow) where
       ap (λ z. first_after met (variables_past [] rows sum (zip ds (variables_of [] rows z)))) none
       ∙ ap (λ l. first_after met (variables_past [] rows sum l)) (no_pairs ds))
 
-  -- no variable's type is left
-  pub variables_end : (met : Option Breach) (sum : ℕ) (ds : List Def) (vs : List (Option TypeId)) (k : ℕ) → slice_get vs k ≡ None →
+  -- what a variable counts, or why it counts nothing
+  counted_one : (o : Option (Option TypeId)) (n : ℕ) → counted_in [] rows o ≡ Some n →
+      (of : Option TypeId) × (o ≡ Some of) × (is_counted [] rows of ≡ true) × (counted [] rows of ≡ n)
+  counted_one None n e = absurd (none-some n e)
+  counted_one (Some of) n e = by (is_counted [] rows of) refl e
+    where
+      by : (b : Bool) → is_counted [] rows of ≡ b → (if b then Some (counted [] rows of) else None) ≡ Some n →
+          (u : Option TypeId) × (Some of ≡ Some u) × (is_counted [] rows u ≡ true) × (counted [] rows u ≡ n)
+      by true counts e = (of, refl, counts, same_Some (counted [] rows of) n e)
+      by false counts e = absurd (none-some n e)
+
+  counted_none : (o : Option (Option TypeId)) → counted_in [] rows o ≡ None → (o ≡ None) ⊎ ((of : Option TypeId) × (o ≡ Some of) × (is_counted [] rows of ≡ false))
+  counted_none None e = inl refl
+  counted_none (Some of) e = by (is_counted [] rows of) refl e
+    where
+      by : (b : Bool) → is_counted [] rows of ≡ b → (if b then Some (counted [] rows of) else None) ≡ None →
+          (Some of ≡ None) ⊎ ((u : Option TypeId) × (Some of ≡ Some u) × (is_counted [] rows u ≡ false))
+      by true counts e = absurd (none-some (counted [] rows of) (sym e))
+      by false counts e = inr (of, refl, counts)
+
+  -- behind a variable that counts nothing
+  uncounted : (sum : ℕ) (ds : List Def) (of : Option TypeId) (rest : List (Option TypeId)) → is_counted [] rows of ≡ false → variables_past [] rows sum (zip ds (of ∷ rest)) ≡ []
+  uncounted sum [] of rest counts = refl
+  uncounted sum (d ∷ ds) of rest counts =
+      let n = sum + counted [] rows of in
+      ap (λ b. if b then breach_unless (nat_le n MOST_SCALARS) 19 d.name.pos ++ variables_past [] rows n (zip ds rest) else []) counts
+
+  -- no variable is left that counts
+  pub variables_end : (met : Option Breach) (sum : ℕ) (ds : List Def) (vs : List (Option TypeId)) (k : ℕ) → counted_in [] rows (slice_get vs k) ≡ None →
       first_after met (variables_past [] rows sum (zip ds (drop k vs))) ≡ met
-  variables_end met sum ds vs k none =
-      ap (λ l. first_after met (variables_past [] rows sum (zip ds l))) (got_none vs k none)
-      ∙ ap (λ l. first_after met (variables_past [] rows sum l)) (no_pairs ds)
+  variables_end met sum ds vs k none = by (counted_none (slice_get vs k) none)
+    where
+      by : (slice_get vs k ≡ None) ⊎ ((of : Option TypeId) × (slice_get vs k ≡ Some of) × (is_counted [] rows of ≡ false)) →
+          first_after met (variables_past [] rows sum (zip ds (drop k vs))) ≡ met
+      by (inl past) =
+          ap (λ l. first_after met (variables_past [] rows sum (zip ds l))) (got_none vs k past)
+          ∙ ap (λ l. first_after met (variables_past [] rows sum l)) (no_pairs ds)
+      by (inr x) =
+          ap (λ l. first_after met (variables_past [] rows sum (zip ds l))) (got_one vs k x.0 x.1)
+          ∙ ap (λ l. first_after met l) (uncounted sum ds x.0 (drop (k + 1) vs) x.2)
 
   -- one more variable, with what all so far have
-  pub variables_step : (met : Option Breach) (sum : ℕ) (ds : List Def) (i : ℕ) (d : Def) (vs : List (Option TypeId)) (k : ℕ) (of : Option TypeId) {after : Option Breach} {n j : ℕ} →
-      i < length ds → slice_get vs k ≡ Some of → n ≡ sum + counted [] rows of → j ≡ k + 1 →
+  pub variables_step : (met : Option Breach) (sum : ℕ) (ds : List Def) (i : ℕ) (d : Def) (vs : List (Option TypeId)) (k count : ℕ) {after : Option Breach} {n j : ℕ} →
+      i < length ds → counted_in [] rows (slice_get vs k) ≡ Some count → n ≡ sum + count → j ≡ k + 1 →
       after ≡ first_after met (breach_unless (nat_le n MOST_SCALARS) 19 (get_or ds i d).name.pos) →
       first_after after (variables_past [] rows n (zip (drop (i + 1) ds) (drop j vs))) ≡ first_after met (variables_past [] rows sum (zip (drop i ds) (drop k vs)))
-  variables_step met sum ds i d vs k of {after = after} {n = n} {j = j} lt one n_is j_is noted =
+  variables_step met sum ds i d vs k count {after = after} {n = n} {j = j} lt one n_is j_is noted =
+      let x = counted_one (slice_get vs k) count one in
+      let of = x.0 in
       let this = λ (m : ℕ). breach_unless (nat_le m MOST_SCALARS) 19 (get_or ds i d).name.pos in
       let rest = λ (m l : ℕ). variables_past [] rows m (zip (drop (i + 1) ds) (drop l vs)) in
       let m = sum + counted [] rows of in
       ap (λ f. first_after f (rest n j)) noted
       ∙ ap (λ l. first_after (first_after met (this n)) (rest n l)) j_is
-      ∙ ap (λ m. first_after (first_after met (this m)) (rest m (k + 1))) n_is
+      ∙ ap (λ m. first_after (first_after met (this m)) (rest m (k + 1))) (n_is ∙ ap (λ c. sum + c) (sym x.3))
       ∙ sym (after_more met (this m) (rest m (k + 1)))
       ∙ sym (ap (λ l. first_after met (variables_past [] rows sum (zip l (drop k vs)))) (drop-cons ds i d lt)
-      ∙ ap (λ l. first_after met (variables_past [] rows sum (zip (get_or ds i d ∷ drop (suc i) ds) l))) (got_one vs k of one)
+      ∙ ap (λ l. first_after met (variables_past [] rows sum (zip (get_or ds i d ∷ drop (suc i) ds) l))) (got_one vs k of x.1)
+      ∙ ap (λ b. first_after met (if b then this m ++ variables_past [] rows m (zip (drop (suc i) ds) (drop (k + 1) vs)) else [])) x.2
       ∙ ap (λ l. first_after met (this m ++ variables_past [] rows m (zip (drop l ds) (drop (k + 1) vs)))) (sym (add-one i)))
 
 -- what a function gives of the items before a place, and of one more

@@ -59,7 +59,7 @@ use Rattle.aos_check_decl.specs.Methods.{slot_meant, defined_type, definition_br
 use Rattle.aos_check_decl.proofs.ObjectTypes.{IsObject}
 use Rattle.aos_check_decl.proofs.TypingStays.{all_same}
 use Rattle.aos_check_decl.proofs.TypingAliases.{IsProper}
-use Rattle.aos_check_decl.proofs.TypingClaims.{base_fits}
+use Rattle.aos_check_decl.proofs.TypingClaims.{base_fits, told_closed}
 use Rattle.aos_check_decl.proofs.TypingDefined.{own_found}
 use Rattle.aos_check_decl.proofs.TypingFields.{IsObjectRow}
 use Rattle.aos_check_decl.proofs.TypingHeadings.{is_name}
@@ -378,8 +378,8 @@ module _ (number : ℕ) (before : List Home) (types : List TypeRow) (text : List
           let flags = circles e.types in
           let ds = single_variables m.decls in
           let kept = variables_kept flags e.types e (length types) m.decls (whole.kept_whole number before types text m ts given ready.constants old led once none asked fine) in
-          few_from flags e.types table.sound.sizes ds own_there.0.variables 0 (sum_by (limits.scalars_of flags e.types) e.before)
-          (ap length own_there.2 ∙ headed.count) (omega arith) (omega arith)
+          few_from flags e.types table.sound.sizes (told_closed e.types basics) ds own_there.0.variables 0 (sum_by (limits.scalars_of flags e.types) e.before)
+          (ap length own_there.2 ∙ headed.count) (subst (Each (IsKnown e.types)) (sym own_there.2) headed.known) (omega arith) (omega arith)
           (ap (λ o. limits.variables_past flags e.types (sum_by (limits.scalars_of flags e.types) e.before) (zip ds (limits.variables_of flags e.types o))) (sym own_there.1) ∙ kept)
 
       -- with those of the modules before
@@ -391,7 +391,8 @@ module _ (number : ℕ) (before : List Home) (types : List TypeRow) (text : List
           let so_far = sum_by (limits.scalars_of flags e.types) e.before in
           let kept = variables_kept flags e.types e (length types) m.decls (whole.kept_whole number before types text m ts given ready.constants old led once none asked fine) in
           subst (λ n. n ≤ MOST_SCALARS) (sum_by_from (variable_cells e.types) so_far own_there.0.variables)
-          (few_from flags e.types table.sound.sizes ds own_there.0.variables so_far so_far (ap length own_there.2 ∙ headed.count) small (omega arith)
+          (few_from flags e.types table.sound.sizes (told_closed e.types basics) ds own_there.0.variables so_far so_far (ap length own_there.2 ∙ headed.count)
+          (subst (Each (IsKnown e.types)) (sym own_there.2) headed.known) small (omega arith)
           (ap (λ o. limits.variables_past flags e.types so_far (zip ds (limits.variables_of flags e.types o))) (sym own_there.1) ∙ kept))
 
       goes_on : GoOn types e.types

@@ -22,6 +22,7 @@ use Rattle.aos_symbols.proofs.Each.{implied}
 use Rattle.aos_symbols.proofs.Holds.{none_left, none_right, test_is}
 use Rattle.aos_symbols.proofs.Told.{IsTold, basic, of_any, defined, GoOn, get_front, IsBase, IsObjectBase, IsFormalType, IsResultType, PartsAreTold, AreToldParts}
 use Rattle.aos_check_decl.specs.Types.{base_claims, object_claims}
+use Rattle.aos_check_decl.specs.Aliases.{nil}
 use Rattle.aos_check_decl.specs.Limits.{may_be_base, may_be_object_base, may_be_target, claim_breaches, without_base}
 use Rattle.aos_check_decl.proofs.TypingLists.{set_other, get_behind}
 
@@ -268,7 +269,7 @@ one_same : (rows : List TypeRow) (c : Claim) → ((at : Pos) (b t : TypeId) → 
     ((at : Pos) (b t : TypeId) → c ≡ claim.ObjectBase at b t → is_object (row_of rows b) ≡ true) → without_base rows c ≡ rows
 one_same rows (claim.Target at t) records objects = refl
 one_same rows (claim.Result at t) records objects = refl
-one_same rows (claim.Base at b t) records objects = ap (λ z. if z then rows else slice_set rows t.0 (row.Record None [])) (records at b t refl)
+one_same rows (claim.Base at b t) records objects = ap (λ z. if z then rows else slice_set rows t.0 (row.Open nil)) (records at b t refl)
 one_same rows (claim.ObjectBase at b t) records objects = ap (λ z. if z then rows else slice_set rows t.0 (row.Object None [])) (objects at b t refl)
 one_same rows (claim.Field n b) records objects = refl
 one_same rows (claim.Method n b) records objects = refl
@@ -287,9 +288,9 @@ one_other rows (claim.Target at t) k others objects = refl
 one_other rows (claim.Result at t) k others objects = refl
 one_other rows (claim.Base at b t) k others objects = by (is_record (row_of rows b))
   where
-    by : (z : Bool) → slice_get (if z then rows else slice_set rows t.0 (row.Record None [])) k ≡ slice_get rows k
+    by : (z : Bool) → slice_get (if z then rows else slice_set rows t.0 (row.Open nil)) k ≡ slice_get rows k
     by true = refl
-    by false = set_other rows t.0 k (row.Record None []) (λ same. others at b t refl (sym same))
+    by false = set_other rows t.0 k (row.Open nil) (λ same. others at b t refl (sym same))
 one_other rows (claim.ObjectBase at b t) k others objects = by (is_object (row_of rows b))
   where
     by : (z : Bool) → slice_get (if z then rows else slice_set rows t.0 (row.Object None [])) k ≡ slice_get rows k
@@ -311,9 +312,9 @@ one_long rows (claim.Target at t) = refl
 one_long rows (claim.Result at t) = refl
 one_long rows (claim.Base at b t) = by (is_record (row_of rows b))
   where
-    by : (z : Bool) → length (if z then rows else slice_set rows t.0 (row.Record None [])) ≡ length rows
+    by : (z : Bool) → length (if z then rows else slice_set rows t.0 (row.Open nil)) ≡ length rows
     by true = refl
-    by false = length-set rows t.0 (row.Record None [])
+    by false = length-set rows t.0 (row.Open nil)
 one_long rows (claim.ObjectBase at b t) = by (is_object (row_of rows b))
   where
     by : (z : Bool) → length (if z then rows else slice_set rows t.0 (row.Object None [])) ≡ length rows

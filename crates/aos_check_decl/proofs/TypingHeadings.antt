@@ -43,7 +43,7 @@ use Rattle.aos_check_decl.specs.Types.{Met, MembersMet}
 use Rattle.aos_check_decl.specs.Headings as judge
 use Rattle.aos_check_decl.proofs.ObjectTypes.{IsObject}
 use Rattle.aos_check_decl.proofs.TypingScopes.{AllGood, IsMore, no_more, same_more, more_and_more, variable_more, variable_good, variable_records, constant_more, constant_good, constant_records, IsOutside, variables_at, scope_at, more_elsewhere, fields_more, fields_here, fields_other, fields_good, fields_records, constant_same, variable_other}
-use Rattle.aos_check_decl.proofs.TypingTypes.{Telling, IsSearched, IsSlotted, IsFit, IsBeyond, beyond_on, fit_beyond, IsMet, is_written, type_sound, other_none, IsOther, good_constants, base_sound, each_of, chosen}
+use Rattle.aos_check_decl.proofs.TypingTypes.{Telling, IsSearched, IsSlotted, IsFit, IsBeyond, beyond_on, fit_beyond, IsMet, is_written, type_sound, other_none, IsOther, good_constants, base_sound, part_lost, each_of, chosen}
 use Rattle.aos_check_decl.proofs.TypingClaims.{IsBaseMet, base_met, claims_of_object}
 
 abbrev pub is_name : TypeExpr → Bool
@@ -335,25 +335,39 @@ module _ (c : Telling) (path : List Open) (searched : Each (IsSearched c) path) 
       abbrev h : Home
       h = f.env.here
 
+      abbrev own : List TypeId
+      own = types.own_types q b f.types (length f.variables)
+
       abbrev r : TypeRow
-      r = row.Object b f.types
+      r = row.Object b own
 
       abbrev claims : List Claim
       claims = types.object_claims q (types.own_fields ds) (types.own_methods ds) b t
 
       abbrev g : Env
-      g = (types.object_met t at q ds b f.types (types.with_own_fields o.scope f.variables (env.back_at e.path f.env))).env
+      g = (types.object_met t at q ds b own (types.with_own_fields o.scope f.variables (env.back_at e.path f.env))).env
 
       base_later : (q : Option Qualident) → IsBaseMet (Known e.types) q b → IsBaseMet (Known f.env.types) q b
       base_later None met = met
       base_later (Some x) met = c.known_on e.types f.env.types are.grown.goes b met
 
-      each : (p : TypeId) → IsOneOf p (base_list b ++ f.types) → c.Known f.env.types (Some p)
-      each p one = either (one_of_both p (base_list b) f.types one)
+      -- its fields' types, or none of them
+      own_known : ((p : TypeId) → IsOneOf p own → c.Known f.env.types (Some p)) × c.AreAll f.variables own
+      own_known = by (types.are_parts_known q b (length f.types) (length f.variables)) refl
         where
-          either : IsOneOf p (base_list b) ⊎ IsOneOf p f.types → c.Known f.env.types (Some p)
+          by : (z : Bool) → types.are_parts_known q b (length f.types) (length f.variables) ≡ z →
+              ((p : TypeId) → IsOneOf p (if z then f.types else []) → c.Known f.env.types (Some p)) × c.AreAll f.variables (if z then f.types else [])
+          by true is = (λ p one. each_of (λ t. c.Known f.env.types (Some t)) f.types are.parts p one, are.all)
+          by false is =
+              let none = part_lost c inside_path inside_searched f.env.types q b f.types f.variables (base_later q base) are.all is in
+              (λ p one. absurd one, c.any_all f.env.types none f.variables [])
+
+      each : (p : TypeId) → IsOneOf p (base_list b ++ own) → c.Known f.env.types (Some p)
+      each p one = either (one_of_both p (base_list b) own one)
+        where
+          either : IsOneOf p (base_list b) ⊎ IsOneOf p own → c.Known f.env.types (Some p)
           either (inl x) = base_met (Known f.env.types) q b (base_later q base) p x
-          either (inr x) = each_of (λ t. c.Known f.env.types (Some t)) f.types are.parts p x
+          either (inr x) = own_known.0 p x
 
       fields : IsMore (env.innermost path) [] h g.here
       fields = fields_more h (env.innermost path) o.scope f.variables (subst (λ n. IsOutside n (env.innermost path)) (sym are.grown.here.first) outside)
@@ -385,11 +399,11 @@ module _ (c : Telling) (path : List Open) (searched : Each (IsSearched c) path) 
               good = fields_good h o.scope f.variables are.grown.fit.good;
               table = c.on c.first f.env.types g.types are.grown.fit.table goes;
               agrees = subst (λ rs. c.Agrees g.types rs g.claims) (sym (fields_records h o.scope f.variables))
-                  (c.agree_object_set f.env.types h.records f.env.claims t b f.types claims are.grown.fit.table ok
+                  (c.agree_object_set f.env.types h.records f.env.claims t b own claims are.grown.fit.table ok
                   (claims_of_object (Known f.env.types) q (types.own_fields ds) (types.own_methods ds) b t (base_later q base)) each are.grown.fit.agrees);
               objects_is = fields.objects ∙ are.grown.fit.objects_is;
-              filled = c.filled_placed f.env.types h.scopes g.here.scopes t o b f.types f.variables are.grown.fit.table ok there
-                  (fields_here h o.scope f.variables scope_there.0 scope_there.1) (λ j other. fields_other h o.scope j f.variables other) are.all are.count are.grown.fit.filled;
+              filled = c.filled_placed f.env.types h.scopes g.here.scopes t o b own f.variables are.grown.fit.table ok there
+                  (fields_here h o.scope f.variables scope_there.0 scope_there.1) (λ j other. fields_other h o.scope j f.variables other) own_known.1 are.count are.grown.fit.filled;
             };
             goes = c.on e.types f.env.types g.types are.grown.goes goes;
             long = ap (λ n. n + length e.places) (length-set f.env.types t.0 r) ∙ m;
@@ -399,7 +413,7 @@ module _ (c : Telling) (path : List Open) (searched : Each (IsSearched c) path) 
         Holds (IsObjectMet e t) (types.object_with e at q ds t o.scope (types.members_in (types.members_met entered [] []) row))
     object_placed row many =
         let members = types.members_in (types.members_met entered [] []) row in
-        let made = λ (b : Option TypeId) (f : MembersMet). types.object_met t at q ds b f.types (types.with_own_fields o.scope f.variables (env.back_at e.path f.env)) in
+        let made = λ (b : Option TypeId) (f : MembersMet). types.object_met t at q ds b (types.own_types q b f.types (length f.variables)) (types.with_own_fields o.scope f.variables (env.back_at e.path f.env)) in
         holds_bind (IsBaseMet (Known e.types) q) (IsObjectMet e t) (types.base_in e q) (λ b. bind members (λ f. kept (made b f))) (base_sound c path searched e fit q)
         (λ b base. holds_bind (AreMembers c inside_path inside_searched entered (c.fields o.scope)) (IsObjectMet e t) members (λ f. kept (made b f))
         (λ h. members_are c inside_path inside_searched entered (0 + variables_in c inside_path inside_searched row) (c.fields o.scope) members.answer (omega (arith, many))
@@ -415,7 +429,7 @@ module _ (c : Telling) (path : List Open) (searched : Each (IsSearched c) path) 
       {n : _} (row : Row_of-Decl n) → IsWholeType t row → (o : Option ObjectScope) → object_of e.here t ≡ o →
       Holds (IsObjectMet e t) (types.object_in (Some t) o e at q ds (λ e. types.members_in (types.members_met e [] []) row))
   object_sound out e fit t ok at q ds row many None is =
-      chosen (IsObjectMet e t) (env.innermost e.path == 0) (types.refused_type 99 at e) (types.refused_type 26 at e) (broken (IsObjectMet e t) _ [] _) (broken (IsObjectMet e t) _ [] _)
+      chosen (IsObjectMet e t) (env.innermost e.path == 0) (types.refused_type 26 at e) (types.refused_type 26 at e) (broken (IsObjectMet e t) _ [] _) (broken (IsObjectMet e t) _ [] _)
   object_sound out e fit t ok at q ds row many (Some o) is =
       chosen (IsObjectMet e t) (env.innermost e.path == 0)
       (types.object_with e at q ds t o.scope (types.members_in (types.members_met (env.within e o.scope) [] []) row)) (types.refused_type 26 at e)
@@ -526,8 +540,8 @@ module _ (c : Telling) (path : List Open) (searched : Each (IsSearched c) path) 
 
     no_object : (at : Pos) (q : Option Qualident) (ds : List Decl) (members : Env → Judged MembersMet) (slot : Option TypeId) (o : Option ObjectScope) →
         (types.object_in slot o e at q ds members).breaches ≡ [] → ⊥
-    no_object at q ds members None o none = refused_there (env.innermost e.path == 0) (types.refused_type 99 at e) at here none
-    no_object at q ds members (Some t) None none = refused_there (env.innermost e.path == 0) (types.refused_type 99 at e) at here none
+    no_object at q ds members None o none = refused_there (env.innermost e.path == 0) (types.refused_type 26 at e) at here none
+    no_object at q ds members (Some t) None none = refused_there (env.innermost e.path == 0) (types.refused_type 26 at e) at here none
     no_object at q ds members (Some t) (Some o) none =
         refused_there (env.innermost e.path == 0) (types.object_with e at q ds t o.scope (members (env.within e o.scope))) at here none
 

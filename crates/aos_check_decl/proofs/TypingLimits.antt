@@ -1,6 +1,6 @@
 -- What is judged of all types together, where no rule is broken: no type contains itself, none is the first past the limit, and
 -- results are of scalar types.
-use Rattle.std.proofs.Common.{◌≡◌, ℕ, zero, suc, ◌+◌, ◌-◌, ◌<◌, ◌≤◌, List, [], ◌∷◌, ◌++◌, length, map, fold, Bool, true, false, not, ◌&&◌, nat_le, if◌then◌else◌, Option, Some, None, slice_get, refl, sym, ap, ◌∙◌, subst, arith, length-append}
+use Rattle.std.proofs.Common.{◌≡◌, ℕ, zero, suc, ◌+◌, ◌-◌, ◌<◌, ◌≤◌, List, [], ◌∷◌, ◌++◌, length, map, fold, Bool, true, false, not, ◌&&◌, ◌||◌, nat_le, if◌then◌else◌, Option, Some, None, slice_get, refl, sym, ap, ◌∙◌, subst, arith, length-append}
 use Rattle.std.specs.List.{zip, flat_map}
 use Rattle.std.specs.Prelude.{sum_by, unwrap_or}
 use Rattle.std.proofs.lemmas.Bool.{cases_lt, le-leb, leb-true}
@@ -30,7 +30,8 @@ use Rattle.aos_symbols.specs.Breaches.{breach_unless}
 use Rattle.aos_symbols.specs.Declarations.{Procedure, all_procedures, all_type_defs, single_variables}
 use Rattle.aos_symbols.specs.Env as env
 use Rattle.aos_symbols.proofs.Holds.{none_left, none_right, test_is}
-use Rattle.aos_symbols.proofs.Told.{IsTold, basic, of_any, defined}
+use Rattle.aos_symbols.proofs.Each.{Each}
+use Rattle.aos_symbols.proofs.Told.{IsTold, basic, of_any, defined, IsKnown}
 use Rattle.aos_check_decl.specs.Limits as judge
 use Rattle.aos_check_decl.specs.Limits.{Written, written, defined_at, unnamed_at}
 use Rattle.aos_check_decl.proofs.TypingTables.{AllBelow, circle_stays}
@@ -134,20 +135,31 @@ module _ (flags : List Bool) (rows : List TypeRow) (small : (t : TypeId) → sca
   counted_is None = refl
   counted_is (Some t) = ap (λ o. unwrap_or o 0) (at_most_is MOST_SCALARS (variable_scalars rows t) (variable_within rows t (small t)))
 
-  -- the sum so far counts these variables, and maybe others
-  pub few_from : (ds : List Def) (vs : List (Option TypeId)) (own sum : ℕ) → length vs ≡ length ds → own ≤ MOST_SCALARS → own ≤ sum →
-      judge.variables_past flags rows sum (zip ds vs) ≡ [] → fold (λ n v. n + variable_cells rows v) own vs ≤ MOST_SCALARS
-  few_from [] [] own sum long few less none = few
-  few_from [] (v ∷ vs) own sum long few less none = absurd (omega (arith, long))
-  few_from (d ∷ ds) [] own sum long few less none = few
-  few_from (d ∷ ds) (v ∷ vs) own sum long few less none =
-      let n = sum + judge.counted flags rows v in
-      let rest = judge.variables_past flags rows n (zip ds vs) in
-      let one : nat_le n MOST_SCALARS ≡ true = test_is (nat_le n MOST_SCALARS) 19 d.name.pos (none_left (breach_unless (nat_le n MOST_SCALARS) 19 d.name.pos) rest none) in
-      let most : n ≤ MOST_SCALARS = leb-true n MOST_SCALARS one in
-      let same = counted_is v in
-      few_from ds vs (own + variable_cells rows v) n (omega (arith, long)) (omega (arith, less, same, most)) (omega (arith, less, same))
-      (none_right (breach_unless (nat_le n MOST_SCALARS) 19 d.name.pos) rest none)
+  module _ (closed : (t : TypeId) → IsTold rows t → is_open (row_of rows t) ≡ false) where
+    -- a type that is told counts
+    known_counts : (of : Option TypeId) → IsKnown rows of → judge.is_counted flags rows of ≡ true
+    known_counts None known = absurd known
+    known_counts (Some t) known =
+        let few = small t in
+        let past : is_past rows t ≡ false = grind (arith, few) in
+        ap (λ b. not (b || is_past rows t)) (closed t known) ∙ ap not past
+
+    -- the sum so far counts these variables, and maybe others
+    pub few_from : (ds : List Def) (vs : List (Option TypeId)) (own sum : ℕ) → length vs ≡ length ds → Each (IsKnown rows) vs → own ≤ MOST_SCALARS → own ≤ sum →
+        judge.variables_past flags rows sum (zip ds vs) ≡ [] → fold (λ n v. n + variable_cells rows v) own vs ≤ MOST_SCALARS
+    few_from [] [] own sum long known few less none = few
+    few_from [] (v ∷ vs) own sum long known few less none = absurd (omega (arith, long))
+    few_from (d ∷ ds) [] own sum long known few less none = few
+    few_from (d ∷ ds) (v ∷ vs) own sum long known few less none =
+        let n = sum + judge.counted flags rows v in
+        let this = breach_unless (nat_le n MOST_SCALARS) 19 d.name.pos in
+        let rest = judge.variables_past flags rows n (zip ds vs) in
+        let counts : this ++ rest ≡ [] = sym (ap (λ b. if b then this ++ rest else []) (known_counts v known.0)) ∙ none in
+        let one : nat_le n MOST_SCALARS ≡ true = test_is (nat_le n MOST_SCALARS) 19 d.name.pos (none_left this rest counts) in
+        let most : n ≤ MOST_SCALARS = leb-true n MOST_SCALARS one in
+        let same = counted_is v in
+        few_from ds vs (own + variable_cells rows v) n (omega (arith, long)) known.1 (omega (arith, less, same, most)) (omega (arith, less, same))
+        (none_right this rest counts)
 
 -- the flag of a type that is there
 pub flag_is : (rows rows' : List TypeRow) (t : TypeId) → t.0 < length rows → judge.is_circular (circles rows) rows' t ≡ contains_itself rows t

@@ -1,5 +1,5 @@
 -- A walk over declarations in a module's environment, and what is told of types on it.
-use Rattle.std.proofs.Common.{◌≡◌, ℕ, ◌<◌, ◌≤◌, nat_eq, List, [], ◌∷◌, ◌++◌, length, replicate, true, false, Option, Some, None, slice_get, slice_set}
+use Rattle.std.proofs.Common.{◌≡◌, ℕ, ◌<◌, ◌≤◌, nat_eq, List, [], ◌∷◌, ◌++◌, length, replicate, ◌==◌, true, false, Option, Some, None, slice_get, slice_set}
 use Rattle.aos_base.specs.declared.text.Pos.{Pos}
 use Rattle.aos_tree.specs.declared.decl.TypeDef.{TypeDef}
 use Rattle.aos_types.specs.declared.row.TypeId.{TypeId}
@@ -66,6 +66,8 @@ pub record Telling : Type 1 where
   pub none_all : AreAll [] []
   pub more_all : (ts : List TypeRow) (vs : List (Option TypeId)) (us : List TypeId) (n : ℕ) (of : Option TypeId) → Known ts of → AreAll vs us →
       AreAll (vs ++ replicate n of) (us ++ judge.fields_of n of)
+  pub missing : (ts : List TypeRow) (vs : List (Option TypeId)) (us : List TypeId) → AreAll vs us → (length us == length vs) ≡ false → Known ts None
+  pub any_all : (ts : List TypeRow) → Known ts None → (vs : List (Option TypeId)) (us : List TypeId) → AreAll vs us
   pub agree_set : (ts : List TypeRow) (rs : List (ℕ × Scope)) (cs : List Claim) (t : TypeId) (r : TypeRow) → GoesTo first ts → IsSlot t → is_open (Some r) ≡ false → IsNoRecord r →
       IsRow (λ p. There ts (Some p)) (λ p. Known ts (Some p) × IsAskedResult cs p) (Leads (Stands ts) cs) r → ((p : TypeId) → IsOneOf p (named_in r) → Known ts (Some p)) → Agrees ts rs cs → Agrees (slice_set ts t.0 r) rs cs
   pub agree_push : (ts : List TypeRow) (rs : List (ℕ × Scope)) (cs : List Claim) (r : TypeRow) → GoesTo first ts → is_open (Some r) ≡ false → IsNoRecord r →

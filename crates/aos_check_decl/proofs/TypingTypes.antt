@@ -30,6 +30,7 @@ use Rattle.aos_symbols.specs.declared.env.Open.{Open}
 use Rattle.aos_symbols.specs.declared.env.Claim.{Claim}
 use Rattle.aos_symbols.specs.declared.env.Claim.TheVariants as claim
 use Rattle.aos_symbols.specs.declared.env.Env.{Env}
+use Rattle.aos_symbols.specs.Breaches.{breach}
 use Rattle.aos_symbols.specs.Judged.{Judged, judged, kept, bind, walk}
 use Rattle.aos_symbols.specs.Scope.{Scope, empty}
 use Rattle.aos_symbols.specs.Home.{Home}
@@ -46,7 +47,7 @@ use Rattle.std.specs.List.{flat_map}
 use Rattle.std.specs.Prelude.{codes, fold}
 use Rattle.std.proofs.lemmas.List.{length-replicate}
 use Rattle.aos_symbols.proofs.Told.{get_end, IsLength}
-use Rattle.aos_symbols.proofs.Holds.{Holds, holds_bind, holds_walk, broken, none_left, none_right}
+use Rattle.aos_symbols.proofs.Holds.{Holds, holds_bind, holds_walk, broken}
 use Rattle.aos_check_expr.specs.Expressions.{constant}
 use Rattle.aos_check_expr.proofs.Typing.{HasGood, GoodConstants}
 use Rattle.aos_check_expr.proofs.Typing.{constant_good as good_value}
@@ -511,9 +512,34 @@ module _ (c : Telling) where
                   (λ h. c.pushed_stands e.types (row.Record base us) fit.table refl);
             }
 
+    -- without its fields, where its base or one of them has no type
+    pub part_lost : (ts : List TypeRow) (q : Option Qualident) (base : Option TypeId) (us : List TypeId) (vs : List (Option TypeId)) → IsBaseMet (Known ts) q base →
+        c.AreAll vs us → judge.are_parts_known q base (length us) (length vs) ≡ false → Known ts None
+    part_lost ts None base us vs met all is = c.missing ts vs us all is
+    part_lost ts (Some q) (Some b) us vs met all is = c.missing ts vs us all is
+    part_lost ts (Some q) None us vs met all is = met
+
+    record_known : (may_be_open : Bool) (e : Env) → IsFit path e → (slot : Option TypeId) → IsSlotted slot → (at : Pos) (q : Option Qualident) (names : List Name)
+        (base : Option TypeId) (us : List TypeId) (s : Scope) → IsBaseMet (Known e.types) q base → ((p : TypeId) → IsOneOf p us → c.Known e.types (Some p)) →
+        c.AreAll s.variables us → IsMet may_be_open true e slot (judge.known_record slot at q names base (judge.fields_met e us s))
+    record_known may_be_open e fit slot ok at q names base us s met known all = by (judge.are_parts_known q base (length us) (length s.variables)) refl
+      where
+        bare : Met
+        bare = judge.placed_record slot at q names base [] s e
+
+        by : (b : Bool) → judge.are_parts_known q base (length us) (length s.variables) ≡ b →
+            IsMet may_be_open true e slot (if b then judge.placed_record slot at q names base us s e else judge.met bare.env None)
+        by true is = record_placed may_be_open e fit slot ok at q names base us s met known all
+        by false is =
+            let none = part_lost e.types q base us s.variables met all is in
+            let beyond = (record_placed may_be_open e fit slot ok at q names base [] s met (λ p one. absurd one) (c.any_all e.types none s.variables [])).beyond in
+            record { beyond = beyond; of = of_slot may_be_open true slot bare.env.types None (c.known_on e.types bare.env.types beyond.goes None none) (λ h. tt) }
+
     pub base_sound : (e : Env) → IsFit path e → (q : Option Qualident) → Holds (IsBaseMet (Known e.types) q) (judge.base_in e q)
     base_sound e fit None = λ h. refl
-    base_sound e fit (Some q) = named e fit q
+    base_sound e fit (Some q) =
+        holds_bind (Known e.types) (Known e.types) (judge.named_type e q) (λ b. if judge.is_predeclared b then judged (breach 17 q.first.pos) None else kept b) (named e fit q)
+        (λ b known. chosen (Known e.types) (judge.is_predeclared b) (judged (breach 17 q.first.pos) None) (kept b) (broken (Known e.types) _ [] _) (λ h. known))
 
     base_on : (e f : Env) → IsBeyond e f → (q : Option Qualident) (base : Option TypeId) → IsBaseMet (Known e.types) q base → IsBaseMet (Known f.types) q base
     base_on e f one None base met = met
@@ -522,18 +548,18 @@ module _ (c : Telling) where
     record_sound : (may_be_open : Bool) (e : Env) → IsFit path e → (slot : Option TypeId) → IsSlotted slot → (at : Pos) (q : Option Qualident) (names : List Name) (fs : Judged FieldsMet) →
         Holds (AreFields e) fs → Holds (IsMet may_be_open true e slot) (judge.record_in slot e at q names fs)
     record_sound may_be_open e fit slot ok at q names fs are =
-        let made = λ (b : Option TypeId) (f : FieldsMet). judge.based q names b (judge.with_record f.scope (judge.placed slot at (row.Record b f.types) f.env)) in
+        let made = λ (b : Option TypeId) (f : FieldsMet). judge.known_record slot at q names b f in
         holds_bind (IsBaseMet (Known e.types) q) (IsMet may_be_open true e slot) (judge.base_in e q) (λ b. bind fs (λ f. kept (made b f))) (base_sound e fit q)
         (λ b base. holds_bind (AreFields e) (IsMet may_be_open true e slot) fs (λ f. kept (made b f)) are
         (λ f is h. met_on may_be_open true e f.env slot (made b f) is.beyond
-        (record_placed may_be_open f.env (fit_beyond path e f.env fit is.beyond) slot ok at q names b f.types f.scope (base_on e f.env is.beyond q b base)
+        (record_known may_be_open f.env (fit_beyond path e f.env fit is.beyond) slot ok at q names b f.types f.scope (base_on e f.env is.beyond q b base)
         (each_of (λ t. c.Known f.env.types (Some t)) f.types is.parts) is.all)))
 
-    -- an object type without a name of its own isn't built
+    -- an object type without a definition is refused
     object_sound : (may_be_open : Bool) (e : Env) (at : Pos) (base : Option Qualident) (decls : List Decl) (object : Option ObjectScope)
         (members : Env → Judged MembersMet) → Holds (IsMet may_be_open false e None) (judge.object_in None object e at base decls members)
     object_sound may_be_open e at base decls object members =
-        chosen (IsMet may_be_open false e None) (env.innermost e.path == 0) (judge.refused_type 99 at e) (judge.refused_type 26 at e)
+        chosen (IsMet may_be_open false e None) (env.innermost e.path == 0) (judge.refused_type 26 at e) (judge.refused_type 26 at e)
         (broken (IsMet may_be_open false e None) _ [] _) (broken (IsMet may_be_open false e None) _ [] _)
 
     -- those that declarations name come later
@@ -585,7 +611,7 @@ module _ (c : Telling) where
       leads = inr stands;
     }
 
-    target_sound : (e : Env) (x : TypeExpr) (t : TypeId) → judge.target_breaches x ≡ [] → IsType true (is_written x) e.types (Some t) → IsTargetMet e (judge.target_claims x t) t
+    target_sound : (e : Env) (x : TypeExpr) (t : TypeId) → judge.is_no_target x (Some t) ≡ false → IsType true (is_written x) e.types (Some t) → IsTargetMet e (judge.target_claims x t) t
     target_sound e (type.Named q) t none is = record {
       beyond = claimed e (claim.Target q.first.pos t ∷ []) (λ a. c.agree_target e.types e.here.records e.claims q.first.pos t a);
       leads = inl (record { place = length e.claims; at = q.first.pos; is = get_end e.claims (claim.Target q.first.pos t) });
@@ -596,30 +622,32 @@ module _ (c : Telling) where
     target_sound e (type.Proc p flag formals) t none is = absurd (cc)
     target_sound e (type.Object' p base shape row body end) t none is = absurd (cc)
 
-    pointer_sound : (may_be_open : Bool) (e : Env) → IsFit path e → (slot : Option TypeId) → IsSlotted slot → (at : Pos) (x : TypeExpr) → judge.target_breaches x ≡ [] →
-        (f : Env) (of : Option TypeId) → IsMet true (is_written x) e None (met f of) → IsMet may_be_open false e slot (judge.pointer_to slot at x (met f of))
-    pointer_sound may_be_open e fit slot ok at x none f None is =
+    pointer_sound : (may_be_open : Bool) (e : Env) → IsFit path e → (slot : Option TypeId) → IsSlotted slot → (at : Pos) (x : TypeExpr) (f : Env) (of : Option TypeId) →
+        judge.is_no_target x of ≡ false → IsMet true (is_written x) e None (met f of) → IsMet may_be_open false e slot (judge.pointer_to slot at x (met f of))
+    pointer_sound may_be_open e fit slot ok at x f None none is =
         record { beyond = is.beyond; of = of_slot may_be_open false slot f.types None (c.none_there f.types is.of.there) (λ h. tt) }
-    pointer_sound may_be_open e fit slot ok at x none f (Some t) is =
+    pointer_sound may_be_open e fit slot ok at x f (Some t) none is =
         let target = target_sound f x t none is.of in
         let g = judge.claiming (judge.target_claims x t) f in
         let beyond = beyond_on e f g is.beyond target.beyond in
         met_on may_be_open false e g slot (judge.placed slot at (row.Pointer t) g) beyond
         (placed_sound may_be_open g (fit_beyond path e g fit beyond) slot ok at (row.Pointer t) refl (λ base ts. (λ e. cc, λ e. cc)) target.leads (λ p none. absurd none))
 
-    -- what is written behind a pointer, and what it breaks
-    abbrev IsBehind : Env → TypeExpr → Met → Type 0
-    IsBehind e x m = (judge.target_breaches x ≡ []) × IsMet true (is_written x) e None m
+    pointer_behind_sound : (may_be_open : Bool) (e : Env) → IsFit path e → (slot : Option TypeId) → IsSlotted slot → (at : Pos) (x : TypeExpr) (m : Met) →
+        IsMet true (is_written x) e None m → Holds (IsMet may_be_open false e slot) (judge.pointer_behind slot at x m)
+    pointer_behind_sound may_be_open e fit slot ok at x m is = by (judge.is_no_target x m.of) refl
+      where
+        by : (b : Bool) → judge.is_no_target x m.of ≡ b →
+            Holds (IsMet may_be_open false e slot) (if b then judged (breach 25 (judge.type_place x)) (met m.env None) else kept (judge.pointer_to slot at x m))
+        by true none = broken (IsMet may_be_open false e slot) _ [] _
+        by false none = λ h. pointer_sound may_be_open e fit slot ok at x m.env m.of none is
 
     pointer_in_sound : (may_be_open : Bool) (e : Env) → IsFit path e → (slot : Option TypeId) → IsSlotted slot → (at : Pos) (x : TypeExpr) →
         Holds (IsMet true (is_written x) e None) (judge.type_in true None e x) →
-        Holds (IsMet may_be_open false e slot)
-        (bind (bind (judged (judge.target_breaches x) e) (λ e. judge.type_in true None e x)) (λ m. kept (judge.pointer_to slot at x m)))
+        Holds (IsMet may_be_open false e slot) (bind (judge.type_in true None e x) (λ m. judge.pointer_behind slot at x m))
     pointer_in_sound may_be_open e fit slot ok at x is =
-        holds_bind (IsBehind e x) (IsMet may_be_open false e slot) (bind (judged (judge.target_breaches x) e) (λ e. judge.type_in true None e x))
-        (λ m. kept (judge.pointer_to slot at x m))
-        (λ h. (none_left (judge.target_breaches x) (judge.type_in true None e x).breaches h, is (none_right (judge.target_breaches x) (judge.type_in true None e x).breaches h)))
-        (λ m behind h. pointer_sound may_be_open e fit slot ok at x behind.0 m.env m.of behind.1)
+        holds_bind (IsMet true (is_written x) e None) (IsMet may_be_open false e slot) (judge.type_in true None e x) (λ m. judge.pointer_behind slot at x m) is
+        (λ m met. pointer_behind_sound may_be_open e fit slot ok at x m met)
 
     -- Parameters, which may be open arrays.
 

@@ -1,8 +1,10 @@
 -- Two walks over the declarations of a module. On the first all rows name types that are there, and those of types of other
 -- modules and of names for other types stay; on the second, which takes it that each name for a type leads to one, types are told.
-use Rattle.std.proofs.Common.{◌≡◌, ℕ, suc, ◌+◌, ◌<◌, ◌≤◌, nat_eq, List, [], ◌∷◌, ◌++◌, length, map, replicate, Bool, true, false, Option, Some, None, unwrap_or, slice_get, slice_set, refl, sym, ap, ◌∙◌, subst, arith, length-append, length-set}
+use Rattle.std.proofs.Common.{◌≡◌, ℕ, suc, ◌+◌, ◌<◌, ◌≤◌, nat_eq, List, [], ◌∷◌, ◌++◌, length, map, replicate, ◌==◌, Bool, true, false, Option, Some, None, unwrap_or, slice_get, slice_set, refl, sym, ap, ◌∙◌, subst, arith, length-append, length-set}
 use Rattle.std.proofs.lemmas.List.FromFn.{length-map-range_with_len}
-use Rattle.std.proofs.lemmas.Option.{same_Some, slice_get_within}
+use Rattle.std.proofs.lemmas.Bool.{eqb-false}
+use Rattle.std.proofs.lemmas.List.{length-map}
+use Rattle.std.proofs.lemmas.Option.{none-some, same_Some, slice_get_within}
 use mathlib.Core.Logic.{◌⊎◌, inl, inr}
 use Rattle.std.specs.Map.{lookup}
 use Rattle.aos_tree.specs.declared.decl.TypeDef.{TypeDef}
@@ -355,6 +357,8 @@ module _ (number : ℕ) (before : List Home) (types : List TypeRow) (text : List
     AreAll = λ vs us. Unit {0};
     none_all = tt;
     more_all = λ ts vs us n of known all. tt;
+    missing = λ us vs fs all many t is. absurd (none-some t is);
+    any_all = λ us known vs fs. tt;
     agree_set = λ us rs cs t r goes slot closed other ok known a. a;
     agree_push = λ us rs cs r goes closed other ok known a. a;
     agree_open = λ us rs cs t goes there a. a;
@@ -465,6 +469,9 @@ module _ (number : ℕ) (before : List Home) (types : List TypeRow) (text : List
   more_fields us vs fs n None known all = absurd known
   more_fields us vs fs n (Some t) known all = more_some vs fs n t all
 
+  pub field_missing : (us : List TypeRow) (vs : List (Option TypeId)) (fs : List TypeId) → AreSome vs fs → (length fs == length vs) ≡ false → IsKnown us None
+  field_missing us vs fs all many = eqb-false (length fs) (length vs) many (sym (ap length all ∙ length-map fs (λ (t : TypeId). Some t)))
+
   module _ (ends : (t : TypeId) → IsProper (length types) ts (follow (length types) ts (length ts) t)) where
     pub number_known : (k : ℕ) → k < length (all_type_defs m.decls) → IsKnown first (number_at standing k)
     number_known k below =
@@ -507,6 +514,8 @@ module _ (number : ℕ) (before : List Home) (types : List TypeRow) (text : List
       AreAll = AreSome;
       none_all = refl;
       more_all = λ us vs fs n of. more_fields us vs fs n of;
+      missing = λ us vs fs all many. field_missing us vs fs all many;
+      any_all = λ us known vs fs. absurd known;
       agree_set = λ us rs cs t r goes slot closed other ok known a. agree_set (length types) (length first) us rs cs t r slot closed other (formals_of us cs r goes ok) known a;
       agree_push = λ us rs cs r goes closed other ok known a. agree_push (length types) (length first) us rs cs r closed other (formals_of us cs r goes ok) known a;
       agree_open = λ us rs cs t goes there a. open_agrees us rs cs t goes there a;

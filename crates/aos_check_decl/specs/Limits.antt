@@ -9,8 +9,6 @@ use Rattle.aos_tree.specs.declared.name.Qualident.{Qualident}
 use Rattle.aos_tree.specs.declared.decl.Def.{Def}
 use Rattle.aos_tree.specs.declared.decl.Decl.{Decl}
 use Rattle.aos_tree.specs.declared.decl.TypeDef.{TypeDef}
-use Rattle.aos_tree.specs.declared.decl.TypeExpr.{TypeExpr}
-use Rattle.aos_tree.specs.declared.decl.TypeExpr.TheVariants as type
 use Rattle.aos_tree.specs.declared.decl.Formals.{Formals}
 use Rattle.aos_types.specs.declared.TheConstants.{MOST_SCALARS}
 use Rattle.aos_types.specs.declared.row.TypeId.{TypeId}
@@ -34,19 +32,13 @@ use Rattle.aos_symbols.specs.Declarations.{Procedure, all_procedures, all_type_d
 use Rattle.aos_symbols.specs.Scope.{Scope}
 use Rattle.aos_symbols.specs.Home.{Home}
 use Rattle.aos_symbols.specs.Env as env
+use Rattle.aos_check_decl.specs.Types.{type_place}
+use Rattle.aos_check_decl.specs.Aliases.{nil}
 
 -- where a type's name stands in its definition, and where the type itself begins; a type without a name has one place
 pub record Written : Type 0 where
   pub named : Pos
   pub at : Pos
-
-abbrev pub type_place : TypeExpr → Pos
-type_place (type.Named q) = q.first.pos
-type_place (type.Array' p lengths shape row) = p
-type_place (type.Record' p base shape row) = p
-type_place (type.Pointer' p shape row) = p
-type_place (type.Proc p flag formals) = p
-type_place (type.Object' p base shape row body end) = p
 
 abbrev pub defined_at : TypeDef → Written
 defined_at d = record { named = d.def.name.pos; at = type_place d.value }
@@ -77,9 +69,9 @@ claim_breaches e (claim.ObjectBase at b t) = breach_unless (may_be_object_base (
 claim_breaches e (claim.Field n b) = breach_unless (is_none (env.field e b n) && is_none (env.method e b n)) 23 n.pos
 claim_breaches e (claim.Method n b) = breach_unless (is_none (env.field e b n)) 23 n.pos
 
--- a record whose base is no record has no contents, and neither has an object type whose base is none
+-- a record whose base is no record stands like a definition that breaks a rule, and an object type whose base is none has no contents
 abbrev pub without_base : List TypeRow → Claim → List TypeRow
-without_base rows (claim.Base at b t) = if is_record (row_of rows b) then rows else slice_set rows t.0 (row.Record None [])
+without_base rows (claim.Base at b t) = if is_record (row_of rows b) then rows else slice_set rows t.0 (row.Open nil)
 without_base rows (claim.ObjectBase at b t) = if is_object (row_of rows b) then rows else slice_set rows t.0 (row.Object None [])
 without_base rows c = rows
 
@@ -147,11 +139,22 @@ module _ (flags : List Bool) (rows : List TypeRow) where
   abbrev pub scalars_of : Home → ℕ
   scalars_of h = sum_by counted (variables_of (slice_get h.scopes 0))
 
-  -- the first variable with which all variables so far are past the limit
+  -- a variable's type is known to keep its rules, so that its scalars count
+  abbrev pub is_counted : Option TypeId → Bool
+  is_counted None = false
+  is_counted (Some t) = not (is_open (row_of rows t) || is_past rows t)
+
+  -- of a variable that may not be declared
+  abbrev pub counted_in : Option (Option TypeId) → Option ℕ
+  counted_in None = None
+  counted_in (Some of) = if is_counted of then Some (counted of) else None
+
+  -- the first variable with which all variables so far are past the limit; behind one whose type breaks a rule none is known to be
   abbrev pub variables_past : ℕ → List (Def × Option TypeId) → List Breach
   variables_past sum [] = []
   variables_past sum (v ∷ vs) =
-      let n = sum + counted v.1 in breach_unless (nat_le n MOST_SCALARS) 19 v.0.name.pos ++ variables_past n vs
+      let n = sum + counted v.1 in
+      if is_counted v.1 then breach_unless (nat_le n MOST_SCALARS) 19 v.0.name.pos ++ variables_past n vs else []
 
   -- of a module, whose first type has the number `first`
   abbrev pub all_breaches : Env → ℕ → List Decl → List Breach

@@ -1,7 +1,8 @@
--- Types that are written: the rules that they break, their rows in the table of types, and their numbers. What isn't
--- built is refused by rule 99 at its first token; nothing behind that in it is looked at.
-use Rattle.std.specs.Prelude.{ℕ, pos, int_le, unsigned_abs, List, [], ◌∷◌, ◌++◌, length, replicate, fold, map, Bool, true, false, ◌==◌, ◌&&◌, Option, Some, None, option_and_then, if◌then◌else◌}
+-- Types that are written: the rules that they break, their rows in the table of types, and their numbers. All object types at module
+-- level have names here. Any other is refused by rule 26 at its first token, and nothing behind that in it is looked at.
+use Rattle.std.specs.Prelude.{ℕ, pos, int_le, unsigned_abs, List, [], ◌∷◌, ◌++◌, length, replicate, fold, map, nat_lt, Bool, true, false, ◌==◌, ◌&&◌, ◌||◌, Option, Some, None, is_some, option_and_then, if◌then◌else◌}
 use Rattle.std.specs.List.{flat_map}
+use Rattle.std.specs.Option.{is_none}
 use Rattle.aos_base.specs.declared.text.Pos.{Pos}
 use Rattle.aos_tree.specs.declared.name.Name.{Name}
 use Rattle.aos_tree.specs.declared.name.Qualident.{Qualident}
@@ -20,7 +21,6 @@ use Rattle.aos_types.specs.declared.row.TypeId.{TypeId}
 use Rattle.aos_types.specs.declared.row.TypeRow.TheVariants as row
 use Rattle.aos_typed.specs.declared.tree.Literal.{Literal}
 use Rattle.aos_typed.specs.declared.tree.Literal.TheVariants as literal
-use Rattle.aos_symbols.specs.declared.breach.Breach.{Breach}
 use Rattle.aos_symbols.specs.declared.scope.Meaning.TheVariants as means
 use Rattle.aos_symbols.specs.declared.env.Claim.{Claim}
 use Rattle.aos_symbols.specs.declared.env.Claim.TheVariants as claim
@@ -145,10 +145,15 @@ fields_in_def (fields.Of' defs of) = map (λ d. d.name) defs
 abbrev pub field_names : List Fields → List Name
 field_names fs = flat_map fields_in_def fs
 
--- the base of a record, which has fields with these names
+-- a predeclared type is neither a record nor an array, which is known before all types are met
+abbrev pub is_predeclared : Option TypeId → Bool
+is_predeclared None = false
+is_predeclared (Some t) = nat_lt t.0 (length env.basic_rows)
+
+-- the base of a record, which has fields with these names, or of an object type
 abbrev pub base_in : Env → Option Qualident → Judged (Option TypeId)
 base_in e None = kept None
-base_in e (Some q) = named_type e q
+base_in e (Some q) = bind (named_type e q) (λ b. if is_predeclared b then judged (breach 17 q.first.pos) None else kept b)
 
 abbrev pub base_claims : Option Qualident → List Name → Option TypeId → Option TypeId → List Claim
 base_claims (Some q) names (Some b) (Some t) = claim.Base q.first.pos b t ∷ map (λ n. claim.Field n b) names
@@ -157,20 +162,44 @@ base_claims q names b of = []
 abbrev pub based : Option Qualident → List Name → Option TypeId → Met → Met
 based q names b m = met (claiming (base_claims q names b m.of) m.env) m.of
 
+-- its row, what the module knows of its fields, and what is asked of its base
+abbrev pub placed_record : Option TypeId → Pos → Option Qualident → List Name → Option TypeId → List TypeId → Scope → Env → Met
+placed_record slot at base names b ts s e = based base names b (with_record s (placed slot at (row.Record b ts) e))
+
+-- its base, where one is written, and all its fields have types: there are as many types as fields
+abbrev pub are_parts_known : Option Qualident → Option TypeId → (types fields : ℕ) → Bool
+are_parts_known base b n m = (is_none base || is_some b) && n == m
+
+-- elsewhere the record has no type itself, and its row has no fields; its base is asked as that of any record
+abbrev pub known_record : Option TypeId → Pos → Option Qualident → List Name → Option TypeId → FieldsMet → Met
+known_record slot at base names b f =
+    if are_parts_known base b (length f.types) (length f.scope.variables)
+    then placed_record slot at base names b f.types f.scope f.env
+    else met (placed_record slot at base names b [] f.scope f.env).env None
+
 abbrev pub record_in : Option TypeId → Env → Pos → Option Qualident → List Name → Judged FieldsMet → Judged Met
 record_in slot e at base names fs =
-    bind (base_in e base) (λ b. bind fs (λ f.
-    kept (based base names b (with_record f.scope (placed slot at (row.Record b f.types) f.env)))))
+    bind (base_in e base) (λ b. bind fs (λ f. kept (known_record slot at base names b f)))
 
--- Pointers: a type that is written behind one is a record or an array; of one that is named this is asked later.
+-- where a type begins
+abbrev pub type_place : TypeExpr → Pos
+type_place (type.Named q) = q.first.pos
+type_place (type.Array' p lengths shape row) = p
+type_place (type.Record' p base shape row) = p
+type_place (type.Pointer' p shape row) = p
+type_place (type.Proc p flag formals) = p
+type_place (type.Object' p base shape row body end) = p
 
-abbrev pub target_breaches : TypeExpr → List Breach
-target_breaches (type.Named q) = []
-target_breaches (type.Array' p lengths shape row) = []
-target_breaches (type.Record' p base shape row) = []
-target_breaches (type.Pointer' p shape row) = breach 25 p
-target_breaches (type.Proc p flag formals) = breach 25 p
-target_breaches (type.Object' p base shape row body end) = breach 25 p
+-- Pointers: a type that is written behind one is a record or an array, where it keeps its own rules; of one that a module declares this
+-- is asked later.
+
+abbrev pub is_no_target : TypeExpr → Option TypeId → Bool
+is_no_target (type.Named q) of = is_predeclared of
+is_no_target (type.Array' p lengths shape row) of = false
+is_no_target (type.Record' p base shape row) of = false
+is_no_target (type.Pointer' p shape row) of = is_some of
+is_no_target (type.Proc p flag formals) of = is_some of
+is_no_target (type.Object' p base shape row body end) of = true
 
 abbrev pub target_claims : TypeExpr → TypeId → List Claim
 target_claims (type.Named q) t = claim.Target q.first.pos t ∷ []
@@ -182,6 +211,11 @@ pointer_to slot at x m = to m.of
     to : Option TypeId → Met
     to None = m
     to (Some t) = placed slot at (row.Pointer t) (claiming (target_claims x t) m.env)
+
+-- a pointer, by what is met behind it
+abbrev pub pointer_behind : Option TypeId → Pos → TypeExpr → Met → Judged Met
+pointer_behind slot at x m =
+    if is_no_target x m.of then judged (breach 25 (type_place x)) (met m.env None) else kept (pointer_to slot at x m)
 
 -- Object types: at module level alone, as the type of a definition. Their constants and fields stand in a scope of their own; the types that
 -- they declare and their methods come later. A field whose type breaks a rule has no type, and the row leaves it out.
@@ -214,6 +248,10 @@ object_claims (Some q) fs ms (Some b) t =
     claim.ObjectBase q.first.pos b t ∷ (map (λ n. claim.Field n b) fs ++ map (λ n. claim.Method n b) ms)
 object_claims q fs ms b t = []
 
+-- the types in its row: none where its base or a field has no type, so that its scalars aren't counted
+abbrev pub own_types : Option Qualident → Option TypeId → List TypeId → (fields : ℕ) → List TypeId
+own_types base b ts n = if are_parts_known base b (length ts) n then ts else []
+
 -- an object type with a number, whose fields have these types
 abbrev pub object_met : TypeId → Pos → Option Qualident → List Decl → Option TypeId → List TypeId → Env → Met
 object_met t at base ds b ts e =
@@ -227,7 +265,7 @@ with_own_fields k vs e = record e { here = set_variables e.here k vs }
 abbrev pub object_with : Env → Pos → Option Qualident → List Decl → TypeId → ℕ → Judged MembersMet → Judged Met
 object_with e at base ds t k members =
     bind (base_in e base) (λ b.
-    bind members (λ f. kept (object_met t at base ds b f.types (with_own_fields k f.variables (env.back_at e.path f.env)))))
+    bind members (λ f. kept (object_met t at base ds b (own_types base b f.types (length f.variables)) (with_own_fields k f.variables (env.back_at e.path f.env)))))
 
 -- the number of a definition, and the scope of its object type
 abbrev pub object_slot : Env → Option TypeId → Option ObjectScope
@@ -238,7 +276,7 @@ object_in slot object e at base ds members = if env.innermost e.path == 0 then a
   where
     at_module_level : Option TypeId → Option ObjectScope → Judged Met
     at_module_level (Some t) (Some o) = object_with e at base ds t o.scope (members (env.within e o.scope))
-    at_module_level _ _ = refused_type 99 at e
+    at_module_level _ _ = refused_type 26 at e
 
 -- a type, which is that of a definition where it has a number
 abbrev mutual
@@ -277,8 +315,7 @@ abbrev mutual
   -- a pointer, by the type that it leads to
   pub pointer_in : {m : _} → Option TypeId → Env → Pos → Row_of-TypeExpr m → Judged Met
   pointer_in slot e at end_of-TypeExpr = refused_type 99 no_place e
-  pointer_in slot e at (more_of-TypeExpr t ts) =
-      bind (bind (judged (target_breaches t) e) (λ e. type_in true None e t)) (λ m. kept (pointer_to slot at t m))
+  pointer_in slot e at (more_of-TypeExpr t ts) = bind (type_in true None e t) (λ m. pointer_behind slot at t m)
 
   pub fields_in : {m : _} → FieldsMet → Row_of-Fields m → Judged FieldsMet
   fields_in f end_of-Fields = kept f

@@ -6,6 +6,7 @@ ghost use Rattle.aos_types.specs.Table as table;
 ghost use Rattle.aos_symbols.specs.Breaches.{first_after};
 ghost use Rattle.aos_check_decl.specs.Limits as judge;
 
+use crate::aliases::NIL;
 use aos_base::{NoMemory, Pos};
 use aos_symbols::{Breach, Claim, Env, IN_BASE, WRONG_BASE, WRONG_TYPE, note};
 use aos_tree::Name;
@@ -147,14 +148,14 @@ fn replace(types: &mut Types, of: TypeId, row: TypeRow)
     }
 }
 
-/// A record whose base is no record has no contents, and neither has an object type whose base is none.
+/// A record whose base is no record stands like a definition that breaks a rule, and an object type whose base is none has no contents.
 fn drop_base(alloc: Global, types: &mut Types, claim: Claim)
     ensures { types.new ≡ judge.without_base types.old claim }
 {
     match claim {
         Claim::Base(_, base, of) => {
             if !is_record(types, base) {
-                replace(types, of, TypeRow::Record(None, Items::new(alloc)));
+                replace(types, of, TypeRow::Open(NIL));
             }
         },
         Claim::ObjectBase(_, base, of) => {

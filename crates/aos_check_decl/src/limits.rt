@@ -5,7 +5,7 @@ ghost use Rattle.std.specs.List.{flat_map, zip};
 ghost use Rattle.aos_types.specs.declared.TheConstants.{MOST_SCALARS};
 ghost use Rattle.aos_types.specs.Chain.{NoneContainsItself};
 ghost use Rattle.aos_types.specs.Limit.{is_past, is_first_past};
-ghost use Rattle.aos_types.specs.Table.{row_of};
+ghost use Rattle.aos_types.specs.Table.{row_of, is_open};
 ghost use Rattle.aos_symbols.specs.Breaches.{breach_unless, first_after};
 ghost use Rattle.aos_symbols.specs.Declarations.{seen_parts, seen_procedures, single_variables, type_defs, types_of};
 ghost use Rattle.aos_check_decl.specs.Told.{Tells};
@@ -13,12 +13,13 @@ ghost use Rattle.aos_check_decl.specs.Limits as judge;
 
 use crate::claims::{drop_bases, note_claims};
 use crate::procedures::next;
+use crate::types::type_place;
 use aos_base::{NoMemory, Pos};
 use aos_entries::{all_procedures, inner_parts};
 use aos_symbols::{
     Breach, CONTAINS_ITSELF, Claim, Env, Home, Scope, TOO_MANY_SCALARS, WRONG_TYPE, note,
 };
-use aos_tree::{Decl, Def, Formals, Proc, TypeDef, TypeExpr, VarDef};
+use aos_tree::{Decl, Def, Formals, Proc, TypeDef, VarDef};
 use aos_types::{Gives, MOST_SCALARS, TypeId, TypeRow, Types};
 use std::alloc::{AllocError, Global};
 use std::marker::Model;
@@ -36,20 +37,6 @@ impl Model for Written {
     ghost Value = { judge.Written };
 
     ghost view = { λ w. record { named = w.named; at = w.at } };
-}
-
-/// Where a type begins.
-fn type_place(of: &TypeExpr) -> Pos
-    ensures { result ≡ judge.type_place of.now }
-{
-    match of {
-        TypeExpr::Named(name) => name.first.pos,
-        TypeExpr::Array(at, _, _) => *at,
-        TypeExpr::Record(at, _, _) => *at,
-        TypeExpr::Pointer(at, _) => *at,
-        TypeExpr::Proc(at, _, _) => *at,
-        TypeExpr::Object(at, _, _, _, _) => *at,
-    }
 }
 
 /// Puts where types are defined behind these.
@@ -188,6 +175,13 @@ fn has_parts(types: &Types, t: TypeId) -> bool
     matches!(types.row(t), TypeRow::Array(_, _) | TypeRow::Record(_, _))
 }
 
+/// Whether a type is an open array, as that of a definition that breaks a rule is.
+fn is_open(types: &Types, t: TypeId) -> bool
+    ensures { result ≡ is_open (row_of types.now t) }
+{
+    (t.0 as usize) < types.len() && matches!(types.row(t), TypeRow::Open(_))
+}
+
 /// Whether a result of a type breaks rule 25.
 fn is_wrong_result(types: &Types, flags: &[bool], t: TypeId) -> bool
     requires { NoneContainsItself types.now }
@@ -284,6 +278,33 @@ fn counted(types: &Types, of: Option<TypeId>) -> u32
     types.variable_scalars(t).unwrap_or(0)
 }
 
+/// Whether a variable's type is known to keep its rules, so that its scalars count.
+fn is_counted(types: &Types, of: Option<TypeId>) -> bool
+    requires { NoneContainsItself types.now }
+    ensures { result ≡ judge.is_counted [] types.now of }
+{
+    match of {
+        Some(t) => !(is_open(types, t) || is_past(types, t)),
+        None => false,
+    }
+}
+
+/// How many scalars the variable with this number has, where it is there and they count.
+fn counted_at(types: &Types, scope: &Scope<'_>, number: u32) -> Option<u32>
+    requires { NoneContainsItself types.now }
+    ensures { result ≡ judge.counted_in [] types.now (slice_get scope.now.variables number) }
+{
+    match scope.variable(number) {
+        Some(of) => {
+            if is_counted(types, of) {
+                return Some(counted(types, of));
+            }
+            None
+        },
+        None => None,
+    }
+}
+
 /// A sum and one more number.
 fn more(sum: u64, number: u64) -> Result<u64, NoMemory>
     ensures { IfOk result (λ n. n ≡ sum + number) }
@@ -359,7 +380,8 @@ fn note_sum(found: &mut Option<Breach>, sum: u64, at: Pos)
     }
 }
 
-/// Rule 19 at the variables with which all so far have more scalars than they may have, where those before have so many.
+/// Rule 19 at the variables with which all so far have more scalars than they may have, where those before have so many; behind one whose
+/// type breaks a rule none is known to.
 #[tactic(auto, using(aos_symbols::proofs::Keeping::after_more))]
 fn note_singles(
     found: &mut Option<Breach>,
@@ -375,10 +397,10 @@ fn note_singles(
     let mut sum = before;
     let mut number = 0;
     for single in singles {
-        let Some(of) = scope.variable(number) else {
+        let Some(count) = counted_at(types, scope, number) else {
             return Ok(());
         };
-        sum = more(sum, u64::from(counted(types, of)))?;
+        sum = more(sum, u64::from(count))?;
         note_sum(found, sum, single.name.pos);
         number = next(number)?;
     }

@@ -16,8 +16,8 @@ use aos_check_expr::constant;
 use aos_entries::declare;
 use aos_rules::{named_type, no_type};
 use aos_symbols::{
-    Breach, Claim, Env, Meaning, NOT_BUILT, NOT_CONSTANT, OBJECT_INSIDE, OPEN_ARRAY, Scope,
-    WRONG_TYPE, note,
+    BASIC_TYPES, Breach, Claim, Env, Meaning, NOT_CONSTANT, OBJECT_INSIDE, OPEN_ARRAY, Scope,
+    WRONG_BASE, WRONG_TYPE, note,
 };
 use aos_tree::{Decl, Def, Expr, Fields, Items as Parts, Qualident, TypeExpr, VarDef};
 use aos_typed::Literal;
@@ -271,27 +271,113 @@ fn place_record<'a>(
     Ok(of)
 }
 
-/// The base of a record, where one is written.
-fn base_in(found: &mut Option<Breach>, env: &Env<'_>, base: Option<Qualident>) -> Option<TypeId>
-    ensures { Told (judge.base_in env.now base) found.old found.new result }
+/// A record of these fields, and what is asked of its base, where that is known.
+fn placed_record<'a>(
+    env: &mut Env<'a>,
+    slot: Option<TypeId>,
+    at: Pos,
+    base: Option<Qualident>,
+    named: Option<TypeId>,
+    fields: &[Fields],
+    types: Items<TypeId>,
+    scope: Scope<'a>,
+) -> Result<Option<TypeId>, NoMemory>
+    ensures { IfOk result (λ of. judge.met env.new of ≡ judge.placed_record slot at base
+        (judge.field_names fields.now) named types scope.entry env.old) }
 {
-    match base {
-        Some(name) => named_type(found, env, name),
-        None => None,
+    let of = place_record(env, slot, at, named, types, scope)?;
+    claim_base(env, base, fields, named, of)?;
+    Ok(of)
+}
+
+/// Whether the base of a record or an object type, where one is written, and all its fields have types: there are as many types as fields.
+fn are_parts_known(
+    base: Option<Qualident>,
+    named: Option<TypeId>,
+    types: usize,
+    fields: usize,
+) -> bool
+    ensures { result ≡ judge.are_parts_known base named types fields }
+{
+    (base.is_none() || named.is_some()) && types == fields
+}
+
+/// A record of these fields, which has no type itself where its base or a field has none.
+#[tactic(auto, using(crate::proofs::Rows::untyped_met))]
+fn known_record<'a>(
+    alloc: Global,
+    env: &mut Env<'a>,
+    slot: Option<TypeId>,
+    at: Pos,
+    base: Option<Qualident>,
+    named: Option<TypeId>,
+    fields: &[Fields],
+    types: Items<TypeId>,
+    scope: Scope<'a>,
+) -> Result<Option<TypeId>, NoMemory>
+    ensures { IfOk result (λ of. judge.met env.new of ≡ judge.known_record slot at base
+        (judge.field_names fields.now) named (judge.fields_met env.old types scope.entry)) }
+{
+    let count = types.as_slice().len();
+    if are_parts_known(base, named, count, scope.variable_count()) {
+        return placed_record(env, slot, at, base, named, fields, types, scope);
+    }
+    let types = Items::new(alloc);
+    let _of = placed_record(env, slot, at, base, named, fields, types, scope)?;
+    Ok(None)
+}
+
+/// Whether a type is predeclared, so that it is neither a record nor an array.
+fn is_predeclared(of: Option<TypeId>) -> bool
+    ensures { result ≡ judge.is_predeclared of }
+{
+    match of {
+        Some(of) => of.0 < BASIC_TYPES,
+        None => false,
     }
 }
 
-/// What is written behind a pointer is a record, an array or a name.
-fn refuse_target(found: &mut Option<Breach>, to: &TypeExpr)
-    ensures { found.new ≡ first_after found.old (judge.target_breaches to.now) }
+/// The base of a record or an object type, where one is written.
+#[tactic(auto, using(aos_symbols::proofs::Keeping::after_more))]
+fn base_in(found: &mut Option<Breach>, env: &Env<'_>, base: Option<Qualident>) -> Option<TypeId>
+    ensures { Told (judge.base_in env.now base) found.old found.new result }
+{
+    let Some(name) = base else {
+        return None;
+    };
+    let of = named_type(found, env, name);
+    if is_predeclared(of) {
+        note(found, WRONG_BASE, name.first.pos);
+        return None;
+    }
+    of
+}
+
+/// Where a type begins.
+pub(crate) fn type_place(of: &TypeExpr) -> Pos
+    ensures { result ≡ judge.type_place of.now }
+{
+    match of {
+        TypeExpr::Named(name) => name.first.pos,
+        TypeExpr::Array(at, _, _) => *at,
+        TypeExpr::Record(at, _, _) => *at,
+        TypeExpr::Pointer(at, _) => *at,
+        TypeExpr::Proc(at, _, _) => *at,
+        TypeExpr::Object(at, _, _, _, _) => *at,
+    }
+}
+
+/// Whether what is written behind a pointer, of this type, is known to be no record and no array, where it keeps its own rules.
+fn is_no_target(to: &TypeExpr, of: Option<TypeId>) -> bool
+    ensures { result ≡ judge.is_no_target to.now of }
 {
     match to {
-        TypeExpr::Named(_) => {}
-        TypeExpr::Array(_, _, _) => {}
-        TypeExpr::Record(_, _, _) => {}
-        TypeExpr::Pointer(at, _) => note(found, WRONG_TYPE, *at),
-        TypeExpr::Proc(at, _, _) => note(found, WRONG_TYPE, *at),
-        TypeExpr::Object(at, _, _, _, _) => note(found, WRONG_TYPE, *at),
+        TypeExpr::Named(_) => is_predeclared(of),
+        TypeExpr::Array(_, _, _) => false,
+        TypeExpr::Record(_, _, _) => false,
+        TypeExpr::Pointer(_, _) => of.is_some(),
+        TypeExpr::Proc(_, _, _) => of.is_some(),
+        TypeExpr::Object(_, _, _, _, _) => true,
     }
 }
 
@@ -321,6 +407,25 @@ fn place_pointer(
     };
     claim_target(env, to, of)?;
     place_row(env, slot, at, TypeRow::Pointer(of))
+}
+
+/// A pointer, by what is met behind it.
+fn pointer_behind(
+    found: &mut Option<Breach>,
+    env: &mut Env<'_>,
+    slot: Option<TypeId>,
+    at: Pos,
+    to: &TypeExpr,
+    of: Option<TypeId>,
+) -> Result<Option<TypeId>, NoMemory>
+    ensures { Tells result found.old found.new (λ of'. judge.met env.new of')
+        (judge.pointer_behind slot at to.now (judge.met env.old of)) }
+{
+    if is_no_target(to, of) {
+        note(found, WRONG_TYPE, type_place(to));
+        return Ok(None);
+    }
+    place_pointer(env, slot, at, to, of)
 }
 
 /// An open array, whose elements are of this type, where it is known.
@@ -395,9 +500,17 @@ fn record_in<'a>(
     let mut types = Items::new(alloc);
     let mut scope = Scope::new(alloc);
     fields_in(alloc, found, env, &mut types, &mut scope, fields)?;
-    let of = place_record(env, slot, at, named, types, scope)?;
-    claim_base(env, base, fields.as_slice(), named, of)?;
-    Ok(of)
+    known_record(
+        alloc,
+        env,
+        slot,
+        at,
+        base,
+        named,
+        fields.as_slice(),
+        types,
+        scope,
+    )
 }
 
 /// The fields of an object type behind these, so far as their types are known.
@@ -467,6 +580,23 @@ fn members_in<'a>(
     Ok(())
 }
 
+/// The types in an object type's row: none where its base or a field has no type.
+fn own_types(
+    alloc: Global,
+    base: Option<Qualident>,
+    named: Option<TypeId>,
+    types: Items<TypeId>,
+    fields: usize,
+) -> Items<TypeId>
+    ensures { result ≡ judge.own_types base named types fields }
+{
+    if are_parts_known(base, named, types.as_slice().len(), fields) {
+        types
+    } else {
+        Items::new(alloc)
+    }
+}
+
 /// An object type, which stands at module level alone.
 #[cycle(types)]
 #[tactic(auto, using(aos_symbols::proofs::Keeping::after_more))]
@@ -486,10 +616,10 @@ fn object_in<'a>(
         return Ok(refuse_type(found, OBJECT_INSIDE, at));
     }
     let Some(of) = slot else {
-        return Ok(refuse_type(found, NOT_BUILT, at));
+        return Ok(refuse_type(found, OBJECT_INSIDE, at));
     };
     let Some(object) = env.here.object(of) else {
-        return Ok(refuse_type(found, NOT_BUILT, at));
+        return Ok(refuse_type(found, OBJECT_INSIDE, at));
     };
     let named = base_in(found, env, base);
     let mut types = Items::new(alloc);
@@ -497,6 +627,7 @@ fn object_in<'a>(
     let outer = env.enter(alloc, object.scope)?;
     members_in(alloc, found, env, &mut types, &mut variables, decls)?;
     env.path = outer;
+    let types = own_types(alloc, base, named, types, variables.len());
     env.here.set_variables(object.scope, variables);
     place_object(env, of, at, base, named, types, decls.as_slice())
 }
@@ -535,9 +666,8 @@ pub(crate) fn type_in<'a>(
             record_in(alloc, found, env, slot, *at, *base, fields)
         },
         TypeExpr::Pointer(at, to) => {
-            refuse_target(found, to.get());
             let target = type_in(alloc, found, env, true, None, to.get())?;
-            place_pointer(env, slot, *at, to.get(), target)
+            pointer_behind(found, env, slot, *at, to.get(), target)
         },
         TypeExpr::Proc(at, flag, formals) => {
             procedure_type(alloc, found, env, slot, *at, *flag, formals)

@@ -17,6 +17,7 @@ use Rattle.aos_tree.specs.declared.stat.Stat.{Stat as TreeStat}
 use Rattle.aos_tree.specs.declared.stat.Stat.TheVariants as stat
 use Rattle.aos_tree.specs.declared.stat.Block.{Block}
 use Rattle.aos_tree.specs.declared.decl.Decl.{Decl, end_of-VarDef, more_of-VarDef, end_of-TypeDef, more_of-TypeDef, end_of-Decl}
+use Rattle.aos_tree.specs.declared.decl.Decl.TheBlock.{hidden-the_row-TypeDef-0, hidden-the_row-VarDef-1, shape-the_row-TypeDef-0, shape-the_row-VarDef-1}
 use Rattle.aos_tree.specs.declared.decl.Decl.TheVariants as decl
 use Rattle.aos_tree.specs.declared.decl.Def.{Def}
 use Rattle.aos_tree.specs.declared.decl.Export.{Export}
@@ -73,6 +74,7 @@ abbrev importing : Tree
 importing = module_of (plain 17 ∷ []) [] None 24
 
 an_empty_module : elaborate (codes "MODULE M; END M." ∷ []) (tree empty ∷ []) ≡ went (only_modules (bare (codes "M") ∷ []))
+unfolding shape-the_row-TypeDef-0 hidden-the_row-TypeDef-0 hidden
 an_empty_module = refl
 
 not_given : elaborate (codes "MODULE A; IMPORT Z; END A." ∷ []) (tree importing ∷ []) ≡ refused (refusal 9 0 (place 17))
@@ -87,6 +89,7 @@ given_twice = refl
 
 importer_first : elaborate (codes "MODULE A; IMPORT B; END A." ∷ codes "MODULE B; END B." ∷ []) (tree importing ∷ tree empty ∷ [])
     ≡ went (only_modules (bare (codes "B") ∷ bare (codes "A") ∷ []))
+unfolding shape-the_row-TypeDef-0 hidden-the_row-TypeDef-0 hidden
 importer_first = refl
 
 named_out : elaborate (codes "MODULE A; IMPORT Z; END A." ∷ codes "MODULE Out; END Out." ∷ [])
@@ -95,6 +98,7 @@ named_out = refl
 
 -- the module that comes first in load order is refused first
 second_file : elaborate (codes "MODULE A; IMPORT B; END X." ∷ codes "MODULE B; END X." ∷ []) (tree importing ∷ tree empty ∷ []) ≡ refused (refusal 12 1 (place 14))
+unfolding shape-the_row-TypeDef-0 hidden-the_row-TypeDef-0 hidden
 second_file = refl
 
 abbrev def : ℕ → Option Export → Def
@@ -138,17 +142,17 @@ abbrev assigned : List ℕ → Tree → Outcome Program
 assigned text b = elaborate (codes "MODULE A; IMPORT B; BEGIN B.n := 1 END A." ∷ text ∷ []) (tree assigning ∷ tree b ∷ [])
 
 no_mark : assigned (codes "MODULE B; VAR n: LONGINT; END B.") (with_variable None 17) ≡ refused (refusal 15 0 (place 28))
-unfolding out-Expr out-Simple out-Term out shown-the_row-Product-6 shown-the_row-Addition-5 shown
+unfolding out-Expr out-Simple out-Term out shown-the_row-Product-6 shown-the_row-Addition-5 shown shape-the_row-VarDef-1 hidden-the_row-VarDef-1 hidden
 no_mark = refl
 
 marked_read_only : assigned (codes "MODULE B; VAR n-: LONGINT; END B.") (with_variable (Some ReadOnly) 18) ≡ refused (refusal 33 0 (place 26))
-unfolding out-Expr out-Simple out-Term out shown-the_row-Product-6 shown-the_row-Addition-5 shown
+unfolding out-Expr out-Simple out-Term out shown-the_row-Product-6 shown-the_row-Addition-5 shown shape-the_row-VarDef-1 hidden-the_row-VarDef-1 hidden
 marked_read_only = refl
 
 marked : assigned (codes "MODULE B; VAR n*: LONGINT; END B.") (with_variable (Some ReadWrite) 18)
     ≡ went (only_modules (record { name = utf8_lossy (codes "B"); variables = record { name = utf8_lossy (codes "n"); of = longint } ∷ []; texts = []; procedures = []; body = plain_body Nothing }
     ∷ record { name = utf8_lossy (codes "A"); variables = []; texts = []; procedures = []; body = plain_body (Then (Assign (place 26) longint (ModuleVar 0 0) (Lit (literal.Int (pos 1)))) Nothing) } ∷ []))
-unfolding out-Expr out-Simple out-Term out shown-the_row-Product-6 shown-the_row-Addition-5 shown
+unfolding out-Expr out-Simple out-Term out shown-the_row-Product-6 shown-the_row-Addition-5 shown shape-the_row-VarDef-1 hidden-the_row-VarDef-1 hidden
 marked = refl
 
 -- IMPORT X := B
@@ -158,12 +162,12 @@ renamed : elaborate (codes "MODULE A; IMPORT X := B; BEGIN X.n := 1 END A." ∷ 
     ∷ tree (with_variable (Some ReadWrite) 18) ∷ [])
     ≡ went (only_modules (record { name = utf8_lossy (codes "B"); variables = record { name = utf8_lossy (codes "n"); of = longint } ∷ []; texts = []; procedures = []; body = plain_body Nothing }
     ∷ record { name = utf8_lossy (codes "A"); variables = []; texts = []; procedures = []; body = plain_body (Then (Assign (place 31) longint (ModuleVar 0 0) (Lit (literal.Int (pos 1)))) Nothing) } ∷ []))
-unfolding out-Expr out-Simple out-Term out shown-the_row-Product-6 shown-the_row-Addition-5 shown
+unfolding out-Expr out-Simple out-Term out shown-the_row-Product-6 shown-the_row-Addition-5 shown shape-the_row-VarDef-1 hidden-the_row-VarDef-1 hidden
 renamed = refl
 
 unknown_member : elaborate (codes "MODULE A; IMPORT B; BEGIN B.n := 1 END A." ∷ codes "MODULE B; END B." ∷ []) (tree assigning ∷ tree empty ∷ [])
     ≡ refused (refusal 14 0 (place 28))
-unfolding out-Expr out-Simple out-Term out shown-the_row-Product-6 shown-the_row-Addition-5 shown
+unfolding out-Expr out-Simple out-Term out shown-the_row-Product-6 shown-the_row-Addition-5 shown shape-the_row-TypeDef-0 hidden-the_row-TypeDef-0 hidden
 unknown_member = refl
 
 -- BEGIN {a modifier} and a statement
@@ -178,6 +182,7 @@ active_body begin word x = marked_body begin word (word + 6) x
 -- an exclusive body
 an_exclusive_body : elaborate (codes "MODULE M; BEGIN {EXCLUSIVE} END M." ∷ []) (tree (module_of [] [] (marked_body 10 17 26 stat.Empty) 32) ∷ [])
     ≡ went (only_modules (record (bare (codes "M")) { body = record { is_exclusive = true; statements = Nothing } } ∷ []))
+unfolding shape-the_row-TypeDef-0 hidden-the_row-TypeDef-0 hidden
 an_exclusive_body = refl
 
 -- MODULE B; TYPE T*= OBJECT BEGIN {ACTIVE} END T; VAR p*: T; END B.
@@ -216,7 +221,7 @@ an_object_of_another_module : elaborate (codes "MODULE A; IMPORT B; BEGIN NEW(B.
           }
           ∷ [];
     })
-unfolding out-Expr out-Simple out-Term out shown-the_row-Product-6 shown-the_row-Addition-5 shown hidden
+unfolding out-Expr out-Simple out-Term out shown-the_row-Product-6 shown-the_row-Addition-5 shown hidden shape-the_row-TypeDef-0 hidden-the_row-TypeDef-0 shape-the_row-VarDef-1 hidden-the_row-VarDef-1
 an_object_of_another_module = refl
 
 -- a declared name goes before a predeclared one
@@ -232,7 +237,7 @@ declared_anew : elaborate (codes "MODULE B; VAR n: LONGINT; NEW: LONGINT; BEGIN 
       procedures = [];
       body = plain_body (Then (Assign (place 46) longint (ModuleVar 0 1) (Lit (literal.Int (pos 1)))) Nothing);
     } ∷ []))
-unfolding out-Expr out-Simple out-Term out shown-the_row-Product-6 shown-the_row-Addition-5 shown
+unfolding out-Expr out-Simple out-Term out shown-the_row-Product-6 shown-the_row-Addition-5 shown shape-the_row-VarDef-1 hidden-the_row-VarDef-1 hidden
 declared_anew = refl
 
 -- the value of a name alone
@@ -253,7 +258,7 @@ a_constant : elaborate (codes "MODULE B; CONST c = 1; VAR n: LONGINT; BEGIN n :=
       procedures = [];
       body = plain_body (Then (Assign (place 45) longint (ModuleVar 0 0) (Lit (literal.Int (pos 1)))) Nothing);
     } ∷ []))
-unfolding out-Expr out-Simple out-Term out shown-the_row-Product-6 shown-the_row-Addition-5 shown
+unfolding out-Expr out-Simple out-Term out shown-the_row-Product-6 shown-the_row-Addition-5 shown shape-the_row-VarDef-1 hidden-the_row-VarDef-1 hidden
 a_constant = refl
 
 -- and before it has none
@@ -262,5 +267,5 @@ too_early : elaborate (codes "MODULE B; VAR n: LONGINT; TYPE T = OBJECT BEGIN {A
     ∷ decl.Types' (place 26) (tt ∷ []) (more_of-TypeDef (def 31 None) (type.Object' (place 35) None [] end_of-Decl (active_body 42 49 (stat.Assign (record { name = letter 57; selectors = [] }) (place 59) (named 62))) (Some (letter 68))) end_of-TypeDef)
     ∷ constant 71 77 81 ∷ []) None 88) ∷ [])
     ≡ refused (refusal 20 0 (place 62))
-unfolding out-Expr out-Simple out-Term out shown-the_row-Product-6 shown-the_row-Addition-5 shown hidden
+unfolding out-Expr out-Simple out-Term out shown-the_row-Product-6 shown-the_row-Addition-5 shown hidden shape-the_row-VarDef-1 hidden-the_row-VarDef-1
 too_early = refl

@@ -22,7 +22,7 @@ use Rattle.aos_check_names.specs.Names.{name_breaches}
 use Rattle.aos_symbols.specs.Outcome.{Outcome, refused, went, then, in_turn, decided, passed}
 use Rattle.aos_check_decl.specs.Pass.{declare}
 use Rattle.aos_compile.specs.Modules.{World, bodies, elaborated, extended, no_modules}
-use Rattle.aos_compile.specs.Files.{Reading, tree, broken, Source, trees_from, is_named_out, named_out, at_name, refused_cycle, decided_order, file_of, load_order, loaded, modules, whole}
+use Rattle.aos_compile.specs.Files.{Reading, tree, broken, Source, trees_from, is_named_out, named_out, at_name, refused_cycle, decided_order, file_of, load_order, loaded, named, in_order, modules, whole}
 use Rattle.aos_compile.specs.Elaborates.{ComesTo}
 use Rattle.aos_compile.proofs.Readings.{length-readings}
 
@@ -133,8 +133,8 @@ order_within ss r e =
 
 modules_within : (ss : List Source) (r : Refusal) → modules ss ≡ refused r → r.file < length ss
 modules_within ss r e =
-    by_then (load_order ss) (λ order. in_turn (loaded ss) no_modules order) r (λ n. n < length ss) e (order_within ss)
-    (λ order is e'. in_turn_within ss no_modules order r e')
+    by_then (load_order ss) (in_order ss) r (λ n. n < length ss) e (order_within ss)
+    (λ order is e'. subst (λ n. r.file < n) (length-map ss named) (in_turn_within (map named ss) no_modules order r e'))
 
 trees_within : (k : ℕ) (rs : List Reading) (r : Refusal) → trees_from k rs ≡ refused r → r.file < k + length rs
 trees_within k [] r e = no_refusal [] r e

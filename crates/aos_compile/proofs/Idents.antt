@@ -1,10 +1,11 @@
 -- The name of a module that a tree reads is an ident: a letter, and then letters, digits and `_`. Its bytes are below 128, so
 -- the typed program has the very bytes of the text.
-use Rattle.std.proofs.Common.{◌≡◌, ℕ, ◌<◌, Bool, true, false, cond, ◌&&◌, List, [], ◌∷◌, ◌++◌, Option, Some, None, refl, sym, ap, subst, ◌∙◌, arith, ⊎_elim}
+use Rattle.std.proofs.Common.{◌≡◌, ℕ, ◌<◌, ◌≤◌, length, ◌==◌, if◌then◌else◌, Bool, true, false, cond, ◌&&◌, List, [], ◌∷◌, ◌++◌, Option, Some, None, refl, sym, ap, subst, ◌∙◌, arith, ⊎_elim}
 use Rattle.std.specs.Char.{is_ascii_digit, is_ascii_alphabetic}
 use Rattle.std.specs.List.{list_all}
 use Rattle.std.specs.Option.{option_map}
 use Rattle.std.specs.Str.{bytes_eq, IsAscii}
+use Rattle.std.specs.Str.Lossy.{utf8_lossy}
 use Rattle.std.specs.Int.{is_in_range}
 use Rattle.std.proofs.lemmas.Bool.{and_parts, or_cases, leb-true, eqb-true, true≢false}
 use Rattle.std.proofs.lemmas.Option.{same_Some}
@@ -25,6 +26,7 @@ use Rattle.aos_tree.specs.Words.{IsWord, word as a_word, IsName, ident}
 use Rattle.aos_tree.specs.ModuleGrammar.{IsModule, whole}
 use Rattle.aos_typed.specs.WellTyped.{is_in_name, is_ident}
 use Rattle.aos_symbols.specs.Spelling.{word}
+use Rattle.aos_unnamed.specs.Unnamed.{is_given}
 use Rattle.aos_compile.specs.Modules.{spelling}
 use Rattle.aos_compile.specs.Elaborates.{IsTreeOf}
 
@@ -134,6 +136,17 @@ name_is_ident text m t =
     let stands = second_stands text t.scanned.tokens 0 t.scanned.to n.first n.token n.rest t.scanned.made (sym t.scanned.whole ∙ n.are) n.is_ident in
     ap (λ x. is_ident (word text x)) n.is ∙ ident_spelled (word text (name_at n.token)) _ stands.begins.spelled n.is_ident
 
+-- it stands in the text
+pub name_within : (text : List ℕ) (m : Tree) → IsTreeOf text m → (m.name.start ≤ m.name.end) × (m.name.end ≤ length text)
+name_within text m t =
+    let n = name_token t.reads.reads in
+    let begins = (second_stands text t.scanned.tokens 0 t.scanned.to n.first n.token n.rest t.scanned.made (sym t.scanned.whole ∙ n.are) n.is_ident).begins in
+    let start = ap (λ (x : Name). x.start) n.is in
+    let end = ap (λ (x : Name). x.end) n.is in
+    let less = begins.nonempty in
+    let within = begins.within in
+    (omega (arith, start, end, less), omega (arith, end, within))
+
 -- Bytes below 128.
 
 in_range_below : (low high b : ℕ) → high < 128 → is_in_range low high b ≡ true → b < 128
@@ -158,7 +171,18 @@ ident_ascii : (w : List ℕ) → is_ident w ≡ true → IsAscii w
 ident_ascii [] e = IsAscii-nil
 ident_ascii (b ∷ w) e = let parts = and_parts _ _ e in IsAscii-cons b w (letter_below b parts.0) (all_ascii w parts.1)
 
+-- an ident was not given
+not_given : (w : List ℕ) → is_ident w ≡ true → is_given w ≡ false
+not_given [] e = refl
+not_given (b ∷ w) e = by (b == 0) refl
+  where
+    by : (first : Bool) → (b == 0) ≡ first → first ≡ false
+    by true is = absurd (true≢false (sym (subst (λ b. is_ident (b ∷ w) ≡ true) (eqb-true b 0 is) e)))
+    by false is = refl
+
 -- a module's name is in the program as it stands in the text
 pub spelled_alike : (text : List ℕ) (m : Tree) → IsTreeOf text m → spelling text m.name ≡ word text m.name
 spelled_alike text m t =
-    let w = word text m.name in utf8_lossy-IsUtf8 w (IsUtf8-from_ascii w (ident_ascii w (name_is_ident text m t)))
+    let w = word text m.name in
+    let ident = name_is_ident text m t in
+    ap (λ given. utf8_lossy (if given then [] else w)) (not_given w ident) ∙ utf8_lossy-IsUtf8 w (IsUtf8-from_ascii w (ident_ascii w ident))

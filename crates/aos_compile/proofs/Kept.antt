@@ -25,13 +25,14 @@ use Rattle.aos_types.specs.declared.signature.Parameter.{Parameter}
 use Rattle.aos_symbols.specs.declared.home.ObjectScope.{ObjectScope}
 use Rattle.aos_symbols.specs.declared.env.Env.{Env}
 use Rattle.aos_symbols.specs.Env as env
-use Rattle.aos_symbols.specs.Judged.{Judged, walk}
+use Rattle.aos_symbols.specs.Breaches.{breach}
+use Rattle.aos_symbols.specs.Judged.{Judged, judged, kept as met_fine, walk}
 use Rattle.aos_symbols.specs.Spelling.{is_word}
 use Rattle.aos_symbols.specs.Declarations.{Procedure, procedures, inner_decls, methods_in, type_defs}
 use Rattle.aos_symbols.specs.Scope.{Scope, empty, with_constant as with_value, with_variable as with_type, setting_variables}
 use Rattle.aos_symbols.specs.Home.{Home, changed, set_variables}
 use Rattle.aos_check_expr.specs.Expressions.{constant}
-use Rattle.aos_check_decl.specs.Types.{Met, met, refused_type, FieldsMet, fields_met, placed, array_of, inner_arrays, arrays, lengths_of, open_of, array_in, is_empty, with_record, base_in, field_names, record_in, claiming, target_claims, pointer_to, MembersMet, members_met, with_members, object_slot, object_in, named_type, type_in, members_in, member_in, variables_in, held_in, pointer_in, fields_in, field_in}
+use Rattle.aos_check_decl.specs.Types.{Met, met, refused_type, FieldsMet, fields_met, placed, array_of, inner_arrays, arrays, lengths_of, open_of, array_in, is_empty, with_record, base_in, field_names, placed_record, are_parts_known, record_in, claiming, target_claims, pointer_to, is_no_target, type_place, pointer_behind, MembersMet, members_met, with_members, object_slot, object_in, named_type, type_in, members_in, member_in, variables_in, held_in, pointer_in, fields_in, field_in}
 use Rattle.aos_check_decl.specs.Formals.{opened, FormalsMet, formals_met, with_section, HeadingMet, formals_in, result_in, row_of_formals, placed_row, result_claims, with_formals, procedure_in}
 use Rattle.aos_check_decl.specs.Headings.{with_variable, with_variables, constant_def, type_def, variable_def, settled, declared, inner_declared, types_within, inner_from, with_parameters, marked, with_signature, locals_in, procedure, procedures_from, within_type, type_methods, methods_from, headings, slot_in, defined_type}
 use Rattle.aos_check_decl.specs.Pass.{begun, declare}
@@ -81,14 +82,34 @@ record_fixed s e (Some t) = refl
 
 record_in_fixed : (slot : Option TypeId) (e : Env) (at : Pos) (base : Option Qualident) (names : List Name) (j : Judged FieldsMet) → fixed j.answer.env ≡ fixed e →
     fixed (record_in slot e at base names j).answer.env ≡ fixed e
-record_in_fixed slot e at base names j kept =
-    let r = row.Record (base_in e base).answer j.answer.types in
-    let m = placed slot at r j.answer.env in
-    record_fixed j.answer.scope m.env m.of ∙ placed_fixed slot at r j.answer.env ∙ kept
+record_in_fixed slot e at base names j kept = by (are_parts_known base b (length f.types) (length f.scope.variables)) ∙ kept
+  where
+    b : Option TypeId
+    b = (base_in e base).answer
+
+    f : FieldsMet
+    f = j.answer
+
+    with_types : (ts : List TypeId) → fixed (placed_record slot at base names b ts f.scope f.env).env ≡ fixed f.env
+    with_types ts =
+        let r = row.Record b ts in
+        let m = placed slot at r f.env in
+        record_fixed f.scope m.env m.of ∙ placed_fixed slot at r f.env
+
+    by : (known : Bool) → fixed (if known then placed_record slot at base names b f.types f.scope f.env else met (placed_record slot at base names b [] f.scope f.env).env None).env ≡ fixed f.env
+    by true = with_types f.types
+    by false = with_types []
 
 pointer_fixed : (slot : Option TypeId) (at : Pos) (x : TypeExpr) (e : Env) (of : Option TypeId) → fixed (pointer_to slot at x (met e of)).env ≡ fixed e
 pointer_fixed slot at x e None = refl
 pointer_fixed slot at x e (Some t) = placed_fixed slot at (row.Pointer t) (claiming (target_claims x t) e)
+
+behind_fixed : (slot : Option TypeId) (at : Pos) (x : TypeExpr) (m : Met) → fixed (pointer_behind slot at x m).answer.env ≡ fixed m.env
+behind_fixed slot at x m = by (is_no_target x m.of)
+  where
+    by : (none : Bool) → fixed (if none then judged (breach 25 (type_place x)) (met m.env None) else met_fine (pointer_to slot at x m)).answer.env ≡ fixed m.env
+    by true = refl
+    by false = pointer_fixed slot at x m.env m.of
 
 -- Formals, and procedure types.
 
@@ -192,7 +213,7 @@ mutual
   pointed_fixed : {m : _} (slot : Option TypeId) (e : Env) (at : Pos) (r : Row_of-TypeExpr m) → fixed (pointer_in slot e at r).answer.env ≡ fixed e
   pointed_fixed slot e at end_of-TypeExpr = refl
   pointed_fixed slot e at (more_of-TypeExpr t ts) =
-      let m = (type_in true None e t).answer in pointer_fixed slot at t m.env m.of ∙ type_fixed true None e t
+      behind_fixed slot at t (type_in true None e t).answer ∙ type_fixed true None e t
 
   fields_fixed : {m : _} (f : FieldsMet) (r : Row_of-Fields m) → fixed (fields_in f r).answer.env ≡ fixed f.env
   fields_fixed f end_of-Fields = refl

@@ -40,6 +40,7 @@ pub mod Typing
 pub mod Idents
 pub mod Kept
 pub mod Loaded
+pub mod Named
 pub mod Names
 pub mod Passes
 pub mod Pairs

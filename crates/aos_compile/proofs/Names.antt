@@ -23,19 +23,17 @@ use Rattle.aos_order.proofs.Keeps.{none_below, order_keeps}
 use Rattle.aos_order.proofs.Steps.{placed_within}
 use Rattle.aos_typed.specs.Program.{Module, Program}
 use Rattle.aos_typed.specs.WellTyped.{is_ident}
-use Rattle.aos_symbols.specs.Outcome.{went, in_turn}
+use Rattle.aos_symbols.specs.Outcome.{went}
 use Rattle.aos_symbols.specs.Spelling.{word}
-use Rattle.aos_compile.specs.Modules.{World, no_modules, program_of}
-use Rattle.aos_compile.specs.Files.{Reading, tree, broken, Source, trees_from, file_of, named_out, decided_order, load_order, loaded, modules}
+use Rattle.aos_compile.specs.Modules.{World, program_of}
+use Rattle.aos_compile.specs.Files.{Reading, tree, broken, Source, trees_from, file_of, named_out, decided_order, load_order, in_order, modules}
 use Rattle.aos_compile.specs.Elaborates.{IsTreeOf, IsReading, AreReadings, by_tree, by_scanner, by_syntax, by_nesting}
 use Rattle.aos_compile.proofs.Idents.{name_is_ident, spelled_alike}
 use Rattle.aos_symbols.proofs.Holds.{same_went, then_went}
-use Rattle.aos_compile.proofs.Loaded.{never_went, name_of, name_in, loaded_names}
+use Rattle.aos_compile.proofs.Loaded.{never_went, name_of, name_in}
+use Rattle.aos_compile.proofs.Named.{IsRead, ordered_names}
 
 -- The trees of the texts.
-
-abbrev IsRead : Source → Type 0
-IsRead s = IsTreeOf s.0 s.1
 
 abbrev OnTree : List ℕ → Reading → Type 0
 OnTree text (tree m) = IsTreeOf text m
@@ -173,10 +171,9 @@ pub are_named : (texts : List (List ℕ)) (rs : List Reading) (trees : List Tree
 are_named texts rs trees w are_readings read made =
     let ss = zip texts trees in
     let are = are_trees texts rs 0 trees are_readings read in
-    let ordered = then_went (load_order ss) (λ ks. in_turn (loaded ss) no_modules ks) w made in
+    let ordered = then_went (load_order ss) (in_order ss) w made in
     let ks = ordered.0 in
-    let same : map (λ (m : Module). m.name) w.modules ≡ map (name_in ss) ks =
-    loaded_names ss ks no_modules w (within ss are.1 ks ordered.1) ordered.2 in
+    let same : map (λ (m : Module). m.name) w.modules ≡ map (name_in ss) ks = ordered_names ss are.1 ks w (within ss are.1 ks ordered.1) ordered.2 in
     record {
       as_many = ms_long ss are.1 ks ordered.1 w.modules same ∙ ks_long ss are.1 ks ordered.1 ∙ are.0;
       names = are_idents ss are.1 ks ordered.1 w.modules same;

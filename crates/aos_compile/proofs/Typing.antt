@@ -1,5 +1,5 @@
 -- The program that texts come to is well typed.
-use Rattle.std.proofs.Common.{◌≡◌, ℕ, suc, ◌+◌, ◌-◌, ◌<◌, ◌≤◌, List, [], ◌∷◌, length, Option, Some, None, slice_get, zip, All, refl, sym, ap, subst, arith}
+use Rattle.std.proofs.Common.{◌≡◌, ℕ, suc, ◌+◌, ◌-◌, ◌<◌, ◌≤◌, List, [], ◌∷◌, length, map, Option, Some, None, slice_get, zip, All, refl, sym, ap, subst, arith}
 use Rattle.std.proofs.lemmas.Option.{slice_get_within}
 use Rattle.aos_types.specs.declared.row.TypeId.{TypeId}
 use Rattle.aos_types.specs.declared.TheConstants.{MOST_SCALARS}
@@ -16,7 +16,7 @@ use Rattle.aos_symbols.proofs.Each.{Each, all_of}
 use Rattle.aos_symbols.proofs.Holds.{then_went, same_went}
 use Rattle.aos_operators.specs.Known.{object_number}
 use Rattle.aos_compile.specs.Modules.{World, no_modules, program_of}
-use Rattle.aos_compile.specs.Files.{Source, trees_from, loaded, load_order, modules, whole}
+use Rattle.aos_compile.specs.Files.{Source, trees_from, loaded, load_order, named, in_order, modules, whole}
 use Rattle.aos_compile.specs.Elaborates.{ComesTo}
 use Rattle.aos_compile.proofs.Keeping.{rows_keep}
 use Rattle.aos_compile.proofs.Names.{named_well}
@@ -46,10 +46,10 @@ module _ (ss : List Source) where
       let one = then_went (loaded ss w k) (λ u. in_turn (loaded ss) u ks) v h in
       in_turn_sound ks one.0 v (loaded_sound k w one.0 sound one.1) one.2
 
-  world_sound : (w : World) → modules ss ≡ went w → IsWorld w
-  world_sound w h =
-      let one = then_went (load_order ss) (λ order. in_turn (loaded ss) no_modules order) w h in
-      in_turn_sound one.0 no_modules w no_world one.2
+world_sound : (ss : List Source) (w : World) → modules ss ≡ went w → IsWorld w
+world_sound ss w h =
+    let one = then_went (load_order ss) (in_order ss) w h in
+    in_turn_sound (map named ss) one.0 no_modules w no_world one.2
 
 -- all that is typed of a program
 pub record TypedWell (p : Program) : Type 0 where

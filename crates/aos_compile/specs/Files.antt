@@ -1,5 +1,5 @@
 -- All files together. Each is read by itself, in the order of the command; then come the rules of what modules are named and
--- import, each over all files: 8, 11, 9 and 10; then the modules in load order.
+-- import, each over all files: 8, 11, 9 and 10; then the modules in load order, with names for all their object types.
 use Rattle.std.specs.Prelude.{ℕ, suc, List, [], ◌∷◌, length, map, Bool, false, Option, Some, None, find, slice_get, codes}
 use Rattle.std.specs.List.{zip, range_with_len}
 use Rattle.aos_base.specs.declared.text.Pos.{Pos}
@@ -12,6 +12,7 @@ use Rattle.aos_typed.specs.Conditions.{numbered}
 use Rattle.aos_symbols.specs.declared.breach.Breach.{Breach}
 use Rattle.aos_symbols.specs.Outcome.{Outcome, refused, went, then, in_turn, refusal, refusal_of}
 use Rattle.aos_symbols.specs.Spelling.{is_word}
+use Rattle.aos_unnamed.specs.Unnamed.{all_named}
 use Rattle.aos_compile.specs.Modules.{World, no_modules, elaborated, program_of}
 
 -- what a text alone comes to: its tree, or the first of the rules 2 to 7 that it breaks
@@ -74,8 +75,15 @@ loaded ss w k = load (slice_get ss k)
     load None = went w
     load (Some s) = elaborated w k s.0 s.1
 
+-- a file in which all object types have names
+abbrev pub named : Source → Source
+named s = all_named s.0 s.1
+
+abbrev pub in_order : List Source → List ℕ → Outcome World
+in_order ss order = in_turn (loaded (map named ss)) no_modules order
+
 abbrev pub modules : List Source → Outcome World
-modules ss = then (load_order ss) (λ order. in_turn (loaded ss) no_modules order)
+modules ss = then (load_order ss) (in_order ss)
 
 -- the program of all modules, whose AWAITs have their numbers
 abbrev pub whole : World → Program

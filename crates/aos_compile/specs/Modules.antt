@@ -1,6 +1,6 @@
 -- Modules in load order, each in three passes of which the first that breaks a rule refuses: names; constants, types and
 -- headings; bodies.
-use Rattle.std.specs.Prelude.{ℕ, suc, ◌+◌, List, [], ◌∷◌, ◌++◌, length, map, drop, Bool, true, false, Option, Some, None, is_some, option_map, option_and_then, slice_get}
+use Rattle.std.specs.Prelude.{ℕ, suc, ◌+◌, List, [], ◌∷◌, ◌++◌, length, map, drop, Bool, true, false, Option, Some, None, is_some, option_map, option_and_then, slice_get, if◌then◌else◌}
 use Rattle.std.specs.List.{flat_map, zip, list_any}
 use Rattle.std.specs.Str.Lossy.{utf8_lossy}
 use Rattle.aos_base.specs.declared.priority.Priority.{Priority}
@@ -42,6 +42,7 @@ use Rattle.aos_symbols.specs.Env as env
 use Rattle.aos_operators.specs.Known.{type_as, type_of}
 use Rattle.aos_check_decl.specs.Methods.{defined_type}
 use Rattle.aos_check_decl.specs.Pass.{declare}
+use Rattle.aos_unnamed.specs.Unnamed.{is_given}
 use Rattle.aos_check_stat.specs.Bodies.{listed, are_exclusive, body_of, priority_of}
 
 -- the modules that are elaborated: what they declare, the types of all, and their programs
@@ -57,9 +58,12 @@ no_modules = record { before = []; types = env.basic_rows; modules = []; objects
 abbrev pub program_of : World → Program
 program_of w = record { modules = w.modules; types = w.types; objects = w.objects }
 
--- a name as the typed program has it; a name's bytes are those of ASCII letters, digits and _
+-- a name as the typed program has it: none where it was given, else its bytes, which are those of ASCII letters, digits and _
+abbrev pub shown : List ℕ → List ℕ
+shown word = if is_given word then [] else word
+
 abbrev pub spelling : List ℕ → Name → List ℕ
-spelling text n = utf8_lossy (word text n)
+spelling text n = utf8_lossy (shown (word text n))
 
 abbrev pub object_body : TypeExpr → Option Block
 object_body (type.Object' p base shape row body end) = body
@@ -318,15 +322,15 @@ extended w e m b =
 -- behind the pass over headings, which found this: the module's program, unless that pass or the one over bodies refuses
 abbrev pub behind_headings : ℕ → Option Breach → Programs → Env → Tree → Outcome Programs
 behind_headings file found p e m =
-    then (decided file found e) (λ e. then (passed file (bodies e m)) (λ b. went (with_module p e m b)))
+    (then) (decided file found e) (λ e. (then) (passed file (bodies e m)) (λ b. went (with_module p e m b)))
 
 -- behind the pass over names
 abbrev pub behind_names : World → ℕ → List ℕ → Tree → Outcome World
 behind_names w file text m =
-    then (passed file (declare (length w.before) w.before w.types text m)) (λ e.
-    then (passed file (bodies e m)) (λ b. went (extended w e m b)))
+    (then) (passed file (declare (length w.before) w.before w.types text m)) (λ e.
+    (then) (passed file (bodies e m)) (λ b. went (extended w e m b)))
 
 -- the module of a file, whose text this is
 abbrev pub elaborated : World → ℕ → List ℕ → Tree → Outcome World
 elaborated w file text m =
-    then (passed file (judged (name_breaches text m) (tt {0}))) (λ names. behind_names w file text m)
+    (then) (passed file (judged (name_breaches text m) (tt {0}))) (λ names. behind_names w file text m)

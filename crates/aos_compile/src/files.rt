@@ -3,7 +3,8 @@
 ghost use Rattle.std.specs.Prelude.{◌≡◌, ◌<◌, ◌≤◌, ◌^◌, All, length, map, option_map, IfOk, IfErr};
 ghost use Rattle.aos_base.specs.declared.text.Refusal.{Refusal};
 ghost use Rattle.aos_typed.specs.Seen.{seen_program};
-ghost use Rattle.aos_symbols.specs.Outcome.{in_turn, refusal, refused, went};
+ghost use Rattle.aos_symbols.specs.Outcome.{in_turn, refusal, refused, then, went};
+ghost use Rattle.aos_unnamed.specs.Unnamed as unnamed;
 ghost use Rattle.aos_compile.specs.declared.compile_err.CompileErr.{CompileErr};
 ghost use Rattle.aos_compile.specs.Modules as modules;
 ghost use Rattle.aos_compile.specs.Files as files;
@@ -15,11 +16,12 @@ use crate::compile_err::CompileErr;
 use crate::front::{Reading, read};
 use crate::modules::{World, elaborated, no_modules, program_of};
 use aos_await::number;
-use aos_base::{Pos, Refusal};
+use aos_base::{NoMemory, Pos, Refusal};
 use aos_order::{OrderErr, order};
 use aos_symbols::{NAMED_OUT, is_word};
 use aos_tree::Module;
 use aos_typed::Program;
+use aos_unnamed::all_named;
 use std::alloc::{AllocError, Global};
 
 /// A module is given twice.
@@ -119,6 +121,40 @@ fn load_order(alloc: Global, texts: &[Vec<u8>], trees: &[Module]) -> Result<Vec<
     }
 }
 
+/// A file in which all object types have names: its text and its tree.
+fn with_name(alloc: Global, text: &[u8], tree: Module) -> Result<(Vec<u8>, Module), AllocError>
+    ensures text { IfOk result (λ r. r.0.items ≡ (unnamed.all_named text.now tree).0) }
+    ensures tree { IfOk result (λ r. r.1 ≡ (unnamed.all_named text.now tree).1) }
+{
+    match all_named(alloc, text, tree) {
+        Ok(named) => Ok(named),
+        Err(NoMemory) => Err(AllocError),
+    }
+}
+
+/// Files in which all object types have names: their texts and their trees.
+fn with_names(
+    alloc: Global,
+    texts: &[Vec<u8>],
+    trees: Vec<Module>,
+) -> Result<(Vec<Vec<u8>>, Vec<Module>), AllocError>
+    requires { length trees.items ≡ length texts.now }
+    ensures each { IfOk result (λ r. sources r.0.items r.1.items ≡
+        map files.named (sources texts.now trees.items)) }
+    ensures first { IfOk result (λ r. length r.0.items ≡ length texts.now) }
+    ensures second { IfOk result (λ r. length r.1.items ≡ length texts.now) }
+{
+    let mut named_texts = Vec::new(alloc);
+    let mut named_trees = Vec::new(alloc);
+    for own in trees {
+        let file = named_trees.len();
+        let (text, tree) = with_name(alloc, &texts[file], own)?;
+        named_texts.push(text)?;
+        named_trees.push(tree)?;
+    }
+    Ok((named_texts, named_trees))
+}
+
 /// The modules of files in load order, each behind those before it.
 fn in_load_order<'a>(
     alloc: Global,
@@ -155,6 +191,31 @@ fn whole(world: World<'_>) -> Result<Program, AllocError>
     Ok(program)
 }
 
+/// The program of files whose modules are loaded in this order.
+fn program_in_order(
+    alloc: Global,
+    texts: &[Vec<u8>],
+    trees: Vec<Module>,
+    order: &[usize],
+) -> Result<Program, CompileErr>
+    requires same { length trees.items ≡ length texts.now }
+    requires files { length trees.items ≤ 64 }
+    requires few { length order.now ≤ 64 }
+    requires within { All (λ k. k < length trees.items) order.now }
+    ensures went { IfOk result (λ p. then
+        (files.in_order (sources texts.now trees.items) order.now) (λ w. went (files.whole w))
+        ≡ went (seen_program p)) }
+    ensures few { IfOk result (λ p. length p.modules.items ≤ 64) }
+    ensures refused { IfErr result (λ e. OnRefused e (λ r. then
+        (files.in_order (sources texts.now trees.items) order.now) (λ w. went (files.whole w))
+        ≡ refused r)) }
+{
+    let (named_texts, named_trees) = with_names(alloc, texts, trees)?;
+    let world = in_load_order(alloc, &named_texts, &named_trees, order)?;
+    let program = whole(world)?;
+    Ok(program)
+}
+
 /// The typed program of the texts of at most 64 modules, each of at most 2^20 bytes, in the order of the command; or the
 /// first rule that they break.
 pub fn elaborate(alloc: Global, texts: &[Vec<u8>]) -> Result<Program, CompileErr>
@@ -168,7 +229,6 @@ pub fn elaborate(alloc: Global, texts: &[Vec<u8>]) -> Result<Program, CompileErr
     let readings = readings_of(alloc, texts)?;
     let trees = trees_of(alloc, readings)?;
     let order = load_order(alloc, texts, &trees)?;
-    let world = in_load_order(alloc, texts, &trees, &order)?;
-    let program = whole(world)?;
+    let program = program_in_order(alloc, texts, trees, &order)?;
     Ok(program)
 }

@@ -23,6 +23,7 @@ use aos_symbols::{Breach, Env, Home, ObjectScope, is_active, word};
 use aos_tree::{Block, Decl, Modifier, Module, Name, TypeDef, TypeExpr};
 use aos_typed::{TMethod, TProcedure, TStat};
 use aos_types::TypeId;
+use aos_unnamed::is_given;
 use std::alloc::{AllocError, Global};
 
 /// What a module says beside one of its types: its name, which is empty where it has none, with its place, the names of its own
@@ -49,11 +50,21 @@ pub struct Bodies {
     pub own: Vec<TStat>,
 }
 
+/// The bytes of a name, of which there are none where it was given.
+fn shown(word: &[u8]) -> &[u8]
+    ensures { result.now ≡ judge.shown word.now }
+{
+    if is_given(word) {
+        return &word[..0];
+    }
+    word
+}
+
 /// A name as the typed program has it.
 pub fn spelling_of(alloc: Global, text: &[u8], name: Name) -> Result<String, AllocError>
     ensures { IfOk result (λ s. string_bytes s ≡ judge.spelling text.now name) }
 {
-    String::from_utf8_lossy(alloc, word(text, name))
+    String::from_utf8_lossy(alloc, shown(word(text, name)))
 }
 
 /// The statements of a type's body; a type without a body has none.

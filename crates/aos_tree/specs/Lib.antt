@@ -8,3 +8,4 @@ pub mod StatGrammar
 pub mod DeclGrammar
 pub mod ModuleGrammar
 pub mod Begins
+pub mod Parts

@@ -1,5 +1,8 @@
 // Declarations and types.
 
+ghost use Rattle.std.specs.Prelude.{◌≡◌};
+ghost use Rattle.aos_tree.specs.Parts.{type_of, decl_of};
+
 use crate::boxed::Boxed;
 use crate::expr::Expr;
 use crate::items::Items;
@@ -176,4 +179,56 @@ impl Drop for TypeExpr {
 pub enum Fields {
     Empty,
     Of(VarDef),
+}
+
+/// The parts of a declaration, which may be taken by themselves.
+#[derive(Drop)]
+pub enum DeclParts {
+    Consts(Pos, Items<ConstDef>),
+    Types(Pos, Items<TypeDef>),
+    Vars(Pos, Items<VarDef>),
+    Proc(Proc),
+}
+
+impl Decl {
+    /// The parts of the declaration.
+    pub fn parts(self) -> DeclParts
+        ensures { decl_of result ≡ self }
+    {
+        match self {
+            Decl::Consts(pos, defs) => DeclParts::Consts(pos, defs),
+            Decl::Types(pos, defs) => DeclParts::Types(pos, defs),
+            Decl::Vars(pos, defs) => DeclParts::Vars(pos, defs),
+            Decl::Proc(proc) => DeclParts::Proc(proc),
+        }
+    }
+}
+
+/// The parts of a type, which may be taken by themselves.
+#[derive(Drop)]
+pub enum TypeParts {
+    Named(Qualident),
+    Array(Pos, Items<Expr>, TypeExpr),
+    Record(Pos, Option<Qualident>, Items<Fields>),
+    Pointer(Pos, TypeExpr),
+    Proc(Pos, Option<Name>, Option<Formals>),
+    Object(Pos, Option<Qualident>, Items<Decl>, Option<Block>, Option<Name>),
+}
+
+impl TypeExpr {
+    /// The parts of the type.
+    pub fn parts(self) -> TypeParts
+        ensures { type_of result ≡ self }
+    {
+        match self {
+            TypeExpr::Named(name) => TypeParts::Named(name),
+            TypeExpr::Array(pos, lengths, of) => TypeParts::Array(pos, lengths, of.into_inner()),
+            TypeExpr::Record(pos, base, fields) => TypeParts::Record(pos, base, fields),
+            TypeExpr::Pointer(pos, to) => TypeParts::Pointer(pos, to.into_inner()),
+            TypeExpr::Proc(pos, flag, formals) => TypeParts::Proc(pos, flag, formals),
+            TypeExpr::Object(pos, base, decls, body, end) => {
+                TypeParts::Object(pos, base, decls, body, end)
+            },
+        }
+    }
 }

@@ -12,7 +12,8 @@ pub mod stat;
 
 pub use boxed::Boxed;
 pub use decl::{
-    ConstDef, Decl, Def, Export, Fields, Formals, Mark, Proc, Section, TypeDef, TypeExpr, VarDef,
+    ConstDef, Decl, DeclParts, Def, Export, Fields, Formals, Mark, Proc, Section, TypeDef,
+    TypeExpr, TypeParts, VarDef,
 };
 pub use expr::{
     AddOp, Addition, Desig, Elem, Expr, Factor, MulOp, Product, Relation, RelationOp, Selector,

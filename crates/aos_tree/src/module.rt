@@ -1,5 +1,7 @@
 // Modules.
 
+ghost use Rattle.std.specs.Prelude.{◌≡◌};
+
 use crate::decl::Decl;
 use crate::items::Items;
 use crate::name::{Name, Text};
@@ -33,6 +35,34 @@ impl Drop for Module {
         drop(decls);
         drop(body);
         drop(strings);
+    }
+}
+
+impl Module {
+    /// The module's declarations, and the module with these in their place.
+    pub fn with_decls(self, decls: Items<Decl>) -> (Items<Decl>, Module)
+        ensures own { result.0 ≡ self.decls }
+        ensures rest { result.1 ≡ record self { decls = decls } }
+    {
+        let Module {
+            pos,
+            name,
+            imports,
+            decls: own,
+            body,
+            end,
+            strings,
+        } = self;
+        let rest = Module {
+            pos,
+            name,
+            imports,
+            decls,
+            body,
+            end,
+            strings,
+        };
+        (own, rest)
     }
 }
 

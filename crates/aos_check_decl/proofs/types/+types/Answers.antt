@@ -1,13 +1,12 @@
 -- Arrays, records, pointers and object types, whose parts are met before they are.
-use Rattle.std.proofs.Common.{◌≡◌, List, length, ◌==◌, Bool, true, false, Option, None, IfOk, refl, sym, ap, ◌∙◌, subst}
+use Rattle.std.proofs.Common.{◌≡◌, List, length, ◌==◌, Bool, true, false, Option, None, sym, ap, ◌∙◌, subst}
 use Rattle.aos_tree.specs.declared.expr.Expr.{Expr}
 use Rattle.aos_tree.specs.declared.decl.TypeExpr.{TypeExpr}
 use Rattle.aos_types.specs.declared.row.TypeId.{TypeId}
-use Rattle.aos_symbols.specs.Breaches.{first_after}
-use Rattle.aos_symbols.specs.Judged.{judged, kept, bind, walk}
+use Rattle.aos_symbols.specs.Judged.{kept, bind, walk}
 use Rattle.aos_check_decl.specs.Types as judge
-use Rattle.aos_check_decl.specs.Told.{Told}
-use Rattle.aos_check_decl.proofs.Telling.{then_told, then_tells, kept_tells, tells_as}
+use Rattle.aos_check_decl.specs.Told.{Told, Tells}
+use Rattle.aos_check_decl.proofs.Telling.{then_tells, kept_tells, tells_as}
 use Rattle.aos_check_decl.proofs.Forms.{array_met, open_met, record_met, member_variables, object_written, pointer_met}
 use Rattle.aos_check_decl.proofs.types.+types.Goals as goal
 use Rattle.aos_check_decl.proofs.types.+types.Goals.{type_in-else-is_empty-via-then-is_empty+else-not-may_be_open, type_in-else-is_empty-via-else-is_empty}
@@ -84,20 +83,15 @@ type_in-returns-in_ok-target-in-Pointer t c =
     let e = c.args.env.now in
     let at = c.in-Pointer.at in
     let to = c.in-Pointer.to in
-    let r = c.place_pointer.result in
-    let between = c.refuse_target.new.found in
-    let behind = c.type_in-in-Pointer.new.found in
-    let seen = λ (of : Option TypeId). judge.met c.place_pointer.new.env of in
-    let refused = judged (judge.target_breaches to) e in
-    let target = bind refused (λ e. judge.type_in true None e to) in
+    let r = c.pointer_behind.result in
+    let between = c.type_in-in-Pointer.new.found in
+    let behind = c.pointer_behind.new.found in
+    let seen = λ (of : Option TypeId). judge.met c.pointer_behind.new.env of in
+    let target = judge.type_in true None e to in
     let met = judge.met c.type_in-in-Pointer.new.env c.in_ok-target-in-Pointer.target in
-    let noted : Told refused c.args.found.now between e = record {
-      noted = c.refuse_target.ensures ∙ ap (λ (x : TypeExpr). first_after c.args.found.now (judge.target_breaches x)) c.get-in-Pointer.ensures;
-      is = refl;
-    } in
-    let told : Told target c.args.found.now behind met = then_told refused (λ e. judge.type_in true None e to) noted
-    (subst (λ (x : TypeExpr). Told (judge.type_in true None e x) between behind met) c.get-in-Pointer-2.ensures c.in_ok-target-in-Pointer.ensures) in
-    tells_as r seen c.args.found.now behind (bind target (λ m. kept (judge.pointer_to slot at to m))) (judge.type_in c.args.may_be_open slot e c.args.of.now)
+    let told : Told target c.args.found.now between met =
+    subst (λ (x : TypeExpr). Told (judge.type_in true None e x) c.args.found.now between met) c.get-in-Pointer.ensures c.in_ok-target-in-Pointer.ensures in
+    tells_as r seen c.args.found.now behind (bind target (λ m. judge.pointer_behind slot at to m)) (judge.type_in c.args.may_be_open slot e c.args.of.now)
     (pointer_met c.args.may_be_open slot e c.args.of.now at to c.in-Pointer.is)
-    (then_tells target (λ m. kept (judge.pointer_to slot at to m)) r seen behind told (kept_tells (judge.pointer_to slot at to met) r seen behind
-    (subst (λ (x : TypeExpr). IfOk r (λ of. seen of ≡ judge.pointer_to slot at x met)) c.get-in-Pointer-3.ensures c.place_pointer.ensures)))
+    (then_tells target (λ m. judge.pointer_behind slot at to m) r seen behind told
+    (subst (λ (x : TypeExpr). Tells r between behind seen (judge.pointer_behind slot at x met)) c.get-in-Pointer-2.ensures c.pointer_behind.ensures))
