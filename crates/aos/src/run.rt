@@ -162,7 +162,8 @@ fn run_kernel<R: Threads + Wait + Sync, G: Gate + Sync>(
     log: bool,
     gate: &G,
 ) -> Result<Answer, NoMemory>
-    requires { kernel.value.log ≡ [] }
+    requires log { kernel.value.log ≡ [] }
+    requires lent { kernel.value.lent ≡ [] }
     ensures { IfOk result
         (ShowsRun kernel.value.workers kernel.value.budget log kernel.value.image) }
 {
@@ -220,6 +221,7 @@ fn replay_all(
       workers = script.now.workers;
       budget = script.now.budget;
       log = [];
+      lent = [];
     } }
     ensures { IfOk result (ShowsReplayOf kernel.old.image script.now true (probes_use
         (map (λ p. seen p) probes.old.items) (map (λ p. seen p) probes.new.items))) }
@@ -241,6 +243,7 @@ fn replay_unwatched(alloc: Global, kernel: &mut Kernel, script: &Script) -> Resu
       workers = script.now.workers;
       budget = script.now.budget;
       log = [];
+      lent = [];
     } }
     ensures { IfOk result (λ a. (probes : List Seen) →
         ShowsReplayOf kernel.old.image script.now false (probes_use probes probes) a) }
@@ -263,6 +266,7 @@ fn replay_by(
       workers = script.now.workers;
       budget = script.now.budget;
       log = [];
+      lent = [];
     } }
     ensures { IfOk result (ShowsReplayOf kernel.old.image script.now watch (probes_use
         (map (λ p. seen p) probes.old.items) (map (λ p. seen p) probes.new.items))) }

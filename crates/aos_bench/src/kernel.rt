@@ -98,7 +98,7 @@ fn has_ended(kernel: &Kernel) -> bool {
 }
 
 fn step(kernel: &mut Kernel) -> Result<(), NoMemory> {
-    if 0 < kernel.workers() {
+    if 0 < kernel.workers() && !kernel.is_lent(0) {
         kernel.step(0)?;
     }
     Ok(())
@@ -108,7 +108,7 @@ fn step(kernel: &mut Kernel) -> Result<(), NoMemory> {
 fn start(kernel: &mut Kernel, activities: u32) -> Result<(), NoMemory> {
     for _ in 0..FIRST_STEPS {
         step(kernel)?;
-        if has_started(kernel, activities) && 0 < kernel.workers() {
+        if has_started(kernel, activities) && 0 < kernel.workers() && !kernel.is_lent(0) {
             kernel.tick(0)?;
         }
         if has_ended(kernel) {

@@ -10,10 +10,13 @@
 //! - `kernel WAITING STEPS` makes so many steps of a kernel in which one lock passes from activity to activity, while so many
 //!   others, 1,000 at most, wait to enter: how many wait then.
 //! - `turns TIMES` makes so many turns of an activity on its own frames: how many were made.
+//! - `steps TIMES` makes so many steps of a kernel with that activity: how many were made. `loans TIMES` makes at least so many
+//!   turns of it, by loans of at most 256 turns where they are private, and else by steps: how many loans there were.
 #![tactic(auto)]
 
 mod image;
 mod kernel;
+mod loans;
 mod lock;
 mod queue;
 mod scan;
@@ -42,6 +45,8 @@ fn measured<S: Shelf>(
         "queue" => queue::measured(alloc, words),
         "kernel" => kernel::measured(alloc, words),
         "turns" => turns::measured(alloc, words),
+        "steps" => loans::measured_by_steps(alloc, words),
+        "loans" => loans::measured_by_loans(alloc, words),
         _ => Err(Stop::Usage),
     }
 }

@@ -35,8 +35,8 @@ fn add_loop(alloc: Global, image: &mut Image) -> Result<(), AllocError> {
     add_procedure(alloc, image, false, 1, Body { code, depth: 2 })
 }
 
-// A module whose body calls a procedure with that loop.
-fn image(alloc: Global) -> Result<Image, AllocError> {
+/// A module whose body calls a procedure with that loop.
+pub fn loop_image(alloc: Global) -> Result<Image, AllocError> {
     let mut image = no_image(alloc);
     add_module(alloc, &mut image, 0)?;
     add_call(alloc, &mut image)?;
@@ -53,7 +53,7 @@ fn frames(alloc: Global) -> Result<Frames, AllocError> {
 
 // How many turns of the module's activity are made, so many at most.
 fn made(alloc: Global, times: u32) -> Result<u32, NoMemory> {
-    let image = image(alloc)?;
+    let image = loop_image(alloc)?;
     let mut frames = frames(alloc)?;
     let (made, _) = private(alloc, &image, &mut frames, times, u64::MAX)?;
     Ok(made)

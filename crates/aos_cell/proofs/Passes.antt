@@ -1,19 +1,19 @@
 -- From the pass that has all workers to one for each, and back.
 use Rattle.std.proofs.Common.{◌≡◌, ◌≢◌, ℕ, zero, suc, ◌+◌, ◌-◌, ◌*◌, ◌/◌, ◌^◌, ◌<◌, ◌≤◌, List, [], ◌∷◌, length, refl, sym, ap, ◌∙◌, subst, arith}
-use Rattle.std.specs.Prelude.{◌==◌}
+use Rattle.std.specs.Prelude.{◌==◌, if◌then◌else◌, nat_lt, false}
 use Rattle.std.proofs.lemmas.List.{append-nil}
 use Rattle.std.proofs.Math.Nat.{div-mul-le_self}
 use Rattle.std.proofs.lemmas.Nat.{le-div}
 use Rattle.aos_base.specs.Schedule.{choices}
-use Rattle.aos_kernel.specs.Run.{Run}
+use Rattle.aos_kernel.specs.Run.{Run, among}
 use Rattle.aos_cell.specs.declared.rule.Part.{Part}
 use Rattle.aos_cell.specs.declared.rule.View.{View}
 use Rattle.aos_cell.specs.declared.rule.View.TheVariants.{Opens, Spent, Of}
 use Rattle.aos_cell.specs.Total.{one_if, times, below}
 use Rattle.aos_cell.specs.Bound.{KeepsBound}
-use Rattle.aos_cell.specs.Rule.{SameProgram, AddsOthers, is_lent, lent_among, LendsOwn, workers_of}
+use Rattle.aos_cell.specs.Rule.{SameProgram, AddsOthers, is_lent, lent_among, LentAre, LendsOwn, workers_of}
 use Rattle.aos_cell.specs.Steps.{first_part, HasWorkers, Finds, Takes, greatest, without, MaySplit, left_part, right_part, split_left, split_right, HasOne, IsFree, both_parts, joined, HasAll}
-use Rattle.aos_cell.specs.Passes.{gives_for, Starts, MayStart, Ended, HasEnded, RunsOn}
+use Rattle.aos_cell.specs.Passes.{gives_for, Starts, MayStart, Ended, HasEnded, RunsOn, NoneLent}
 use Rattle.aos_cell.proofs.Totals.{one_same, times_append, times_without, length_without, greatest_in, below_in, length_below}
 use Rattle.aos_cell.proofs.Steps.{others_fewer}
 
@@ -25,15 +25,29 @@ program_same old new same = (ap (λ (r : Run). r.image) same, ap (λ (r : Run). 
 pub program_then : (a b c : Run) → SameProgram a b → SameProgram b c → SameProgram a c
 program_then a b c x y = (y.0 ∙ x.0, y.1 ∙ x.1, y.2 ∙ x.2)
 
--- nobody lends
-pub same_lent : (ws : List ℕ) (a b : Run) → LendsOwn ws a b
-unfolding is_lent
-same_lent ws a b w out = refl
+-- What is lent
 
-pub none_among : (ws : List ℕ) (r : Run) → lent_among ws r ≡ []
+pub same_lent : (ws : List ℕ) (a b : Run) → b.lent ≡ a.lent → LendsOwn ws a b
 unfolding is_lent
-none_among [] r = refl
-none_among (w ∷ ws) r = none_among ws r
+same_lent ws a b same w out = ap (among w) same
+
+-- a pass that has lent nothing finds none of its workers lent
+pub not_lent : (w : ℕ) (ws lent : List ℕ) (r : Run) → 0 < times w ws → lent ≡ [] → LentAre ws lent r → among w r.lent ≡ false
+unfolding is_lent
+not_lent w ws lent r member none are = are w member ∙ ap (λ l. nat_lt 0 (times w l)) none
+
+pub none_among : (ws : List ℕ) (r : Run) → ((w : ℕ) → 0 < times w ws → among w r.lent ≡ false) → lent_among ws r ≡ []
+unfolding is_lent
+none_among [] r none = refl
+none_among (w ∷ ws) r none =
+    ap (λ q. if q then w ∷ lent_among ws r else lent_among ws r) (none w (let one = one_same w in omega arith))
+    ∙ none_among ws r (λ v member. none v (omega (arith, member)))
+
+pub none_unlent : (r : Run) → r.lent ≡ [] → NoneLent r
+none_unlent r none w less = ap (among w) none
+
+pub still_unlent : (a b : Run) → b.workers ≡ a.workers → b.lent ≡ a.lent → NoneLent a → NoneLent b
+still_unlent a b many same none w less = ap (among w) same ∙ none w (subst (λ k. w < k) many less)
 
 -- A pass with one worker
 
@@ -45,10 +59,21 @@ starts_one each Opens start = absurd start
 starts_one each Spent start = absurd start
 starts_one each (Of p) start = (start.count, tt)
 
+pub starts_free : (each n : ℕ) (v : View) → MayStart each n v → IsFree v
+starts_free each n Opens start = absurd start
+starts_free each n Spent start = absurd start
+starts_free each n (Of p) start = (start.idle, start.none_lent)
+
 pub in_range : (w : ℕ) (v : View) (r : Run) (after : View) → workers_of v ≡ w ∷ [] → Takes v r after → w < r.workers
 in_range w Opens r after is took = absurd took
 in_range w Spent r after is took = absurd took
 in_range w (Of p) r after is took = took.1.range w (its_worker w p.workers is)
+
+-- it isn't lent in the kernel that the pass takes
+pub takes_unlent : (w : ℕ) (v : View) (r : Run) (after : View) → workers_of v ≡ w ∷ [] → IsFree v → Takes v r after → among w r.lent ≡ false
+takes_unlent w Opens r after is free took = absurd took
+takes_unlent w Spent r after is free took = absurd took
+takes_unlent w (Of p) r after is free took = not_lent w p.workers p.lent r (its_worker w p.workers is) free.1 took.1.lent
 
 -- Splitting a pass, and joining the two
 
@@ -127,14 +152,14 @@ gives_grow each n (suc k) =
     let e : suc k + n ≡ suc (k + n) = omega arith in
     subst (λ j. gives_for each n ≤ gives_for each j) (sym e) (omega arith)
 
-pub first_starts : (each : ℕ) (r : Run) (v : View) → gives_for each 16 ≤ 2 ^ 60 → r.workers ≤ 16 → v ≡ Of (first_part r) → MayStart each r.workers v
-first_starts each r v enough few is =
+pub first_starts : (each : ℕ) (r : Run) (v : View) → gives_for each 16 ≤ 2 ^ 60 → r.workers ≤ 16 → r.lent ≡ [] → v ≡ Of (first_part r) → MayStart each r.workers v
+first_starts each r v enough few none is =
     let rest : (16 - r.workers) + r.workers ≡ 16 = omega arith in
     let most : gives_for each r.workers ≤ gives_for each 16 = subst (λ k. gives_for each r.workers ≤ gives_for each k) rest (gives_grow each r.workers (16 - r.workers)) in
     subst (MayStart each r.workers) (sym is) (record {
       count = length_below r.workers;
       idle = refl;
-      none_lent = none_among (below r.workers) r;
+      none_lent = none_among (below r.workers) r (λ w _. ap (among w) none);
       gives = omega arith;
       untouched = ([], sym (append-nil (choices r.log)), tt);
     })
@@ -163,3 +188,11 @@ runs_on r (Of p) (Of q) now is ended finds =
     let same : p ≡ first_part r = cc is in
     let first : q.first ≡ r = ended.first ∙ ap (λ (x : Part). x.first) same in
     (subst (λ x. SameProgram x now) first finds.program, subst (λ x. KeepsBound x now) first finds.bound)
+
+-- so none is lent at the end
+pub ends_unlent : (r : Run) (v last : View) (now : Run) → v ≡ Of (first_part r) → HasEnded v last → Finds last now → NoneLent now
+ends_unlent r v Opens now is ended finds = absurd finds
+ends_unlent r v Spent now is ended finds = absurd finds
+ends_unlent r v (Of q) now is ended finds =
+    let all = has_all r v (Of q) is ended in
+    λ w less. not_lent w q.workers q.lent now (all.0 w (subst (λ k. w < k) finds.program.1 less)) all.2 finds.lent

@@ -1,6 +1,6 @@
 -- How passes begin by which each worker of a kernel has one of its own, and what is left at the end.
-use Rattle.std.specs.Prelude.{◌≡◌, ◌≤◌, ◌*◌, ℕ, zero, suc, false, [], length}
-use Rattle.aos_kernel.specs.Run.{Run}
+use Rattle.std.specs.Prelude.{◌≡◌, ◌<◌, ◌≤◌, ◌*◌, ℕ, zero, suc, false, [], length}
+use Rattle.aos_kernel.specs.Run.{Run, among}
 use Rattle.aos_cell.specs.declared.rule.Part.{Part}
 use Rattle.aos_cell.specs.declared.rule.View.{View}
 use Rattle.aos_cell.specs.Total.{times}
@@ -37,3 +37,7 @@ HasEnded v last = HasPart (λ p. HasPart (Ended p) last) v
 -- the second run is of the same program, and its log is the first one's and then entries that keep the bound
 abbrev pub RunsOn : Run → Run → Type 0
 RunsOn old new = SameProgram old new × KeepsBound old new
+
+-- no worker's activity is lent
+abbrev pub NoneLent : Run → Type 0
+NoneLent r = (w : ℕ) → w < r.workers → among w r.lent ≡ false

@@ -1,5 +1,5 @@
 -- The rule of the queue that hands the kernel between passes: what it holds, and what each pass has and knows.
-use Rattle.std.specs.Prelude.{◌≡◌, ◌⊎◌, ◌<◌, ◌≤◌, ◌+◌, ◌^◌, ℕ, nat_lt, Bool, true, false, List, [], ◌∷◌, ◌++◌, length, filter}
+use Rattle.std.specs.Prelude.{◌≡◌, ◌⊎◌, ◌<◌, ◌≤◌, ◌+◌, ◌^◌, ℕ, nat_lt, Bool, true, List, [], ◌∷◌, ◌++◌, length, filter}
 use mathlib.Core.Option.{some}
 use lib.ListN.{get_elem?}
 use Rattle.std.specs.declared.boxed.Box.{Box}
@@ -7,7 +7,7 @@ use Rattle.std.specs.declared.alloc.Global.{Global}
 use Rattle.aos_base.specs.Machine.{Choice}
 use Rattle.aos_base.specs.Schedule.{choices}
 use Rattle.aos_concurrency.specs.Private.{of_worker}
-use Rattle.aos_kernel.specs.Run.{Run}
+use Rattle.aos_kernel.specs.Run.{Run, among}
 use Rattle.aos_cell.specs.declared.rule.Part.{Part}
 use Rattle.aos_cell.specs.declared.rule.View.{View}
 use Rattle.aos_cell.specs.declared.rule.View.TheVariants.{Opens, Spent, Of}
@@ -41,9 +41,9 @@ AddsOwn ws old new = (added : List Choice) × (choices new.log ≡ choices old.l
 abbrev pub AddsOthers : List ℕ → Run → Run → Type 0
 AddsOthers ws old new = (added : List Choice) × (choices new.log ≡ choices old.log ++ added) × AreOthers ws added
 
--- whether a worker's activity is lent: of no worker, since no kernel lends yet
+-- whether a worker's activity is lent
 unfoldable pub is_lent : ℕ → Run → Bool
-is_lent w r = false
+is_lent w r = among w r.lent
 
 -- those of these workers that are lent
 abbrev pub lent_among : List ℕ → Run → List ℕ

@@ -8,7 +8,7 @@ use Rattle.aos_base.specs.Schedule.{choices}
 use Rattle.aos_code.specs.Machine.{machine}
 use Rattle.aos_kernel.specs.declared.log.Stepped.{Stepped}
 use Rattle.aos_kernel.specs.declared.log.Stepped.TheVariants.{Turned, Dispatched, Idle, Over}
-use Rattle.aos_kernel.specs.Run.{Run, state_of, after_step}
+use Rattle.aos_kernel.specs.Run.{Run, among, state_of, after_step}
 use Rattle.aos_kernel.proofs.Logs.{choices-with_step}
 use Rattle.aos_cell.specs.declared.rule.Part.{Part}
 use Rattle.aos_cell.specs.declared.rule.View.{View}
@@ -20,7 +20,7 @@ use Rattle.aos_cell.specs.Steps.{Follows, taken, Takes, Extends, MayGive, given,
 use Rattle.aos_cell.specs.Passes.{Starts, MayStart, HasEnded}
 use Rattle.aos_cell.proofs.Steps.{adds_then}
 use Rattle.aos_cell.proofs.Schedules.{preempted-append, preempted_end, others_since}
-use Rattle.aos_cell.proofs.Passes.{program_same, program_then, same_lent, none_among, its_worker}
+use Rattle.aos_cell.proofs.Passes.{program_same, program_then, same_lent, not_lent, none_among, its_worker}
 use Rattle.aos_cell_uses.proofs.Schedules.{step_by}
 
 -- A step adds itself to the log, or nothing
@@ -30,13 +30,14 @@ pub record Adds (w : ℕ) (old new : Run) : Type 0 where
   pub added : choices new.log ≡ choices old.log ++ own
   pub one : (own ≡ []) ⊎ (own ≡ Step w ∷ [])
   pub program : SameProgram old new
+  pub lent : new.lent ≡ old.lent
 
 module _ (w : ℕ) (old new : Run) (same : new ≡ record old { log = new.log }) where
   adds_nothing : new ≡ old → Adds w old new
-  adds_nothing is = record { own = []; added = ap (λ (r : Run). choices r.log) is ∙ sym (append-nil (choices old.log)); one = inl refl; program = program_same old new same }
+  adds_nothing is = record { own = []; added = ap (λ (r : Run). choices r.log) is ∙ sym (append-nil (choices old.log)); one = inl refl; program = program_same old new same; lent = ap (λ (r : Run). r.lent) same }
 
   adds_itself : choices new.log ≡ choices old.log ++ Step w ∷ [] → Adds w old new
-  adds_itself added = record { own = Step w ∷ []; added = added; one = inr refl; program = program_same old new same }
+  adds_itself added = record { own = Step w ∷ []; added = added; one = inr refl; program = program_same old new same; lent = ap (λ (r : Run). r.lent) same }
 
   adds_by : (stepped : Stepped) → new ≡ after_step stepped w old → Adds w old new
   adds_by Turned is = adds_itself (ap (λ (r : Run). choices r.log) is ∙ choices-with_step w old.log)
@@ -86,7 +87,7 @@ extends w p r new member start f step =
       program = program_then p.first r new f.program step.program;
       own = (step.own, step.added, own_alone w p.workers step.own member step.one);
       bound = step_keeps w p.first r new f.bound (makes_none w p r member start.untouched f) step;
-      lent = same_lent p.workers r new;
+      lent = same_lent p.workers r new step.lent;
     }
 
 -- A step by a pass, which takes and gives
@@ -97,9 +98,9 @@ may_give w Spent r after new start is took step = absurd took
 may_give w (Of p) r after new start is took step =
     subst (λ x. MayGive x new) (sym took.0) (refl, (let g = start.gives in omega arith), extends w p r new (its_worker w p.workers is) start took.1 step)
 
-pub step_ends : (v : View) (r : Run) (after : View) (new : Run) (last : View) → Takes v r after → Gives after new last → HasEnded v last
-step_ends Opens r after new last took gave = absurd took
-step_ends Spent r after new last took gave = absurd took
-step_ends (Of p) r after new last took gave =
+pub step_ends : (w : ℕ) (v : View) (r : Run) (after : View) (new : Run) (last : View) → MayStart 1 1 v → Takes v r after → Adds w r new → Gives after new last → HasEnded v last
+step_ends w Opens r after new last start took step gave = absurd took
+step_ends w Spent r after new last start took step gave = absurd took
+step_ends w (Of p) r after new last start took step gave =
     let is : last ≡ Of (given (taken p r) new) = subst (λ x. Gives x new last) took.0 gave in
-    subst (HasEnded (Of p)) (sym is) (record { workers = λ w. refl; idle = refl; none_lent = none_among p.workers new; first = refl })
+    subst (HasEnded (Of p)) (sym is) (record { workers = λ w. refl; idle = refl; none_lent = none_among p.workers new (λ x member. ap (among x) step.lent ∙ not_lent x p.workers p.lent r member start.none_lent took.1.lent); first = refl })

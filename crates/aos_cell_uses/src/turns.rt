@@ -47,7 +47,7 @@ fn step_by_passes<R: Wait + AllocGlobal>(
 }
 
 /// A step of each worker of a kernel, the first one's first, by way of a cell. NoMemory with the kernel where there is no
-/// memory for a cell. May wait.
+/// memory for a cell, or where a worker is lent. May wait.
 pub fn step_each<R: Wait + AllocGlobal>(
     rt: &R,
     kernel: Box<Kernel>,
@@ -56,6 +56,9 @@ pub fn step_each<R: Wait + AllocGlobal>(
     ensures back { IfErr result (λ refused. refused.1 ≡ kernel) }
 {
     let count = kernel.workers();
+    if !kernel.lends_none() {
+        return Err((NoMemory, kernel));
+    }
     match KernelCell::new(rt, rt.alloc(), kernel) {
         Ok((cell, pass)) => {
             let pass = step_by_passes(rt, &cell, pass, count);

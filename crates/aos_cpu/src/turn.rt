@@ -63,7 +63,7 @@ pub fn open(alloc: Global, image: &Image, frames: &mut Frames) -> Result<(), NoM
 
 /// The silent work of the topmost frame, up to where it ends, where these objects were made; none where there is no frame, nor a body
 /// that is to follow.
-pub(crate) fn come_to_stop(
+pub fn come_to_stop(
     alloc: Global,
     image: &Image,
     heap: &Heap,

@@ -1,8 +1,9 @@
 -- The desk after an operation shows the state after it.
-use Rattle.std.proofs.Common.{◌≡◌, ◌≢◌, ℕ, suc, ◌<◌, ◌≤◌, ◌^◌, List, [], ◌∷◌, ◌++◌, Bool, true, false, refl, sym, ◌∙◌, ap, subst, arith, length, reverse, append_assoc}
+use Rattle.std.proofs.Common.{◌≡◌, ◌≢◌, ℕ, suc, ◌<◌, ◌≤◌, ◌^◌, List, [], ◌∷◌, ◌++◌, Bool, true, false, inl, inr, refl, sym, ◌∙◌, ap, subst, arith, length, map, reverse, append_assoc}
 use Rattle.std.specs.Prelude.{if◌then◌else◌, ◌||◌, nat_le, nat_lt, Option, Some, None, nat_eq, slice_get, slice_set, Vec, Result, Ok, Err, OnOk, OnErr}
 use Rattle.std.specs.declared.alloc.Global.{Global}
 use Rattle.std.proofs.lemmas.List.{length-set, map-append}
+use Rattle.std.proofs.lemmas.Bool.Decides.{leb_tells}
 use Rattle.std.proofs.lemmas.Option.{slice_get_within}
 use Rattle.aos_base.specs.declared.kernel.Event.{Event}
 use Rattle.aos_base.specs.declared.kernel.Event.TheVariants as event
@@ -37,14 +38,16 @@ use Rattle.aos_line.specs.Stands.{Stands, IsOn, started_of}
 use Rattle.aos_line.proofs.Readings.{place-moved, place-unmoved, place-gone, place-other}
 use Rattle.aos_line.proofs.Standing.{on_place, on_within, on_same}
 use Rattle.aos_kernel.specs.declared.activity.Next.{Next}
-use Rattle.aos_kernel.specs.declared.activity.Next.TheVariants.{Runs, WillTrap, Unwinds, Gone}
+use Rattle.aos_kernel.specs.declared.activity.Next.TheVariants.{Runs, Lent, WillTrap, Unwinds, Gone}
 use Rattle.aos_kernel.specs.declared.activity.Activity.{Activity}
 use Rattle.aos_kernel.specs.declared.desk.Desk.{Desk}
 use Rattle.aos_kernel.specs.Run.{rec_of}
 use Rattle.aos_kernel.specs.Conditions.{Known, known, SameKnown, HasRooms, IsAwaiting, IsAwaitingSo}
-use Rattle.aos_kernel.specs.Shows.{next_in, work_at, ShowsFrames, ShowsActivity, IsWaiting, Shows, ShowsSame, HasTurn, IsLive, StandsAtNoLock, StandsBefore, HasSame}
+use Rattle.aos_kernel.specs.Shows.{has_frames, next_in, work_at, ShowsFrames, ShowsActivity, IsWaiting, Shows, ShowsSame, HasTurn, IsLive, StandsAtNoLock, StandsBefore, HasSame}
 use Rattle.aos_kernel.proofs.Judging.{known_at}
 use Rattle.aos_kernel.proofs.Fits.{none_fit}
+use Rattle.aos_settling.specs.Settling.{IsTallied}
+use Rattle.aos_settling.proofs.Tallies.{not_less}
 use Rattle.aos_kernel.proofs.Rows.{put_same, put_other, set_here, get_below, frames_alike, each_grown, each_after, get_before, each_joined, EachShows, not_spent, begun_after, EachWaits, waits_after, no_wait, kept_others}
 use Rattle.aos_line.proofs.Members.{each_at}
 
@@ -91,6 +94,22 @@ module _ (image : Image) (earlier : List Event) (d : Desk) (st : State Memory Fr
   shows_ready a p line is prior count =
       let to = book.Ready (st.book.activity a).priority in
       shows_line line d.events (move a to st.book.line) st.book.owner st.book.events (subst (λ n. Stands line (move a (book.Ready n) st.book.line) st.book.owner) prior is) count h.events (waits_moved a to refl)
+
+not_at : (a b : ℕ) → nat_le a b ≡ false → b < a
+not_at a b e =
+    elim (leb_tells a b) [
+      | inl h ↦ (let z : true ≡ false = sym h.0 ∙ e in absurd (cc z))
+      | inr h ↦ h.1
+    ]
+
+-- who hasn't used up the budget is below it
+below_budget : (c n budget a : ℕ) → c < budget → spent_by (nat_lt c n) budget n a None ≡ None → n < budget
+below_budget c n budget a less e = by (nat_lt c n) (nat_le budget n) refl refl e
+  where
+    by : (p q : Bool) → nat_lt c n ≡ p → nat_le budget n ≡ q → spent_by (nat_lt c n) budget n a None ≡ None → n < budget
+    by false q f g k = let x = not_less c n f in omega (arith, x, less)
+    by true false f g k = not_at budget n g
+    by true true f g k = let z : Some a ≡ None = sym (ap (λ p. spent_by p budget n a None) f ∙ ap (λ q. if q then Some a else None) g) ∙ k in absurd (cc z)
 
 module _ (image : Image) (earlier : List Event) (d : Desk) (st : State Memory Frames) (a : ℕ) (h : Shows image earlier d st) (turn_of : HasTurn a d) where
   abbrev made : ℕ → Option Made
@@ -237,6 +256,63 @@ module _ (image : Image) (earlier : List Event) (d : Desk) (st : State Memory Fr
         room = h.room;
         waiting = waits_set activities.items new st.book.line st.frames set turns_no_wait (λ x ne. refl) (λ x ne. refl);
         unspent = h.unspent;
+      }
+
+  -- its frames have gone out
+  pub shows_lent : (activities : Vec Activity Global) (frames : Kept) (old : Activity) → slice_get d.activities.items a ≡ Some old → Runs ≡ old.next → activities.items ≡ slice_set d.activities.items a (record old { next = Lent; frames = frames }) →
+      frames.begun ≡ old.frames.begun → frames_in frames ≡ record { following = []; frames = [] } → Shows image earlier (record d { activities = activities }) st
+  shows_lent activities frames old was runs set count empty =
+      let s = h.activities a old was in
+      let new : Activity = record old { next = Lent; frames = frames } in
+      record {
+        store = h.store;
+        stands = h.stands;
+        output = h.output;
+        traps = h.traps;
+        events = h.events;
+        budget = h.budget;
+        spent = h.spent;
+        started = started_after activities new set;
+        few = h.few;
+        counted = counted_after d.line activities new refl set;
+        activities = each_after image made d.activities.items activities.items st.book.activity st.book.activity st.frames st.frames a old new was set
+            (record { priority = s.priority; begun = s.begun ∙ sym count; next = s.next ∙ ap (λ n. next_in n old.locks.items) (sym runs); frames = tt; fits = λ whole. none_fit image frames empty }) (λ x ne. refl) (λ x ne. refl) h.activities;
+        room = h.room;
+        waiting = waits_set activities.items new st.book.line st.frames set turns_no_wait (λ x ne. refl) (λ x ne. refl);
+        unspent = h.unspent;
+      }
+
+  -- frames have come back, and statements are counted
+  pub shows_put : (activities : Vec Activity Global) (frames : Kept) (old : Activity) (spent : Option ℕ) (fs : Frames) (now : book.Book) → slice_get d.activities.items a ≡ Some old → activities.items ≡ slice_set d.activities.items a (record old { next = Runs; frames = frames }) →
+      st.book.spent ≡ None → (st.book.activity a).next ≡ book.Runs → Alike image (made_in image st.store) fs (frames_in frames) → IsTallied a frames.begun st.book now → (IsSoundImage image → FitInRoom image frames) →
+      spent ≡ spent_by (nat_lt old.frames.begun frames.begun) d.budget frames.begun a d.spent →
+      Shows image earlier (record d { activities = activities; spent = spent }) (record { store = st.store; frames = put nat_eq st.frames a fs; book = now })
+  shows_put activities frames old spent fs now was set none runs alike t fits when =
+      let s = h.activities a old was in
+      let new : Activity = record old { next = Runs; frames = frames } in
+      let n = frames.begun in
+      let shown : Alike image made fs (frames_in frames) = subst (λ (m : Memory). Alike image (made_in image m) fs (frames_in frames)) h.store alike in
+      record {
+        store = h.store;
+        stands = subst (λ (p : List book.Stand × (LockName → Option ℕ)). Stands d.line p.0 p.1) (λ i. (sym t.line i, sym t.owner i)) h.stands;
+        output = t.output ∙ h.output;
+        traps = ap (map rec_of) t.traps ∙ h.traps;
+        events = t.events ∙ h.events;
+        budget = t.budget ∙ h.budget;
+        spent = t.spent ∙ (λ i. spent_by (nat_lt (s.begun i) n) (h.budget i) n a (h.spent i)) ∙ sym when;
+        started = t.started ∙ started_after activities new set;
+        few = subst (λ k. k ≤ 65536) (sym t.started) h.few;
+        counted = counted_after d.line activities new refl set;
+        activities = each_after image made d.activities.items activities.items st.book.activity now.activity st.frames (put nat_eq st.frames a fs) a old new was set
+            (subst (λ x. ShowsActivity image made new (now.activity a) x) (sym (put_same st.frames a fs))
+            (record { priority = t.priority ∙ s.priority; begun = t.begun; next = t.next ∙ runs; frames = shown; fits = fits }))
+            (λ x ne. t.others x ne) (λ x ne. put_other st.frames a fs x ne) h.activities;
+        room = h.room;
+        waiting = subst (λ l. EachWaits image activities.items l (put nat_eq st.frames a fs)) (sym t.line)
+            (waits_set activities.items new st.book.line (put nat_eq st.frames a fs) set turns_no_wait (λ x ne. refl) (λ x ne. put_other st.frames a fs x ne));
+        unspent = λ x spends. each_at (λ y. (now.activity y).begun < now.budget) a
+            (subst (λ k. (now.activity a).begun < k) (sym t.budget) (subst (λ k. k < st.book.budget) (sym t.begun) (below_budget (st.book.activity a).begun n st.book.budget a (h.unspent a none) (ap (spent_by (nat_lt (st.book.activity a).begun n) st.book.budget n a) (sym none) ∙ sym t.spent ∙ spends))))
+            (λ y ne. subst (λ k. (now.activity y).begun < k) (sym t.budget) (subst (λ (v : book.Activity). v.begun < st.book.budget) (sym (t.others y ne)) (h.unspent y none))) x;
       }
 
   pub shows_turned : (store : Store) (activities : Vec Activity Global) (output : Vec ℕ Global) (spent : Option ℕ) (frames : Kept) (old : Activity) (left : Did) →
@@ -435,6 +511,7 @@ frames_known : (image : Image) (made : ℕ → Option Made) (n : Next) (fs : Fra
 frames_known image made Runs fs k g e h = subst (λ x. Alike image made fs x) e h
 frames_known image made (WillTrap n) fs k g e h = subst (λ x. Alike image made fs x) e h
 frames_known image made Unwinds fs k g e h = subst (λ x. Alike image made fs x) e h
+frames_known image made Lent fs k g e h = h
 frames_known image made Gone fs k g e h = sym e ∙ h
 
 pub before_known : (image : Image) (old new : List Activity) (a : ℕ) (left : Did) → SameKnown old new → ((kept : Activity) → slice_get old a ≡ Some kept → (Runs ≡ kept.next) × IsBefore image left (frames_in kept.frames)) →
@@ -563,7 +640,7 @@ pub shown_same : (image : Image) (d new : Desk) → HasSame d new → ShowsSame 
 shown_same image d new e earlier st h = shows_same image earlier d new st e h
 
 pub live_same : (d new : Desk) (a : ℕ) → HasSame d new → IsLive a d → IsLive a new
-live_same d new a e live = subst (λ (xs : List Activity). (kept : Activity) → slice_get xs a ≡ Some kept → kept.next ≢ Gone) (sym e.activities) live
+live_same d new a e live = subst (λ (xs : List Activity). (kept : Activity) → slice_get xs a ≡ Some kept → has_frames kept.next ≡ true) (sym e.activities) live
 
 pub turn_same : (d new : Desk) (a : ℕ) → HasSame d new → HasTurn a d → HasTurn a new
 turn_same d new a e turn_of = record { on = on_same d.line new.line a e.line e.places turn_of.on; counted = ap length e.places ∙ turn_of.counted ∙ ap length (sym e.activities) }

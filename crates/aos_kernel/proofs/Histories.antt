@@ -26,7 +26,7 @@ use Rattle.aos_kernel.specs.Keeps.{Keeps}
 pub state_after : (r : Run) (log : List Sched) (c : Choice) → choices log ≡ choices r.log ++ c ∷ [] → state_of (record r { log = log }) ≡ happens (machine r.image) c (state_of r)
 state_after r log c is = ap (λ cs. after r.image r.budget cs) is ∙ execution-append (machine r.image) (choices r.log) (c ∷ []) (first_state r.image r.budget)
 
-before_last : (cs : List Choice) (c : Choice) → without_last (cs ++ c ∷ []) ≡ cs
+pub before_last : (cs : List Choice) (c : Choice) → without_last (cs ++ c ∷ []) ≡ cs
 before_last cs c =
     let n : length (cs ++ c ∷ []) - 1 ≡ length cs = omega (arith, length-append cs (c ∷ [])) in
     ap (λ k. take k (cs ++ c ∷ [])) n ∙ take_at cs (c ∷ []) (length cs) refl
@@ -107,7 +107,7 @@ is_over image st c why =
       | Spent ↦ λ _. refl
     ]) why
 
-over_is : (o : Outcome) (s : Stepped) → o ≢ Going → stepped_while o s ≡ Over
+pub over_is : (o : Outcome) (s : Stepped) → o ≢ Going → stepped_while o s ≡ Over
 over_is Going s n = absurd (n refl)
 over_is Ended s n = refl
 over_is Dead s n = refl

@@ -8,3 +8,4 @@ pub mod Waiting
 pub mod First
 pub mod Logs
 pub mod Histories
+pub mod Lending

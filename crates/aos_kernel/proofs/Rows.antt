@@ -20,9 +20,9 @@ use Rattle.aos_silent.specs.Known.{Knows}
 use Rattle.aos_cpu.proofs.Turns.{alike_more}
 use Rattle.aos_cpu.specs.Turns.{counted as counted_on, Alike}
 use Rattle.aos_kernel.specs.declared.activity.Next.{Next}
-use Rattle.aos_kernel.specs.declared.activity.Next.TheVariants.{Runs, WillTrap, Unwinds, Gone}
+use Rattle.aos_kernel.specs.declared.activity.Next.TheVariants.{Runs, Lent, WillTrap, Unwinds, Gone}
 use Rattle.aos_kernel.specs.declared.activity.Activity.{Activity}
-use Rattle.aos_kernel.specs.Shows.{ShowsFrames, ShowsActivity, IsWaiting, IsPopped}
+use Rattle.aos_kernel.specs.Shows.{has_frames, ShowsFrames, ShowsActivity, IsWaiting, IsPopped}
 use Rattle.aos_line.proofs.Members.{by_case, each_at}
 
 pub put_same : {A : Type 0} (f : ℕ → A) (k : ℕ) (v : A) → put nat_eq f k v k ≡ v
@@ -45,22 +45,24 @@ set_there xs i x g ne =
     ]
 
 -- the frames of an activity that hasn't ended
-pub frames_alike : (image : Image) (made : ℕ → Option Made) (n : Next) (fs : Frames) (kept : Kept) → n ≢ Gone → ShowsFrames image made n fs kept → Alike image made fs (frames_in kept)
+pub frames_alike : (image : Image) (made : ℕ → Option Made) (n : Next) (fs : Frames) (kept : Kept) → has_frames n ≡ true → ShowsFrames image made n fs kept → Alike image made fs (frames_in kept)
 frames_alike image made Runs fs kept live h = h
+frames_alike image made Lent fs kept live h = absurd (cc live)
 frames_alike image made (WillTrap k) fs kept live h = h
 frames_alike image made Unwinds fs kept live h = h
-frames_alike image made Gone fs kept live h = absurd (live refl)
+frames_alike image made Gone fs kept live h = absurd (cc live)
 
 -- they show so where more objects are made
 pub frames_grown : (image : Image) (made all : ℕ → Option Made) (n : Next) (fs : Frames) (kept : Kept) → Knows all made → ShowsFrames image made n fs kept → ShowsFrames image all n fs kept
 frames_grown image made all Runs fs kept knows h = alike_more image made all fs (frames_in kept) knows h
 frames_grown image made all (WillTrap k) fs kept knows h = alike_more image made all fs (frames_in kept) knows h
 frames_grown image made all Unwinds fs kept knows h = alike_more image made all fs (frames_in kept) knows h
+frames_grown image made all Lent fs kept knows h = h
 frames_grown image made all Gone fs kept knows h = h
 
 -- an activity that runs hasn't ended
-pub runs_live : (n : Next) → Runs ≡ n → n ≢ Gone
-runs_live n e f = let z = e ∙ f in absurd (cc z)
+pub runs_live : (n : Next) → Runs ≡ n → has_frames n ≡ true
+runs_live n e = ap has_frames (sym e)
 
 -- the desk's activities show those of a book with their frames
 abbrev pub EachShows : Image → (made : ℕ → Option Made) → List Activity → (ℕ → book.Activity) → (ℕ → Frames) → Type 0

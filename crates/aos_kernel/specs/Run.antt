@@ -1,5 +1,5 @@
 -- A run of an image: what callers see of a kernel. Everything else about it is a function of its log.
-use Rattle.std.specs.Prelude.{ℕ, ◌-◌, Bool, true, false, List, Option, Some, None, take, drop, length, map}
+use Rattle.std.specs.Prelude.{ℕ, ◌-◌, ◌==◌, not, filter, if◌then◌else◌, Bool, true, false, List, [], ◌∷◌, Option, Some, None, take, drop, length, map}
 use Rattle.aos_base.specs.declared.kernel.Event.{Event}
 use Rattle.aos_base.specs.declared.kernel.Outcome.{Outcome}
 use Rattle.aos_base.specs.declared.kernel.Outcome.TheVariants.{Going, Ended, Dead, Spent}
@@ -23,6 +23,17 @@ pub record Run : Type 0 where
   pub workers : ℕ
   pub budget : ℕ
   pub log : List Sched
+  pub lent : List ℕ  -- the workers whose activities are lent
+  pub loans : ℕ  -- how many loans were settled with turns, modulo 2^64
+
+-- whether a worker is one of these
+abbrev pub among : ℕ → List ℕ → Bool
+among w [] = false
+among w (v ∷ vs) = if v == w then true else among w vs
+
+-- those but the worker
+abbrev pub without : ℕ → List ℕ → List ℕ
+without w vs = filter (λ v. not (v == w)) vs
 
 -- where the image is after these choices
 abbrev pub after : Image → ℕ → List Choice → State Memory Frames

@@ -1,5 +1,5 @@
 -- What the kernel keeps, and the state that it shows.
-use Rattle.std.specs.Prelude.{◌≡◌, ◌≢◌, ℕ, ◌<◌, ◌≤◌, Bool, true, false, List, [], ◌∷◌, ◌++◌, Option, Some, None, map, length, reverse, slice_get}
+use Rattle.std.specs.Prelude.{◌≡◌, ℕ, ◌<◌, ◌≤◌, Bool, true, false, List, [], ◌∷◌, ◌++◌, Option, Some, None, map, length, reverse, slice_get}
 use Rattle.aos_base.specs.declared.kernel.Event.{Event}
 use Rattle.aos_base.specs.declared.kernel.Event.TheVariants as event
 use Rattle.aos_base.specs.declared.kernel.LockName.{LockName}
@@ -25,7 +25,7 @@ use Rattle.aos_lock.specs.declared.lock.Passed.TheVariants.{Waiter, Entrant, Fre
 use Rattle.aos_ready.specs.Order.{number_of}
 use Rattle.aos_line.specs.Stands.{Stands, StandsSame, IsOn, places_of, started_of, live_of}
 use Rattle.aos_kernel.specs.declared.activity.Next.{Next}
-use Rattle.aos_kernel.specs.declared.activity.Next.TheVariants.{Runs, WillTrap, Unwinds, Gone}
+use Rattle.aos_kernel.specs.declared.activity.Next.TheVariants.{Runs, Lent, WillTrap, Unwinds, Gone}
 use Rattle.aos_kernel.specs.declared.activity.Activity.{Activity}
 use Rattle.aos_kernel.specs.declared.desk.Desk.{Desk}
 use Rattle.aos_kernel.specs.Run.{rec_of}
@@ -34,13 +34,15 @@ use Rattle.aos_kernel.specs.Conditions.{HasRooms, IsAwaiting, IsAwaitingSo}
 -- with these locks still to be released, the last one first
 abbrev pub next_in : Next → List LockName → book.Next
 next_in Runs locks = book.Runs
+next_in Lent locks = book.Runs
 next_in (WillTrap n) locks = book.WillTrap n
 next_in Unwinds locks = book.Unwinds (reverse locks)
 next_in Gone locks = book.Gone
 
--- an activity that has ended keeps no frames, and any other keeps its own, up to silent work
+-- an activity that has ended keeps no frames, of one whose frames are lent nothing is said, and any other keeps its own, up to silent work
 abbrev pub ShowsFrames : Image → (made : ℕ → Option Made) → Next → Frames → Kept → Type 0
 ShowsFrames image made Runs fs kept = Alike image made fs (frames_in kept)
+ShowsFrames image made Lent fs kept = Unit {0}
 ShowsFrames image made (WillTrap n) fs kept = Alike image made fs (frames_in kept)
 ShowsFrames image made Unwinds fs kept = Alike image made fs (frames_in kept)
 ShowsFrames image made Gone fs kept = frames_in kept ≡ record { following = []; frames = [] }
@@ -111,9 +113,17 @@ pub record HasTurn (a : ℕ) (d : Desk) : Type 0 where
 abbrev pub NextIs : ℕ → Next → Desk → Type 0
 NextIs a next d = (kept : Activity) → slice_get d.activities.items a ≡ Some kept → next ≡ kept.next
 
--- it hasn't ended
+-- whether its frames are kept
+abbrev pub has_frames : Next → Bool
+has_frames Runs = true
+has_frames Lent = false
+has_frames (WillTrap n) = true
+has_frames Unwinds = true
+has_frames Gone = false
+
+-- it hasn't ended, and its frames aren't lent
 abbrev pub IsLive : ℕ → Desk → Type 0
-IsLive a d = (kept : Activity) → slice_get d.activities.items a ≡ Some kept → kept.next ≢ Gone
+IsLive a d = (kept : Activity) → slice_get d.activities.items a ≡ Some kept → has_frames kept.next ≡ true
 
 -- the activity runs, and its frames stand before the work that is left to the kernel
 abbrev pub StandsBefore : Image → ℕ → Did → Desk → Type 0

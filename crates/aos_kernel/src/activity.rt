@@ -17,10 +17,12 @@ use aos_store::{Frames, Store};
 use aos_trap::unwind;
 use std::alloc::Global;
 
-/// What an activity's next turn is: its own, a trap that is due, what follows a trap, or none once it has ended.
+/// What an activity's next turn is: its own, its own on frames that are lent, a trap that is due, what follows a trap, or none
+/// once it has ended.
 #[derive(Clone, Copy)]
 pub enum Next {
     Runs,
+    Lent,
     WillTrap(u8),
     Unwinds,
     Gone,

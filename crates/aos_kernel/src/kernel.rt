@@ -1,22 +1,26 @@
 // The kernel over an image, seen as its log.
-ghost use Rattle.std.specs.Prelude.{◌≡◌, ◌<◌, ◌≤◌, [], ◌++◌, reverse, IfOk, OnErr, All};
+ghost use Rattle.std.specs.Prelude.{◌≡◌, ◌<◌, ◌≤◌, [], ◌++◌, true, false, replicate, reverse, IfOk, IfSome, IfNone, OnErr, All};
 ghost use Rattle.std.specs.List.{flat_map};
 ghost use Rattle.std.specs.Arc.{arc_value};
 ghost use Rattle.aos_base.specs.Book.{outcome};
-ghost use Rattle.aos_base.specs.Machine.{Step, Tick, happens};
+ghost use Rattle.aos_base.specs.Machine.{Step, Tick, happens, execution};
 ghost use Rattle.aos_code.specs.Machine.{machine, bodies, first_frames, first_state};
 ghost use Rattle.aos_store.specs.Store.{frames_in};
 ghost use Rattle.aos_base.specs.Schedule.{IsEntry};
 ghost use Rattle.aos_kernel.specs.Shows.{Shows, HandsOut};
-ghost use Rattle.aos_kernel.specs.Run.{state_of, events_of, traps_of, waits_of, spent_of, comes_to, after_step, ticks, after_tick};
+ghost use Rattle.aos_loan.specs.Loans.{IsLoanOf};
+ghost use Rattle.aos_kernel.specs.Lends.{LendsNone, Lends, after_lend, settles_to, after_settle};
+ghost use Rattle.aos_kernel.specs.Run.{among, state_of, events_of, traps_of, waits_of, spent_of, comes_to, after_step, ticks, after_tick};
 
-use crate::activity::{Activity, Next};
+use crate::activity::{Activity, Next, next_of};
 use crate::conditions::stack_for;
 use crate::desk::Desk;
+use crate::loans::{is_among, take_out};
 use crate::log::{Stepped, add_step};
 use aos_base::{Event, NoMemory, Outcome, Priority, Sched};
 use aos_code::{Image, TrapRec, WaitRec};
 use aos_line::Line;
+use aos_loan::Loan;
 use aos_store::{Frames, Store};
 use std::alloc::Global;
 use std::marker::Model;
@@ -39,12 +43,15 @@ pub struct Kernel {
     desk: Desk,
     events: Vec<Event>,
     log: Vec<Sched>,
+    lent: Vec<u32>,
+    loans: u64,
 }
 
 impl Model for Kernel {
     ghost use Rattle.std.specs.Arc.{arc_value};
     ghost use Rattle.aos_kernel.specs.Run.{Run};
     ghost use Rattle.aos_kernel.specs.Keeps.{Keeps};
+    ghost use Rattle.aos_kernel.specs.Lends.{HasLogRoom};
 
     ghost Value = { Run };
 
@@ -53,6 +60,8 @@ impl Model for Kernel {
       workers = k.workers;
       budget = k.budget;
       log = k.log.items;
+      lent = k.lent.items;
+      loans = k.loans;
     } };
 
     ghost invariant = { λ k.
@@ -61,8 +70,10 @@ impl Model for Kernel {
           workers = k.workers;
           budget = k.budget;
           log = k.log.items;
+          lent = k.lent.items;
+          loans = k.loans;
         })
-        k.desk k.events.items };
+        k.desk k.events.items × HasLogRoom k.log k.lent.items };
 }
 
 /// The body of this number behind the others, where there is one.
@@ -155,7 +166,14 @@ impl Kernel {
         requires workers { (1 ≤ workers) × (workers ≤ MAX_WORKERS) }
         requires budget { (1 ≤ budget) × (budget ≤ MAX_BUDGET) }
         ensures { IfOk result (λ k. k.value ≡
-            record { image = arc_value image; workers = workers; budget = budget; log = [] }) }
+            record {
+              image = arc_value image;
+              workers = workers;
+              budget = budget;
+              log = [];
+              lent = [];
+              loans = 0;
+            }) }
     {
         let desk = first_desk(alloc, &image, budget)?;
         let kernel = Kernel {
@@ -165,6 +183,8 @@ impl Kernel {
             desk,
             events: Vec::new(alloc),
             log: Vec::new(alloc),
+            lent: Vec::new(alloc),
+            loans: 0,
         };
         match Box::new(alloc, kernel) {
             Ok(kernel) => Ok(kernel),
@@ -253,7 +273,8 @@ impl Kernel {
     /// activity of the highest priority (Muller 2002, the scheduler of the Active Object System). Where it is Idle or
     /// Over, nothing changes. NoMemory where memory runs out, and then the kernel is as it was.
     pub fn step(&mut self, w: u32) -> Result<Stepped, NoMemory>
-        requires { w < self.old.workers }
+        requires worker { w < self.old.workers }
+        requires lent { among w self.old.lent ≡ false }
         ensures stepped { IfOk result (λ stepped. stepped ≡ comes_to w self.old) }
         ensures log { IfOk result (λ stepped. self.new ≡ after_step stepped w self.old) }
         ensures same { self.new ≡ record self.old { log = self.new.log } }
@@ -267,14 +288,14 @@ impl Kernel {
         };
         match self.desk.on(w) {
             Some(activity) => {
-                self.log.reserve(1)?;
+                self.log.reserve(1 + self.lent.len())?;
                 self.desk.turn(&self.image, activity)?;
                 hand_out(&mut self.events, &mut self.desk);
                 add_step(&mut self.log, w);
                 Ok(Stepped::Turned)
             }
             None => {
-                self.log.reserve(1)?;
+                self.log.reserve(1 + self.lent.len())?;
                 match self.desk.dispatch(w) {
                     Some(_) => {
                         hand_out(&mut self.events, &mut self.desk);
@@ -291,7 +312,8 @@ impl Kernel {
     /// where it has none or the outcome isn't Going, and then nothing changes. NoMemory where memory runs out, and then
     /// the kernel is as it was.
     pub fn tick(&mut self, w: u32) -> Result<bool, NoMemory>
-        requires { w < self.old.workers }
+        requires worker { w < self.old.workers }
+        requires lent { among w self.old.lent ≡ false }
         ensures ticked { IfOk result (λ ticked. ticked ≡ ticks w self.old) }
         ensures log { IfOk result (λ ticked. self.new ≡ after_tick ticked w self.old) }
         ensures same { self.new ≡ record self.old { log = self.new.log } }
@@ -305,7 +327,7 @@ impl Kernel {
         };
         match self.desk.on(w) {
             Some(activity) => {
-                self.log.reserve(1)?;
+                self.log.reserve(1 + self.lent.len())?;
                 self.desk.ready(activity);
                 hand_out(&mut self.events, &mut self.desk);
                 self.log.push_reserved(Sched::Tick(w));
@@ -313,5 +335,95 @@ impl Kernel {
             }
             None => Ok(false),
         }
+    }
+
+    /// Whether a worker's activity is lent.
+    pub fn is_lent(&self, w: u32) -> bool
+        ensures { result ≡ among w self.now.lent }
+    {
+        is_among(w, &self.lent)
+    }
+
+    /// Whether no activity is lent.
+    pub fn lends_none(&self) -> bool
+        ensures { result ≡ true → self.now.lent ≡ [] }
+    {
+        self.lent.is_empty()
+    }
+
+    /// How many loans were settled with turns, modulo 2^64.
+    pub fn lent(&self) -> u64
+        ensures { result ≡ self.now.loans }
+    {
+        self.loans
+    }
+
+    /// The frames of a worker's activity go out for private turns; None where it has no activity, that is lent, the outcome
+    /// isn't Going, or its next turn isn't private. The log keeps room for the loan's entry. NoMemory where memory runs out,
+    /// and then the kernel is as it was.
+    pub fn lend(&mut self, w: u32) -> Result<Option<Loan>, NoMemory>
+        requires { w < self.old.workers }
+        ensures loan { IfOk result (λ loan. IfSome loan (λ l. Lends w self.old l)) }
+        ensures none { IfOk result (λ loan. IfNone loan (LendsNone w self.old)) }
+        ensures after { IfOk result (λ loan. self.new ≡ after_lend loan w self.old) }
+        ensures err { OnErr result (self.new ≡ self.old) }
+    {
+        if is_among(w, &self.lent) {
+            return Ok(None);
+        }
+        let Outcome::Going = self.desk.outcome() else {
+            return Ok(None);
+        };
+        let Some(activity) = self.desk.on(w) else {
+            return Ok(None);
+        };
+        self.log.reserve(1 + self.lent.len())?;
+        self.lent.reserve(1)?;
+        let image = self.image.clone()?;
+        match next_of(&self.desk.activities, activity) {
+            Next::Runs => match self.desk.take_frames(&self.image, activity)? {
+                Some(frames) => {
+                    self.lent.push_reserved(w);
+                    Ok(Some(Loan::new(image, self.budget, frames)))
+                }
+                None => Ok(None),
+            },
+            // no frames but those of a worker that is lent
+            Next::Lent => Err(NoMemory),
+            Next::WillTrap(_) => Ok(None),
+            Next::Unwinds => Ok(None),
+            Next::Gone => Ok(None),
+        }
+    }
+
+    /// The turns of a loan that this kernel gave for a worker, as they are by now, are steps of the worker at the end of the
+    /// log. It takes no memory. Idle where there is none; where the outcome isn't Going, it is Over, and the loan is dropped.
+    pub fn settle(&mut self, w: u32, loan: Loan) -> Stepped
+        requires worker { w < self.old.workers }
+        requires lent { among w self.old.lent ≡ true }
+        requires image { loan.image ≡ self.old.image }
+        requires budget { loan.budget ≡ self.old.budget }
+        requires loan { IsLoanOf w loan (state_of self.old) }
+        ensures settled { result ≡ settles_to loan self.old }
+        ensures after { self.new ≡ after_settle result w loan self.old }
+        ensures state { state_of self.new ≡
+            execution (machine self.old.image) (replicate loan.turns (Step w)) (state_of self.old) }
+    {
+        take_out(w, &mut self.lent);
+        let Outcome::Going = self.desk.outcome() else {
+            return Stepped::Over;
+        };
+        let Some(activity) = self.desk.on(w) else {
+            return Stepped::Over;
+        };
+        let turns = loan.turns();
+        self.desk.put_frames(activity, loan.into_frames());
+        if turns == 0 {
+            return Stepped::Idle;
+        }
+        self.log.push_reserved(Sched::Steps(w, turns));
+        self.events.clear();
+        self.loans = self.loans.wrapping_add(1);
+        Stepped::Turned
     }
 }

@@ -7,6 +7,7 @@ mod conditions;
 mod desk;
 pub mod kernel;
 mod laws;
+mod loans;
 mod locks;
 pub mod log;
 mod traps;

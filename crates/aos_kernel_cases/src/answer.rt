@@ -1,6 +1,7 @@
 // What the commands of a case come to, beside what it wants of them.
 
 use crate::frames::locks;
+use crate::loans::differences_of_loan;
 use crate::numbers::{arithmetic, has, span};
 use crate::passes::differences_of_passes;
 use crate::replays::differences_of_replay;
@@ -43,6 +44,9 @@ pub fn differences<R: AllocGlobal + Threads + Wait + Sync>(
     }
     if name == "passes" {
         return differences_of_passes(rt, image, text, sections);
+    }
+    if name == "loan" {
+        return differences_of_loan(alloc, image, text, sections);
     }
     if name == "run" {
         return differences_of_run(rt, image, text, sections);

@@ -19,6 +19,9 @@
 //!   steps and ticks that did something, and the `events`, each behind the number of its step.
 //! - `passes ROUNDS SCRIPT` replays a script, and then makes so many rounds, in each of which the kernel stands in a cell and
 //!   every worker, the first one first, makes a step by a pass of its own. Wanted are the `state` and the `log`.
+//! - `loan WORKER MOST OTHERS SCRIPT` replays a script, lends the worker's activity for at most so many private turns, and settles
+//!   them behind a step of each of the other workers, which have `,` between them, `-` for none; then the worker makes a step.
+//!   Wanted are the `state`, the `log`, and `told`: how many turns there were and what settling them came to, or `none`.
 //! - `run SCRIPT` replays a script, and then runs the kernel by its workers, each in a thread of its own. Wanted are the `state`
 //!   and, where there is one worker, the `log`.
 //! - `meet SCRIPT` does so behind a gate at which workers 0 and 1 wait for each other before each of their first three rounds;
@@ -35,6 +38,7 @@ mod assembly;
 mod event;
 mod frames;
 mod image;
+mod loans;
 mod numbers;
 mod operators;
 mod passes;

@@ -1,5 +1,7 @@
 // Runs of images by scripts: at once, and step by step with what is seen of each.
 
+ghost use Rattle.std.specs.Prelude.{◌≡◌, [], IfOk};
+
 use crate::event::add_event;
 use crate::stop::Stop;
 use aos_base::{NoMemory, Sched};
@@ -41,8 +43,10 @@ pub fn script_of(alloc: Global, text: &str) -> Result<Script, Stop> {
     Ok(script)
 }
 
-/// A kernel behind the steps and ticks of a script.
-pub fn replayed(alloc: Global, image: Arc<Image>, text: &str) -> Result<Box<Kernel>, Stop> {
+/// A kernel behind the steps and ticks of a script. Nothing is lent.
+pub fn replayed(alloc: Global, image: Arc<Image>, text: &str) -> Result<Box<Kernel>, Stop>
+    ensures { IfOk result (λ k. k.value.lent ≡ []) }
+{
     if MAX_SCRIPT < text.len() {
         return Err(Stop::Malformed("malformed: the script is too long"));
     }
@@ -55,9 +59,9 @@ pub fn replayed(alloc: Global, image: Arc<Image>, text: &str) -> Result<Box<Kern
     Ok(kernel)
 }
 
-// A step of a worker, which is over where there is no such worker.
+// A step of a worker, which is over where there is no such worker or it is lent.
 fn step(kernel: &mut Kernel, worker: u32) -> Result<Stepped, NoMemory> {
-    if worker < kernel.workers() {
+    if worker < kernel.workers() && !kernel.is_lent(worker) {
         kernel.step(worker)
     } else {
         Ok(Stepped::Over)
@@ -76,7 +80,7 @@ fn is_made(stepped: Stepped) -> bool {
 
 // A tick of a worker, and whether it took its activity.
 fn tick(kernel: &mut Kernel, worker: u32) -> Result<bool, NoMemory> {
-    if worker < kernel.workers() {
+    if worker < kernel.workers() && !kernel.is_lent(worker) {
         kernel.tick(worker)
     } else {
         Ok(false)

@@ -28,6 +28,7 @@ pub fn role_of(name: &str) -> Role {
         "method" => Role::Part,
         "replay" => Role::Command,
         "passes" => Role::Command,
+        "loan" => Role::Command,
         "run" => Role::Command,
         "meet" => Role::Command,
         "sound" => Role::Command,

@@ -1,18 +1,21 @@
 // Whether the next turn is private.
-ghost use Rattle.std.specs.Prelude.{◌≡◌, []};
+ghost use Rattle.std.specs.Prelude.{◌≡◌, [], IfOk};
 ghost use Rattle.aos_code.specs.Machine.{opened};
 ghost use Rattle.aos_store.specs.Store.{list_in, frames_in, memory_in, SameCounts};
 ghost use Rattle.aos_sound.specs.FitFrames.{IsSoundImage, FramesFit};
-ghost use Rattle.aos_silent.specs.Room.{AreRoomy};
+ghost use Rattle.aos_silent.specs.Room.{AreRoomy, StayFit};
 ghost use Rattle.aos_cpu.specs.Turns.{Alike, HasCome, StandsAtStop};
 ghost use Rattle.aos_cpu.specs.Private.{no_memory, made_by, is_private};
 ghost use Rattle.aos_private.specs.Goes.{TellsStop};
 
 use crate::goes::goes;
+use aos_base::NoMemory;
 use aos_code::Image;
 use aos_cpu::alone::is_own_stop;
+use aos_cpu::turn::come_to_stop;
 use aos_silent::{Stop, silent_from};
 use aos_store::{Frames, Heap, Store};
+use std::alloc::Global;
 
 /// The silent work of the topmost frame, for which there is room, up to where it ends, where there is no object that tells anything;
 /// none where there is no frame, nor a body that is to be opened.
@@ -102,5 +105,23 @@ pub fn next_private(image: &Image, frames: &mut Frames) -> bool
             };
             is_private_stop(image, frames, &store, stop)
         }
+    }
+}
+
+/// Whether the next turn is private, of any frames over any image: it needs nothing but the activity's own frames, and doesn't
+/// trap. Some silent work is done, and the room for it is taken; where memory runs out, silent work is all that has been done.
+pub fn is_next_private(alloc: Global, image: &Image, frames: &mut Frames) -> Result<bool, NoMemory>
+    ensures is { IfOk result (λ is. is ≡ is_private image.now (frames_in frames.new)) }
+    ensures alike { Alike image.now (made_by []) (frames_in frames.old) (frames_in frames.new) }
+    ensures counts { SameCounts frames.old frames.new }
+    ensures fit { StayFit image.now frames.old frames.new }
+{
+    let store = Store {
+        modules: Vec::new(alloc),
+        objects: Heap::new(alloc),
+    };
+    match come_to_stop(alloc, image, &store.objects, frames)? {
+        None => Ok(false),
+        Some(stop) => Ok(is_private_stop(image, frames, &store, stop)),
     }
 }

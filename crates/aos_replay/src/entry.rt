@@ -16,7 +16,8 @@ fn step(
     worker: u32,
     probes: &mut Vec<Box<dyn Probe>>,
 ) -> Result<bool, NoMemory>
-    requires { worker < kernel.old.workers }
+    requires worker { worker < kernel.old.workers }
+    requires lent { kernel.old.lent ≡ [] }
     ensures done { OnOk result (Continues (Step worker ∷ []) kernel.old kernel.new) }
     ensures idle { IfOk result (λ made. made ≡ false → kernel.new ≡ kernel.old) }
     ensures err { OnErr result (kernel.new ≡ kernel.old) }
@@ -46,7 +47,8 @@ fn steps(
     count: u32,
     probes: &mut Vec<Box<dyn Probe>>,
 ) -> Result<(), NoMemory>
-    requires { worker < kernel.old.workers }
+    requires worker { worker < kernel.old.workers }
+    requires lent { kernel.old.lent ≡ [] }
     ensures done { OnOk result (Continues (replicate count (Step worker)) kernel.old kernel.new) }
     ensures part { OnErr result
         (ContinuesPart (replicate count (Step worker)) kernel.old kernel.new) }
@@ -66,7 +68,8 @@ fn steps(
 
 /// A tick of a worker.
 fn tick(kernel: &mut Kernel, worker: u32, probes: &mut Vec<Box<dyn Probe>>) -> Result<(), NoMemory>
-    requires { worker < kernel.old.workers }
+    requires worker { worker < kernel.old.workers }
+    requires lent { kernel.old.lent ≡ [] }
     ensures done { OnOk result (Continues (Tick worker ∷ []) kernel.old kernel.new) }
     ensures part { OnErr result (ContinuesPart (Tick worker ∷ []) kernel.old kernel.new) }
     ensures told { Told kernel.old kernel.new
@@ -88,7 +91,8 @@ pub fn make(
     entry: Sched,
     probes: &mut Vec<Box<dyn Probe>>,
 ) -> Result<(), NoMemory>
-    requires { worker_of entry < kernel.old.workers }
+    requires worker { worker_of entry < kernel.old.workers }
+    requires lent { kernel.old.lent ≡ [] }
     ensures done { OnOk result (Continues (entry_choices entry) kernel.old kernel.new) }
     ensures part { OnErr result (ContinuesPart (entry_choices entry) kernel.old kernel.new) }
     ensures told { Told kernel.old kernel.new

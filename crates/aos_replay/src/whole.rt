@@ -1,6 +1,6 @@
 // A whole script.
 
-ghost use Rattle.std.specs.Prelude.{◌≡◌, ◌<◌, ◌++◌, All, map, OnOk, OnErr};
+ghost use Rattle.std.specs.Prelude.{◌≡◌, ◌<◌, [], ◌++◌, All, map, OnOk, OnErr};
 ghost use Rattle.aos_base.specs.Schedule.{choices};
 ghost use Rattle.aos_kernel.specs.Run.{after, state_of};
 ghost use Rattle.aos_script.specs.Listing.{choices_of};
@@ -14,7 +14,7 @@ use aos_kernel::Kernel;
 use aos_probe::Probe;
 use aos_script::Script;
 
-/// Drives a kernel by a script, whose workers are all below the kernel's. Its image, workers and budget stay; its state
+/// Drives a kernel, of which nothing is lent, by a script, whose workers are all below the kernel's. Its image, workers and budget stay; its state
 /// is then the execution of the image under the log before, followed by the script's steps and ticks. Steps that can
 /// change nothing, since one of their run was Idle or the outcome isn't Going, aren't made. NoMemory where memory runs
 /// out, and then the kernel stands after a front of the script's steps and ticks. The probes are told the events of the
@@ -24,7 +24,8 @@ pub fn replay(
     s: &Script,
     probes: &mut Vec<Box<dyn Probe>>,
 ) -> Result<(), NoMemory>
-    requires { All (λ entry. worker_of entry < kernel.old.workers) s.now.runs }
+    requires workers { All (λ entry. worker_of entry < kernel.old.workers) s.now.runs }
+    requires lent { kernel.old.lent ≡ [] }
     ensures same { kernel.new ≡ record kernel.old { log = kernel.new.log } }
     ensures state { OnOk result (state_of kernel.new ≡
         after kernel.old.image kernel.old.budget

@@ -10,16 +10,16 @@ use Rattle.aos_base.specs.Machine.{execution}
 use Rattle.aos_base.specs.Schedule.{choices}
 use Rattle.aos_concurrency.proofs.Places.{keeps_none}
 use Rattle.aos_code.specs.Machine.{machine}
-use Rattle.aos_kernel.specs.Run.{Run, state_of}
+use Rattle.aos_kernel.specs.Run.{Run, among, state_of}
 use Rattle.aos_cell.specs.declared.rule.Part.{Part}
 use Rattle.aos_cell.specs.declared.rule.View.{View}
 use Rattle.aos_cell.specs.declared.rule.View.TheVariants.{Opens, Spent, Of}
 use Rattle.aos_cell.specs.Bound.{turns_since, IsPreempted, KeepsBound}
 use Rattle.aos_cell.specs.Rule.{AreOf, AreOthers, SameProgram, AddsOthers, workers_of}
-use Rattle.aos_cell.specs.Steps.{HasWorkers, Follows, taken, Takes, Extends, MayGive, given, Gives, HasOne}
+use Rattle.aos_cell.specs.Steps.{HasWorkers, Follows, taken, Takes, Extends, MayGive, given, Gives, HasOne, IsFree}
 use Rattle.aos_cell.proofs.Steps.{adds_then}
 use Rattle.aos_cell.proofs.Schedules.{preempted-append, preempted_end, others_since, others_preempted}
-use Rattle.aos_cell.proofs.Passes.{program_then, same_lent, none_among}
+use Rattle.aos_cell.proofs.Passes.{program_then, same_lent, not_lent, none_among}
 use Rattle.aos_workers.specs.Round.{activity_of, IsFresh, Works, turns_made, Advances, Answers, Ready, IsReady, Rounded, HasRounded, RoundAnswers, first_worker, worker_in}
 use Rattle.aos_workers.proofs.Turns.{is_in, own_alone, none_of, others_made}
 use Rattle.aos_workers.proofs.Rounds.{state_grows, made_grows, along}
@@ -70,6 +70,11 @@ ready_one w Opens ready = absurd ready
 ready_one w Spent ready = absurd ready
 ready_one w (Of p) ready = ap length ready.worker
 
+pub ready_free : (w : ℕ) (v : View) → IsReady w v → IsFree v
+ready_free w Opens ready = absurd ready
+ready_free w Spent ready = absurd ready
+ready_free w (Of p) ready = (ready.idle, ready.none_lent)
+
 pub told_worker : (w : ℕ) (v : View) → workers_of v ≡ w ∷ [] → worker_in v ≡ w
 told_worker w v is = ap first_worker is
 
@@ -81,7 +86,7 @@ extends w p r new ready f work =
       program = program_then p.first r new f.program work.program;
       own = (work.own, work.added, subst (λ ws. AreOf ws work.own) (sym ready.worker) work.all);
       bound = keeps_on w p.first r new f.program f.bound (still_fresh w p.first p.last r f.same (subst (λ ws. AddsOthers ws p.last r) ready.worker f.others) ready.fresh f.bound) work;
-      lent = same_lent p.workers r new;
+      lent = same_lent p.workers r new work.lent;
     }
 
 pub may_give : (w : ℕ) (v : View) (r : Run) (after : View) (new : Run) → IsReady w v → Takes v r after → Works w r new → MayGive after new
@@ -94,7 +99,7 @@ after_round w p r new ready f work =
     record {
       worker = ready.worker;
       idle = refl;
-      none_lent = none_among p.workers new;
+      none_lent = none_among p.workers new (λ x member. ap (among x) work.lent ∙ not_lent x p.workers p.lent r member ready.none_lent f.lent);
       gives = omega arith;
       first = refl;
       grows = (f.others.0 ++ work.own, work.added ∙ ap (λ l. l ++ work.own) f.others.1 ∙ append_assoc (choices p.last.log) f.others.0 work.own);

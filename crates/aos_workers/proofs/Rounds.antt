@@ -119,7 +119,7 @@ pub record Stepping (w i : ℕ) (old now : Run) : Type 0 where
 pub begins : (w : ℕ) (r : Run) → Stepping w 0 r r
 begins w r =
     record {
-      works = record { own = []; added = sym (append-nil (choices r.log)); all = tt; program = (refl, refl, refl); preempted = λ n le _. le };
+      works = record { own = []; added = sym (append-nil (choices r.log)); all = tt; program = (refl, refl, refl); lent = refl; preempted = λ n le _. le };
       few = λ n le fresh. elim fresh [
         | inl e ↦ let none : n ≤ 0 = omega arith in inl none
         | inr e ↦ inr e
@@ -158,6 +158,7 @@ module _ (w i : ℕ) (old now new : Run) (c : Choice) (s : Stepping w i old now)
         added = added ∙ ap (λ l. l ++ c ∷ []) s.works.added ∙ append_assoc (choices old.log) s.works.own (c ∷ []);
         all = own_append (w ∷ []) s.works.own (c ∷ []) s.works.all (subst (λ v. 0 < times v (w ∷ [])) (sym of_w) (is_in w), tt);
         program = program_then old now new s.works.program (program_same now new same);
+        lent = ap (λ (r : Run). r.lent) same ∙ s.works.lent;
         preempted = λ n le fresh. more_preempted n le fresh (small n le fresh);
       }
 

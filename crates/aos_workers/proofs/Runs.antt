@@ -52,7 +52,7 @@ begins_rounds w (Of p) is start =
 -- What the caller does alone
 
 pub goes_nowhere : (r : Run) → GoesOn r r
-goes_nowhere r = record { own = []; added = sym (append-nil (choices r.log)); program = (refl, refl, refl); preempted = λ w n le. le }
+goes_nowhere r = record { own = []; added = sym (append-nil (choices r.log)); program = (refl, refl, refl); lent = refl; preempted = λ w n le. le }
 
 -- a schedule that keeps the bound, and then what goes on
 behind : (w n : ℕ) (a b c : Run) (own : List Choice) → SameProgram a b → choices b.log ≡ choices a.log ++ own → IsPreempted (machine a.image) w own n (state_of a) → (y : GoesOn b c)
@@ -68,6 +68,7 @@ goes_then a b c x y =
       own = x.own ++ y.own;
       added = y.added ∙ ap (λ l. l ++ y.own) x.added ∙ append_assoc (choices a.log) x.own y.own;
       program = program_then a b c x.program y.program;
+      lent = y.lent ∙ x.lent;
       preempted = λ w n le. behind w n a b c x.own x.program x.added (x.preempted w n le) y;
     }
 
@@ -89,6 +90,7 @@ goes_tick v old new true after_ same =
       own = Tick v ∷ [];
       added = ap (λ (r : Run). choices r.log) after_ ∙ choices-with_tick v old.log;
       program = program_same old new same;
+      lent = ap (λ (r : Run). r.lent) same;
       preempted = λ w n le. (le, after w n le);
     }
   where
@@ -114,6 +116,7 @@ goes_round v old mid new true is after_ same work =
       own = Tick v ∷ work.own;
       added = work.added ∙ ap (λ l. l ++ work.own) added ∙ append_assoc (choices old.log) (Tick v ∷ []) work.own;
       program = program_then old mid new program work.program;
+      lent = work.lent ∙ ap (λ (r : Run). r.lent) same;
       preempted = λ w n le. (le, after w n le at);
     }
   where
@@ -133,6 +136,7 @@ goes_round v old mid new false is after_ same work =
       own = here.own;
       added = here.added;
       program = here.program;
+      lent = here.lent;
       preempted = λ w n le. elim (eqb_tells w v) [
         | inl e ↦ subst (λ x. IsPreempted (machine old.image) x here.own n (state_of old)) (sym e.1) (here.preempted n le (inr free))
         | inr e ↦ others_preempted (machine old.image) w (w ∷ []) here.own n (state_of old) (is_in w) le (own_alone v w here.own e.1 here.all)

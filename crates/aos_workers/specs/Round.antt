@@ -32,6 +32,7 @@ pub record Works (w : ℕ) (old new : Run) : Type 0 where
   pub added : choices new.log ≡ choices old.log ++ own
   pub all : AreOf (w ∷ []) own
   pub program : SameProgram old new
+  pub lent : new.lent ≡ old.lent
   pub preempted : (n : ℕ) → n ≤ 256 → IsFresh w n old → IsPreempted (machine old.image) w own n (state_of old)
 
 -- What it answers

@@ -26,6 +26,7 @@ pub record GoesOn (old new : Run) : Type 0 where
   pub own : List Choice
   pub added : choices new.log ≡ choices old.log ++ own
   pub program : SameProgram old new
+  pub lent : new.lent ≡ old.lent
   pub preempted : (w n : ℕ) → n ≤ 256 → IsPreempted (machine old.image) w own n (state_of old)
 
 -- nothing is wanted exactly where the outcome isn't Going

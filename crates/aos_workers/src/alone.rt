@@ -1,6 +1,7 @@
 // What the caller of a run does by itself: it finishes what the workers have left.
 
 ghost use Rattle.std.specs.Prelude.{◌≡◌, ◌<◌, IfOk};
+ghost use Rattle.aos_cell.specs.Passes.{NoneLent};
 ghost use Rattle.aos_workers.specs.Round.{outcome_of};
 ghost use Rattle.aos_workers.specs.Run.{GoesOn, IsDone};
 
@@ -21,6 +22,7 @@ fn left(kernel: &Kernel) -> Option<NoMemory>
 
 /// A tick of each worker, the first one's first. NoMemory where memory runs out, and what was done before stands.
 fn tick_all(kernel: &mut Kernel) -> Result<(), NoMemory>
+    requires { NoneLent kernel.old }
     ensures { GoesOn kernel.old kernel.new }
 {
     let count = kernel.workers();
@@ -35,7 +37,8 @@ fn tick_all(kernel: &mut Kernel) -> Result<(), NoMemory>
 /// A tick of a worker, and then at most 256 steps and a tick of it. NoMemory where memory runs out, and what was done before
 /// stands.
 fn tick_and_work(kernel: &mut Kernel, w: u32) -> Result<Outcome, NoMemory>
-    requires { w < kernel.old.workers }
+    requires worker { w < kernel.old.workers }
+    requires lent { NoneLent kernel.old }
     ensures goes { GoesOn kernel.old kernel.new }
     ensures answer { IfOk result (λ o. o ≡ outcome_of kernel.new) }
 {
@@ -46,6 +49,7 @@ fn tick_and_work(kernel: &mut Kernel, w: u32) -> Result<Outcome, NoMemory>
 /// Goes on by one worker until the outcome isn't Going or memory is refused. No activity is left with another worker by
 /// then: each is ticked once. May wait.
 pub fn finish<R: Wait>(rt: &R, kernel: &mut Kernel) -> Option<NoMemory>
+    requires { NoneLent kernel.old }
     ensures goes { GoesOn kernel.old kernel.new }
     ensures answer { IsDone kernel.new result }
 {

@@ -1,6 +1,7 @@
 // What one worker does: steps and a tick of the kernel that it has, rounds by its pass, and one round after another.
 
-ghost use Rattle.std.specs.Prelude.{◌≡◌, ◌<◌, IfOk};
+ghost use Rattle.std.specs.Prelude.{◌≡◌, ◌<◌, false, IfOk};
+ghost use Rattle.aos_kernel.specs.Run.{among};
 ghost use Rattle.aos_cell.specs.Passes.{HasEnded};
 ghost use Rattle.aos_workers.specs.Round.{Works, Answers, worker_in, IsReady, HasRounded, RoundAnswers};
 ghost use Rattle.aos_workers.specs.Run.{MayBegin};
@@ -19,10 +20,11 @@ const MAX_STEPS: u32 = 256;
 /// The most rounds of a worker.
 const MAX_ROUNDS: u64 = 1 << 35;
 
-/// At most 256 steps of a worker, up to one that does nothing, and behind all 256 a tick. NoMemory where memory runs out, and
+/// At most 256 steps of a worker that isn't lent, up to one that does nothing, and behind all 256 a tick. NoMemory where memory runs out, and
 /// what was done before stands.
 pub fn work(kernel: &mut Kernel, w: u32) -> Result<Outcome, NoMemory>
-    requires { w < kernel.old.workers }
+    requires worker { w < kernel.old.workers }
+    requires lent { among w kernel.old.lent ≡ false }
     ensures works { Works w kernel.old kernel.new }
     ensures answer { IfOk result (λ o. Answers w kernel.old kernel.new o) }
 {

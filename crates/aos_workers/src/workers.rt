@@ -1,9 +1,9 @@
 // All workers of a kernel, each in a thread of its own.
 
-ghost use Rattle.std.specs.Prelude.{◌≡◌, ◌≤◌, ◌-◌};
+ghost use Rattle.std.specs.Prelude.{◌≡◌, ◌≤◌, ◌-◌, []};
 ghost use denote.Param.Send.{IsSync};
 ghost use Rattle.aos_cell.specs.Steps.{split_left, split_right};
-ghost use Rattle.aos_cell.specs.Passes.{HasEnded, RunsOn};
+ghost use Rattle.aos_cell.specs.Passes.{HasEnded, RunsOn, NoneLent};
 ghost use Rattle.aos_workers.specs.Run.{MayBegin, IsDone};
 
 use crate::alone::finish;
@@ -78,7 +78,9 @@ fn by_workers<R: Threads + Wait + Sync, G: Gate + Sync>(
     kernel: Box<Kernel>,
     gate: &G,
 ) -> Box<Kernel>
-    ensures { RunsOn kernel.value result.value }
+    requires { kernel.value.lent ≡ [] }
+    ensures runs { RunsOn kernel.value result.value }
+    ensures lent { NoneLent result.value }
 {
     let count = kernel.workers();
     match KernelCell::new(rt, alloc, kernel) {
@@ -91,8 +93,8 @@ fn by_workers<R: Threads + Wait + Sync, G: Gate + Sync>(
     }
 }
 
-/// Runs a kernel by all its workers, each in a thread of its own where there are threads, and finishes what they leave. The
-/// kernel that comes back has the same image, workers and budget. Its log begins with the one that was put in, and in what
+/// Runs a kernel of which nothing is lent by all its workers, each in a thread of its own where there are threads, and
+/// finishes what they leave. The kernel that comes back has the same image, workers and budget. Its log begins with the one that was put in, and in what
 /// it has more no worker makes more than 256 turns without a tick or a dispatch of it between them. The answer is None
 /// exactly where the outcome isn't Going. NoMemory where memory runs out and the outcome is Going. May wait.
 pub fn run<R: Threads + Wait + Sync, G: Gate + Sync>(
@@ -101,6 +103,7 @@ pub fn run<R: Threads + Wait + Sync, G: Gate + Sync>(
     kernel: Box<Kernel>,
     gate: &G,
 ) -> (Box<Kernel>, Option<NoMemory>)
+    requires { kernel.value.lent ≡ [] }
     ensures kernel { RunsOn kernel.value result.0.value }
     ensures answer { IsDone result.0.value result.1 }
 {

@@ -5,8 +5,11 @@ use Rattle.aos_kernel.specs.Run.{Run}
 use Rattle.aos.specs.Shown.{ShowsRun}
 use Rattle.aos.proofs.run.run_image.Goals as goal
 
-pub run_kernel-requires-after_bounds : goal.run_kernel-requires-after_bounds
-run_kernel-requires-after_bounds g c κs within = ap (λ (r : Run). r.log) c.in_ok-kernel.ensures
+pub run_kernel-requires-clause-log : goal.run_kernel-requires-clause-log
+run_kernel-requires-clause-log g c κs within = ap (λ (r : Run). r.log) c.in_ok-kernel.ensures
+
+pub run_kernel-requires-clause-lent : goal.run_kernel-requires-clause-lent
+run_kernel-requires-clause-lent g c κs within = ap (λ (r : Run). r.lent) c.in_ok-kernel.ensures
 
 pub returns : goal.returns
 returns g c =

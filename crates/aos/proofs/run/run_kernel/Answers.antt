@@ -14,5 +14,5 @@ returns g c =
     let log = c.args.log in
     let over = subst (λ want. IsDone now want) c.in-None.is c.run-kernel.ensures.answer in
     on_answer (TellsLog log now) (ShowsRun old.workers old.budget log old.image) c.run_answer.result
-    (λ a told. shows_run log old now a c.requires c.run-kernel.ensures.kernel over told)
+    (λ a told. shows_run log old now a c.requires.log c.run-kernel.ensures.kernel over told)
     (subst (λ (r : Run). IfOk c.run_answer.result (TellsLog log r)) c.deref.ensures c.run_answer.ensures)

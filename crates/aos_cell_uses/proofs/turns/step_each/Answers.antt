@@ -6,8 +6,9 @@ use Rattle.aos_cell_uses.proofs.turns.step_each.Goals as goal
 
 pub step_by_passes-pass-requires-clause-start : goal.step_by_passes-pass-requires-clause-start
 step_by_passes-pass-requires-clause-start g c =
+    let none = sym (ap (λ (r : Run). r.lent) c.deref-2.ensures) ∙ c.lends_none.ensures c.if-not-lends_none.false in
     subst (λ n. MayStart 1 n c.in-Ok.pass.view) (sym (c.workers-count.ensures.workers ∙ ap (λ (r : Run). r.workers) c.deref.ensures))
-    (first_starts 1 c.args.kernel.value _ (omega arith) (search rules) c.in-Ok.ensures.view)
+    (first_starts 1 c.args.kernel.value _ (omega arith) (search rules) none c.in-Ok.ensures.view)
 
 pub close-requires-clause-all : goal.close-requires-clause-all
 close-requires-clause-all g c = has_all c.args.kernel.value _ _ c.in-Ok.ensures.view c.step_by_passes-pass.ensures.view

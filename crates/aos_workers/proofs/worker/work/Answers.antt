@@ -1,9 +1,16 @@
-use Rattle.std.proofs.Common.{rules, arith}
+use Rattle.std.proofs.Common.{rules, arith, ap, ◌∙◌}
+use Rattle.aos_kernel.specs.Run.{among}
 use Rattle.aos_workers.proofs.Rounds.{begins, goes_turned, goes_dispatched, ends_idle, ends_over, full, ticked_works, ticked_answers}
 use Rattle.aos_workers.proofs.worker.work.Goals as goal
 
 pub loop-steps-init : goal.loop-steps-init
 loop-steps-init c = (begins c.args.w c.args.kernel.now, omega arith)
+
+pub step-requires-clause-lent : goal.step-requires-clause-lent
+step-requires-clause-lent c = ap (among c.args.w) c.loop-steps.invariant.0.works.lent ∙ c.requires.lent
+
+pub tick-requires-clause-lent : goal.tick-requires-clause-lent
+tick-requires-clause-lent c = ap (among c.args.w) c.loop-steps.invariant.0.works.lent ∙ c.requires.lent
 
 pub loop-steps-preserved-in-Turned : goal.loop-steps-preserved-in-Turned
 loop-steps-preserved-in-Turned c =

@@ -1,9 +1,10 @@
-use Rattle.std.proofs.Common.{◌≡◌, ◌∙◌, subst, List}
+use Rattle.std.proofs.Common.{◌≡◌, sym, ap, subst, List}
 use Rattle.std.specs.Prelude.{slice_get, Some}
 use Rattle.std.proofs.lemmas.Result.{on_ok_weaker}
 use Rattle.aos_base.specs.Book as book
 use Rattle.aos_kernel.specs.declared.activity.Activity.{Activity}
 use Rattle.aos_kernel.specs.declared.activity.Next.TheVariants.{Runs, WillTrap, Unwinds, Gone}
+use Rattle.aos_kernel.specs.Shows.{has_frames}
 use Rattle.aos_kernel.proofs.Desks.{next_is_in, turns_by}
 use Rattle.aos_kernel.proofs.desk.Desk.turn.Goals as goal
 
@@ -41,7 +42,7 @@ run-requires-clause-runs c = subst (λ (xs : List Activity). (kept : Activity) �
 pub trap-requires-clause-live : goal.trap-requires-clause-live
 trap-requires-clause-live c kept at =
     let told = subst (λ (xs : List Activity). (k : Activity) → slice_get xs c.args.activity ≡ Some k → WillTrap c.in-WillTrap.number ≡ k.next) c.deref.ensures.value c.in-WillTrap.ensures in
-    λ e. (let z = told kept at ∙ e in absurd (cc z))
+    ap has_frames (sym (told kept at))
 
 pub unwind-requires-clause-unwinds : goal.unwind-requires-clause-unwinds
 unwind-requires-clause-unwinds c = subst (λ (xs : List Activity). (kept : Activity) → slice_get xs c.args.activity ≡ Some kept → Unwinds ≡ kept.next) c.deref.ensures.value c.in-Unwinds.ensures
