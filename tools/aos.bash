@@ -3,7 +3,7 @@ _aos() {
     local word=${COMP_WORDS[COMP_CWORD]} before=${COMP_WORDS[COMP_CWORD-1]}
     COMPREPLY=()
     if [ "$COMP_CWORD" -eq 1 ]; then
-        COMPREPLY=($(compgen -W 'run replay check list' -- "$word"))
+        COMPREPLY=($(compgen -W 'run replay check list gen' -- "$word"))
         return
     fi
     # bash parts --workers=4 into three words
@@ -17,11 +17,14 @@ _aos() {
         --budget) return ;;
         --script) mapfile -t COMPREPLY < <(compgen -f -- "$word"); return ;;
     esac
+    # the number of pairs of a generated module is no file
+    [[ ${COMP_WORDS[1]} != gen || $word = -* ]] || return
     case $word in
         -*)
             case ${COMP_WORDS[1]} in
                 run) COMPREPLY=($(compgen -W '--workers --budget --log' -- "$word")) ;;
                 replay) COMPREPLY=($(compgen -W '--script --watch' -- "$word")) ;;
+                gen) COMPREPLY=($(compgen -W '--workers' -- "$word")) ;;
             esac
             ;;
         *) mapfile -t COMPREPLY < <(compgen -f -X '!*.Mod' -- "$word"; compgen -d -- "$word") ;;

@@ -1,6 +1,8 @@
 -- Answers with their causes.
-use Rattle.std.proofs.Common.{◌≡◌, ℕ, ◌≤◌, List, [], ◌∷◌, ◌++◌, length, Bool, refl, sym, ap, ◌∙◌, subst, inl, inr}
-use Rattle.std.specs.Prelude.{◌⊎◌, ◌^◌, Result, Ok, Err, IfOk}
+use Rattle.std.proofs.Common.{◌≡◌, ℕ, ◌≤◌, List, [], ◌∷◌, ◌++◌, length, Bool, false, arith, refl, sym, ap, ◌∙◌, subst, inl, inr}
+use Rattle.std.specs.Prelude.{◌⊎◌, ◌^◌, Result, Ok, Err, IfOk, Vec}
+use Rattle.std.specs.declared.alloc.Global.{Global}
+use Rattle.std.proofs.lemmas.List.Elements.{All-nil, All-cons}
 use Rattle.aos_base.specs.declared.text.NoMemory.{NoMemory}
 use Rattle.aos_base.specs.Observation.{Observation}
 use Rattle.aos_base.specs.Schedule.{choices}
@@ -15,17 +17,19 @@ use Rattle.aos_script.specs.declared.error.ScriptErr.TheVariants.{NoMemory as No
 use Rattle.aos_script.specs.Listing.{IsScript, choices_of}
 use Rattle.aos_script.specs.Refusals.{IsRefused as IsRefusedScript}
 use Rattle.aos_compile.specs.Elaborates.{names_of}
-use Rattle.aos_words.specs.Words.{Command, Run, Replay}
+use Rattle.aos_gen.specs.Generated.{module_text}
+use Rattle.aos_gen.proofs.Length.{within}
+use Rattle.aos_words.specs.Words.{Words, Command, Replay, Gen, default_budget, most_pairs}
 use Rattle.aos.specs.declared.answer.Answer.{Answer}
 use Rattle.aos.specs.declared.run.Setting.{Setting}
 use Rattle.aos.specs.declared.telling.Telling.{Telling}
 use Rattle.aos.specs.declared.telling.Telling.TheVariants.{Locals, Layout}
 use Rattle.aos.specs.Call.{ShelfUse, ProbesUse}
-use Rattle.aos.specs.Wanted.{wanted_files, text_files, name_of}
+use Rattle.aos.specs.Wanted.{wanted_files, text_limit, text_files, gen_files, gen_texts, name_of}
 use Rattle.aos.specs.Report.{run_report, replay_report, script_line}
 use Rattle.aos.specs.Seen.{Seen, seen_of, replay_of, events_of, replay_events, script_of}
-use Rattle.aos.specs.Cause.{Has, Takes, to_check, to_list, Cause, refused, ran, ran_by, told}
-use Rattle.aos.specs.Shown.{image_seen_of, image_replay_of, image_events_of, IsSet, IsReady, IsAnswer, IsImageOf, TellsRefusal, ShowsRun, ShowsReplayOf, TellsOfProgram, asks_for, Causes, Serves, ServesWith}
+use Rattle.aos.specs.Cause.{Has, Runs, of_pairs, Takes, to_check, to_list, Cause, refused, ran, ran_by, told}
+use Rattle.aos.specs.Shown.{image_seen_of, image_replay_of, image_events_of, IsSet, IsReady, IsAnswer, IsImageOf, TellsRefusal, ShowsRun, ShowsReplayOf, TellsOfProgram, asks_for, Causes, Serves, ServesRun, ServesTexts, ServesWith, AreTexts}
 use Rattle.aos.specs.Watched.{Watched, watch_text}
 use Rattle.aos.proofs.Bounds.{same_bound}
 
@@ -38,9 +42,9 @@ module _ {probes : ProbesUse} (words : List (List ℕ)) (shelf : ShelfUse) where
       (subst (λ x. Cause words shelf probes status out x) (sym is.err_is) h))
 
   -- the run of an image that shows the texts' program
-  pub ran_causes : (s : Setting) (files texts : List (List ℕ)) (p : Program) (image : Image) (a : Answer) → IsSet s → IsImageOf texts p image → ShowsRun s.workers s.budget s.log image a → Has words shelf (Run s.workers s.budget s.log files) texts → Causes words shelf probes a
+  pub ran_causes : (s : Setting) (files texts : List (List ℕ)) (p : Program) (image : Image) (a : Answer) → IsSet s → IsImageOf texts p image → ShowsRun s.workers s.budget s.log image a → Runs words shelf s.workers s.budget s.log files texts → Causes words shelf probes a
   unfolding seen_of image_seen_of
-  ran_causes s files texts p image a set made run has =
+  ran_causes s files texts p image a set made run runs =
       let o = run.observation in
       let schedule = run.seen.schedule in
       let script = script_of s.workers s.budget schedule in
@@ -53,7 +57,7 @@ module _ {probes : ProbesUse} (words : List (List ℕ)) (shelf : ShelfUse) where
       } in
       causes_along a o.status o.output (run_report s.log (names_of p) script o)
       (record { status_is = run.status; out_is = run.out; err_is = run.err ∙ ap (λ ns. run_report s.log ns script o) made.names })
-      (ran p o has made.comes made.compiled seen)
+      (ran p o runs made.comes made.compiled seen)
 
   -- and its run by a script
   pub replay_causes : (script listing : List ℕ) (watch : Bool) (files texts : List (List ℕ)) (s : Script) (p : Program) (image : Image) (a : Answer) → IsScript listing s → IsImageOf texts p image → ShowsReplayOf image s watch probes a → Has words shelf (Replay script watch files) (listing ∷ texts) → Causes words shelf probes a
@@ -118,3 +122,24 @@ refused_script e listing r P (inr q) f none h = on_answer (λ a. IsAnswer a 10 [
 
 pub answer_err : (a : Answer) (status : ℕ) (out err err' : List ℕ) → IsAnswer a status out err → err ≡ err' → IsAnswer a status out err'
 answer_err a status out err err' is e = record { status_is = is.status_is; out_is = is.out_is; err_is = is.err_is ∙ e }
+
+-- the generated module's text, alone
+pub one_text : (pairs : ℕ) (text : Vec ℕ Global) → pairs ≤ most_pairs → text.items ≡ module_text pairs → AreTexts (text ∷ [])
+one_text pairs text few is =
+    let Fits : Vec ℕ Global → Type 0 = λ t. length t.items ≤ text_limit in
+    let short = within pairs few in
+    let fits : length (module_text pairs) ≤ text_limit = omega (arith, short) in
+    record {
+      some = omega arith;
+      few = omega arith;
+      limits = All-cons Fits text [] (subst (λ l. length l ≤ text_limit) (sym is) fits) (All-nil Fits);
+    }
+
+-- a run of files with such texts serves who asks for a generated module
+pub serves_pairs : (s : Setting) (workers pairs : ℕ) (files : Words) (texts : List (List ℕ)) (r : Result Answer NoMemory) → s ≡ record { workers = workers; budget = default_budget; log = false } → files ≡ gen_files → texts ≡ gen_texts pairs → IfOk r (ServesRun s files texts) → IfOk r (ServesTexts (Gen workers pairs) [])
+serves_pairs s workers pairs files texts r set named made h =
+    on_answer (ServesRun (record { workers = workers; budget = default_budget; log = false }) gen_files (gen_texts pairs)) (ServesTexts (Gen workers pairs) []) r
+    (λ a serves shelf had probes words asks. serves words shelf probes (of_pairs (record { asks = asks; had = had })))
+    (subst (λ ts. IfOk r (ServesRun (record { workers = workers; budget = default_budget; log = false }) gen_files ts)) made
+    (subst (λ fs. IfOk r (ServesRun (record { workers = workers; budget = default_budget; log = false }) fs texts)) named
+    (subst (λ x. IfOk r (ServesRun x files texts)) set h)))

@@ -20,17 +20,17 @@ use Rattle.aos_script.proofs.Sole.{one_script}
 use Rattle.aos_symbols.specs.Outcome.{Outcome as Coming, went, refused as refused_by}
 use Rattle.aos_compile.specs.Elaborates.{ComesTo, IsAccepted, names_of}
 use Rattle.aos_compile.proofs.OneReading.{one_outcome}
-use Rattle.aos_words.specs.Words.{Command, Run, Replay, Check, List_, command_of, Asks}
+use Rattle.aos_words.specs.Words.{Command, Run, Replay, Check, List_, Gen, command_of, Asks, default_budget}
 use Rattle.aos.specs.declared.answer.Answer.{Answer}
-use Rattle.aos.specs.Wanted.{wanted_files, name_of}
+use Rattle.aos.specs.Wanted.{Wanted, wanted_files, IsWanted, gen_files, gen_texts, name_of}
 use Rattle.aos.specs.Call.{ShelfUse, SinkUse, ProbesUse, Call, Tells, ShelfFailed, GotWhole, GotNothing, SinksWorked, IsUndisturbed}
 use Rattle.aos.specs.Fetched.{Fetched, Texts, NoFile, LongFile, Fetches}
 use Rattle.aos.specs.Report.{run_report, replay_report}
 use Rattle.aos.specs.Seen.{Seen, replay_of, replay_events, script_of, EndsWell, EndsWithTrap, IsDead, IsSpent, IsGoing}
 use Rattle.aos.specs.Told.{IsToldBy, IsTelling}
 use Rattle.aos.specs.Watched.{Watched, watch_text}
-use Rattle.aos.specs.Cause.{Has, Takes, to_run, to_replay, to_check, to_list, IsCompiled, Cause, wrong_words, unread, absent, too_long, bad_script, refused, ran, ran_by, told, Answered, PutInPart, out_failed, err_failed, AnsweredInPart}
-use Rattle.aos.specs.Promises.{IsRunStatus, IsReplayStatus, IsAbsentOrRefused, is_absent, is_refused, IsAsked, LeadsTo, ShowsTexts, ShowsReplay, ShowsProgram, ShowsRefusal, IsTooLong, IsNoScript, IsSeen, in_run, in_replay, IsTold, IsStatusWhere, GotJust, IsSame, KeepsConditions, LogIsReplayed, Promises, IsAlike, ProbesDontMatter}
+use Rattle.aos.specs.Cause.{Has, Runs, of_files, of_pairs, Takes, to_run, to_replay, to_check, to_list, IsCompiled, Cause, wrong_words, unread, absent, too_long, bad_script, refused, ran, ran_by, told, Answered, PutInPart, out_failed, err_failed, AnsweredInPart}
+use Rattle.aos.specs.Promises.{IsRunStatus, IsReplayStatus, IsAbsentOrRefused, is_absent, is_refused, IsAsked, LeadsTo, ShowsTexts, ShowsReplay, ShowsProgram, ShowsRefusal, IsTooLong, IsNoScript, IsSeen, in_run, in_replay, IsTold, IsStatusWhere, GotJust, KeepsConditions, LogIsReplayed, Promises, IsAlike, ProbesDontMatter}
 use Rattle.aos.specs.Shown.{Causes, IsWhole, IsStopped}
 use Rattle.aos.proofs.Logged.{log_is_script, log_shows}
 use Rattle.aos.proofs.Statuses.{differ, run_has, replay_has, run_status, replay_status, no_run, no_replay, none_1, none_2, none_6, none_7, none_8, none_10, Means, is_well, is_trapped, is_dead, is_spent, is_going}
@@ -75,6 +75,7 @@ modules_of (Run workers budget log files) = files
 modules_of (Replay script watch files) = files
 modules_of (Check files) = files
 modules_of (List_ files) = files
+modules_of (Gen workers pairs) = gen_files
 
 abbrev behind_first : List (List ℕ) → List (List ℕ)
 behind_first [] = []
@@ -85,6 +86,7 @@ texts_in (Run workers budget log files) all = all
 texts_in (Replay script watch files) all = behind_first all
 texts_in (Check files) all = all
 texts_in (List_ files) all = all
+texts_in (Gen workers pairs) all = gen_texts pairs
 
 -- what is told by a command is told by one that tells
 telling : (c : Command) (p : Program) (text : List ℕ) → IsToldBy c p text → IsTelling c
@@ -92,6 +94,7 @@ telling (Run workers budget log files) p text is = absurd is
 telling (Replay script watch files) p text is = absurd is
 telling (Check files) p text is = tt
 telling (List_ files) p text is = tt
+telling (Gen workers pairs) p text is = absurd is
 
 never_run : {workers budget : ℕ} {log : Bool} {files : List (List ℕ)} (c : Command) → IsTelling c → c ≡ Run workers budget log files → ⊥
 never_run c tells e = subst IsTelling e tells
@@ -99,12 +102,16 @@ never_run c tells e = subst IsTelling e tells
 never_replay : {script : List ℕ} {watch : Bool} {files : List (List ℕ)} (c : Command) → IsTelling c → c ≡ Replay script watch files → ⊥
 never_replay c tells e = subst IsTelling e tells
 
+never_gen : {workers pairs : ℕ} (c : Command) → IsTelling c → c ≡ Gen workers pairs → ⊥
+never_gen c tells e = subst IsTelling e tells
+
 -- commands of two kinds differ
 abbrev kind : Command → ℕ
 kind (Run workers budget log files) = 0
 kind (Replay script watch files) = 1
 kind (Check files) = 2
 kind (List_ files) = 3
+kind (Gen workers pairs) = 4
 
 module _ (words : List (List ℕ)) (shelf : ShelfUse) where
   no_has : {A : Type 0} {c : Command} {all : List (List ℕ)} → command_of words ≡ None → Has words shelf c all → A
@@ -130,8 +137,12 @@ module _ (words : List (List ℕ)) (shelf : ShelfUse) where
     pub files_are : files ≡ modules_of command
     pub texts_are : texts ≡ texts_in command all
 
+  parts_of_run : {workers budget : ℕ} {log : Bool} {files texts : List (List ℕ)} → Runs words shelf workers budget log files texts → Parts files texts
+  parts_of_run (of_files {workers} {budget} {log} {files} {texts} h) = record { command = Run workers budget log files; all = texts; has = h; files_are = refl; texts_are = refl }
+  parts_of_run (of_pairs {workers} {pairs} h) = record { command = Gen workers pairs; all = []; has = h; files_are = refl; texts_are = refl }
+
   parts_of : {files texts : List (List ℕ)} → Takes words shelf files texts → Parts files texts
-  parts_of (to_run {workers} {budget} {log} {files} {texts} h) = record { command = Run workers budget log files; all = texts; has = h; files_are = refl; texts_are = refl }
+  parts_of (to_run h) = parts_of_run h
   parts_of (to_replay {script} {listing} {watch} {files} {texts} s h read) = record { command = Replay script watch files; all = listing ∷ texts; has = h; files_are = refl; texts_are = refl }
   parts_of (to_check {files} {texts} h) = record { command = Check files; all = texts; has = h; files_are = refl; texts_are = refl }
   parts_of (to_list {files} {texts} h) = record { command = List_ files; all = texts; has = h; files_are = refl; texts_are = refl }
@@ -142,6 +153,16 @@ module _ (words : List (List ℕ)) (shelf : ShelfUse) where
   takes_telling (Replay script watch files) tells h = absurd tells
   takes_telling (Check files) tells h = to_check h
   takes_telling (List_ files) tells h = to_list h
+  takes_telling (Gen workers pairs) tells h = absurd tells
+
+  -- who runs modules neither replays nor tells
+  runs_apart : {A : Type 0} {workers budget : ℕ} {log watch : Bool} {script : List ℕ} {files texts files' others : List (List ℕ)} → Runs words shelf workers budget log files texts → Has words shelf (Replay script watch files') others → A
+  runs_apart (of_files h) k = has_apart h k refl
+  runs_apart (of_pairs h) k = has_apart h k refl
+
+  runs_told : {A : Type 0} {workers budget : ℕ} {log : Bool} {files texts others : List (List ℕ)} (c : Command) → IsTelling c → Runs words shelf workers budget log files texts → Has words shelf c others → A
+  runs_told c tells (of_files {workers} {budget} {log} {files} h) k = absurd (never_run c tells (one_command words c (Run workers budget log files) k.asks h.asks))
+  runs_told c tells (of_pairs {workers} {pairs} h) k = absurd (never_gen c tells (one_command words c (Gen workers pairs) k.asks h.asks))
 
   of_takes : {files texts : List (List ℕ)} → Takes words shelf files texts → (all : List (List ℕ)) × Comes (Texts all)
   of_takes k = let t = parts_of k in (t.all, of_has t.has)
@@ -177,7 +198,7 @@ module _ (words : List (List ℕ)) (shelf : ShelfUse) where
   two_if (too_long {c} h w n) none = no_command words c none h
   two_if (bad_script x h n) none = no_has none h
   two_if (refused r k n) none = let t = of_takes k in no_command words t.1.command none t.1.asks
-  two_if (ran p o h comes good s) none = no_has none h
+  two_if (ran p o h comes good s) none = let t = parts_of_run h in no_command words t.command none t.has.asks
   two_if (ran_by s p h read comes good w) none = no_has none h
   two_if (told p h comes good is) none = no_has none h
 
@@ -236,6 +257,57 @@ module _ (call : Call) where
     seen_or_told (told {c} {texts} {text} p h comes good is) same on_out on_err e =
         inr (e, record { command = c; texts = texts; telling = telling c p text is; has = h; accepted = record { program = p; comes = comes } })
 
+-- Accepted texts are run
+
+record IsRunOf (workers budget : ℕ) (log : Bool) (texts : List (List ℕ)) (status : ℕ) (out err : List ℕ) : Type 0 where
+  pub program : Program
+  pub comes : ComesTo texts (went program)
+  pub compiled : IsCompiled program
+  pub observation : Observation
+  pub seen : Seen workers budget program observation
+  pub status_is : status ≡ observation.status
+  pub out_is : out ≡ observation.output
+  pub err_is : err ≡ run_report log (names_of program) (script_of workers budget seen.schedule) observation
+
+-- a generated module is run, whatever the shelf tells
+module _ (words : List (List ℕ)) (shelf : ShelfUse) (workers pairs : ℕ) (asked : Asks words (Gen workers pairs)) where
+  -- another command isn't asked for
+  not_other : {A : Type 0} {c : Command} → Asks words c → (kind c == 4) ≡ false → A
+  not_other {c} h apart = differ (kind c) 4 apart (ap kind (one_command words c (Gen workers pairs) h asked))
+
+  -- nothing is fetched
+  none_wanted : {A : Type 0} {c : Command} {w : Wanted} → Asks words c → IsWanted (wanted_files c) w → A
+  none_wanted {c} {w} h is =
+      let e : [] ≡ is.before ++ w ∷ is.others = ap wanted_files (one_command words (Gen workers pairs) c asked h) ∙ is.order in
+      absurd (apart is.before w is.others e)
+    where
+      apart : (before : List Wanted) (w : Wanted) (others : List Wanted) → [] ≡ before ++ w ∷ others → ⊥
+      apart [] w others e = cc
+      apart (v ∷ before) w others e = cc
+
+  runs_pairs : {workers' budget : ℕ} {log : Bool} {files texts : List (List ℕ)} {status : ℕ} {out err : List ℕ} → Runs words shelf workers' budget log files texts → IsRunOf workers' budget log texts status out err → IsRunOf workers default_budget false (gen_texts pairs) status out err
+  runs_pairs (of_files h) run = not_other h.asks refl
+  runs_pairs {status} {out} {err} (of_pairs {workers = workers'} {pairs = pairs'} h) run =
+      let same : Gen workers' pairs' ≡ Gen workers pairs = one_command words (Gen workers' pairs') (Gen workers pairs) h.asks asked in
+      let ws : workers' ≡ workers = cc same in
+      let ps : pairs' ≡ pairs = cc same in
+      subst (λ w. IsRunOf w default_budget false (gen_texts pairs) status out err) ws (subst (λ p. IsRunOf workers' default_budget false (gen_texts p) status out err) ps run)
+
+  generates_it : {probes : ProbesUse} {status : ℕ} {out err : List ℕ} → Cause words shelf probes status out err → IsAccepted (gen_texts pairs) → IsRunOf workers default_budget false (gen_texts pairs) status out err
+  generates_it (wrong_words n) ok = no_command words (Gen workers pairs) n asked
+  generates_it (unread h w b f) ok = none_wanted h w
+  generates_it (absent h w n) ok = none_wanted h w
+  generates_it (too_long h w n) ok = none_wanted h w
+  generates_it (bad_script x h n) ok = not_other h.asks refl
+  generates_it (refused {files} {texts} r k comes) ok =
+      let t = parts_of words shelf k in
+      let same : texts ≡ gen_texts pairs = t.texts_are ∙ ap (λ c. texts_in c t.all) (one_command words t.command (Gen workers pairs) t.has.asks asked) in
+      absurd (never_accepted (gen_texts pairs) r (subst (λ ts. ComesTo ts (refused_by r)) same comes) ok)
+  generates_it (ran p o h comes good s) ok =
+      runs_pairs h (record { program = p; comes = comes; compiled = good; observation = o; seen = s; status_is = refl; out_is = refl; err_is = refl })
+  generates_it (ran_by s p h read comes good w) ok = not_other h.asks refl
+  generates_it (told {c} {text} p h comes good is) ok = absurd (never_gen c (telling c p text is) (one_command words c (Gen workers pairs) h.asks asked))
+
 -- Where the shelf tells its texts and didn't fail
 
 fetches_one : (texts : Option (List Named)) (files : List _) (f g : Fetched) → IsSome texts → Fetches texts files f → Fetches texts files g → f ≡ g
@@ -270,6 +342,11 @@ module _ (words : List (List ℕ)) (shelf : ShelfUse) (tells : Tells shelf) wher
       let e : Run workers budget log files ≡ Run workers' budget' log' files' = same_command h k in
       (cc e, cc e, cc e, cc e)
 
+  -- who runs files goes by the workers, the budget and the log that the words say
+  same_setting : {workers budget workers' budget' : ℕ} {log log' : Bool} {files texts files' texts' : List (List ℕ)} → Runs words shelf workers budget log files texts → Has words shelf (Run workers' budget' log' files') texts' → (workers ≡ workers') × (budget ≡ budget') × (log ≡ log')
+  same_setting (of_files h) k = let e = same_run h k in (e.0, e.1, e.2)
+  same_setting (of_pairs h) k = has_apart words shelf h k refl
+
   same_replay : {script listing script' listing' : List ℕ} {watch watch' : Bool} {files texts files' texts' : List (List ℕ)} → Has words shelf (Replay script watch files) (listing ∷ texts) → Has words shelf (Replay script' watch' files') (listing' ∷ texts') → (listing ≡ listing') × (watch ≡ watch') × (files ≡ files') × (texts ≡ texts')
   same_replay {script} {listing} {script'} {listing'} {watch} {watch'} {files} {texts} {files'} {texts'} h k =
       let e : Replay script watch files ≡ Replay script' watch' files' = same_command h k in
@@ -287,7 +364,7 @@ module _ (words : List (List ℕ)) (shelf : ShelfUse) (tells : Tells shelf) wher
 
   -- a listing that is a script is never refused
   no_bad : {A : Type 0} {script listing : List ℕ} {watch : Bool} {files texts files' texts' : List (List ℕ)} (e : ScriptErr) → Takes words shelf files texts → Has words shelf (Replay script watch files') (listing ∷ texts') → IsRefusedScript listing e → A
-  no_bad e (to_run h) k bad = has_apart words shelf h k refl
+  no_bad e (to_run h) k bad = runs_apart words shelf h k
   no_bad e (to_check h) k bad = has_apart words shelf h k refl
   no_bad e (to_list h) k bad = has_apart words shelf h k refl
   no_bad {listing} e (to_replay s h read) k bad = absurd (not_both listing s e (subst (λ y. IsScript y s) (same_replay h k).0 read) bad)
@@ -303,7 +380,7 @@ module _ (words : List (List ℕ)) (shelf : ShelfUse) (tells : Tells shelf) wher
     if_absent (too_long {c} h v n) k = not_both_lacks (record { command = c; asks = h; comes = n }) k
     if_absent (bad_script x h n) k = not_absent k (of_has words shelf h)
     if_absent (refused r t n) k = not_absent k (of_takes words shelf t).1
-    if_absent (ran p o h comes good s) k = not_absent k (of_has words shelf h)
+    if_absent (ran p o h comes good s) k = not_absent k (of_takes words shelf (to_run h)).1
     if_absent (ran_by s p h read comes good w) k = not_absent k (of_has words shelf h)
     if_absent (told p h comes good is) k = not_absent k (of_has words shelf h)
 
@@ -314,14 +391,14 @@ module _ (words : List (List ℕ)) (shelf : ShelfUse) (tells : Tells shelf) wher
     if_long (too_long h w n) k = refl
     if_long (bad_script x h n) k = not_long k (of_has words shelf h)
     if_long (refused r t n) k = not_long k (of_takes words shelf t).1
-    if_long (ran p o h comes good s) k = not_long k (of_has words shelf h)
+    if_long (ran p o h comes good s) k = not_long k (of_takes words shelf (to_run h)).1
     if_long (ran_by s p h read comes good w) k = not_long k (of_has words shelf h)
     if_long (told p h comes good is) k = not_long k (of_has words shelf h)
 
     -- of the causes only these are left where all files are had, and a listing is a script
     if_takes : {probes : ProbesUse} {status : ℕ} {out err : List ℕ} {files texts : List (List ℕ)} (P : ℕ → List ℕ → List ℕ → Type 0) → Cause words shelf probes status out err → Takes words shelf files texts →
         ((r : Refusal) → ComesTo texts (refused_by r) → P 1 [] (refusal_text (name_of files r.file) r.rule r.pos))
-        → ((workers budget : ℕ) (log : Bool) (files' texts' : List (List ℕ)) (p : Program) (o : Observation) → Has words shelf (Run workers budget log files') texts' → ComesTo texts (went p) → IsCompiled p → (s : Seen workers budget p o) → P o.status o.output (run_report log (names_of p) (script_of workers budget s.schedule) o))
+        → ((workers budget : ℕ) (log : Bool) (files' texts' : List (List ℕ)) (p : Program) (o : Observation) → Runs words shelf workers budget log files' texts' → ComesTo texts (went p) → IsCompiled p → (s : Seen workers budget p o) → P o.status o.output (run_report log (names_of p) (script_of workers budget s.schedule) o))
         → ((script listing : List ℕ) (watch : Bool) (files' texts' : List (List ℕ)) (s : Script) (p : Program) → Has words shelf (Replay script watch files') (listing ∷ texts') → IsScript listing s → ComesTo texts (went p) → IsCompiled p → Watched watch (replay_events p s) probes → P (replay_of p s).status (replay_of p s).output (replay_report (names_of p) s (replay_of p s) ++ watch_text watch probes))
         → ((c : Command) (texts' : List (List ℕ)) (text : List ℕ) (p : Program) → Has words shelf c texts' → ComesTo texts (went p) → IsCompiled p → IsToldBy c p text → P 0 text [])
         → P status out err
@@ -340,17 +417,6 @@ module _ (words : List (List ℕ)) (shelf : ShelfUse) (tells : Tells shelf) wher
     if_takes P (told {c} {texts} {text} p h comes good is) k not_one run by tell =
         tell c texts text p h (subst (λ ts. ComesTo ts (went p)) (same_takes (takes_telling words shelf c (telling c p text is) h) k).1 comes) good is
 
-    -- accepted texts are run
-    record IsRunOf (workers budget : ℕ) (log : Bool) (texts : List (List ℕ)) (status : ℕ) (out err : List ℕ) : Type 0 where
-      pub program : Program
-      pub comes : ComesTo texts (went program)
-      pub compiled : IsCompiled program
-      pub observation : Observation
-      pub seen : Seen workers budget program observation
-      pub status_is : status ≡ observation.status
-      pub out_is : out ≡ observation.output
-      pub err_is : err ≡ run_report log (names_of program) (script_of workers budget seen.schedule) observation
-
     -- by the workers and with the budget that the words say
     run_along : {workers budget workers' budget' : ℕ} {log log' : Bool} {texts : List (List ℕ)} {status : ℕ} {out err : List ℕ} → (workers ≡ workers') × (budget ≡ budget') × (log ≡ log') → IsRunOf workers budget log texts status out err → IsRunOf workers' budget' log' texts status out err
     run_along {workers} {budget} {workers'} {budget'} {log} {log'} {texts} {status} {out} {err} e h =
@@ -360,11 +426,9 @@ module _ (words : List (List ℕ)) (shelf : ShelfUse) (tells : Tells shelf) wher
 
     runs_it : {probes : ProbesUse} {workers budget : ℕ} {log : Bool} {status : ℕ} {out err : List ℕ} {files texts : List (List ℕ)} → Cause words shelf probes status out err → Has words shelf (Run workers budget log files) texts → IsAccepted texts → IsRunOf workers budget log texts status out err
     runs_it {workers} {budget} {log} {texts} c k ok =
-        if_takes (IsRunOf workers budget log texts) c (to_run k)
+        if_takes (IsRunOf workers budget log texts) c (to_run (of_files k))
         (λ r comes. absurd (never_accepted texts r comes ok))
-        (λ workers' budget' log' files' texts' p o h comes good s.
-        let e = same_run h k in
-        run_along (e.0, e.1, e.2) (record { program = p; comes = comes; compiled = good; observation = o; seen = s; status_is = refl; out_is = refl; err_is = refl }))
+        (λ workers' budget' log' files' texts' p o h comes good s. run_along (same_setting h k) (record { program = p; comes = comes; compiled = good; observation = o; seen = s; status_is = refl; out_is = refl; err_is = refl }))
         (λ script listing watch files' texts' s p h read comes good w. has_apart words shelf k h refl)
         (λ d texts' text p h comes good is. absurd (never_run d (telling d p text is) (same_command h k)))
 
@@ -384,7 +448,7 @@ module _ (words : List (List ℕ)) (shelf : ShelfUse) (tells : Tells shelf) wher
     replays_it {probes} {status} {out} {err} {script} {listing} {watch} {files} {texts} s c k read ok =
         if_takes (IsReplayOf watch probes s texts) c (to_replay s k read)
         (λ r comes. absurd (never_accepted texts r comes ok))
-        (λ workers budget log files' texts' p o h comes good seen. has_apart words shelf h k refl)
+        (λ workers budget log files' texts' p o h comes good seen. runs_apart words shelf h k)
         (λ script' listing' watch' files' texts' s' p h read' comes good w.
         let same = same_script s s' k read h read' in
         replay_along (same_replay h k).1 (record {
@@ -409,7 +473,7 @@ module _ (words : List (List ℕ)) (shelf : ShelfUse) (tells : Tells shelf) wher
     tells_it {c} {texts} cause t k ok =
         if_takes (IsTextOf c texts) cause (takes_telling words shelf c t k)
         (λ r comes. absurd (never_accepted texts r comes ok))
-        (λ workers budget log files' texts' p o h comes good seen. absurd (never_run c t (same_command k h)))
+        (λ workers budget log files' texts' p o h comes good seen. runs_told words shelf c t h k)
         (λ script listing watch files' texts' s p h read comes good w. absurd (never_replay c t (same_command k h)))
         (λ d texts' text p h comes good is. record { program = p; comes = comes; is = subst (λ x. IsToldBy x p text) (same_command h k) is; status_is = refl; err_is = refl })
 
@@ -448,7 +512,7 @@ module _ (call : Call) (tells : Tells call.shelf) (calm : ¬ ShelfFailed call.sh
   ten_if (too_long {c} h v n) k = not_long call.words call.shelf tells (record { command = c; asks = h; comes = n }) (of_has call.words call.shelf k.has)
   ten_if (bad_script x h n) k = refl
   ten_if (refused r t comes) k = no_bad call.words call.shelf tells k.error t k.has k.refused
-  ten_if (ran p o h comes good s) k = has_apart call.words call.shelf h k.has refl
+  ten_if (ran p o h comes good s) k = runs_apart call.words call.shelf h k.has
   ten_if (ran_by s p h read comes good w) k = no_bad call.words call.shelf tells k.error (to_replay s h read) k.has k.refused
   ten_if (told {c} {text} p h comes good is) k = absurd (never_replay c (telling c p text is) (same_command call.words call.shelf tells h k.has))
 
@@ -458,7 +522,7 @@ module _ (call : Call) (tells : Tells call.shelf) (calm : ¬ ShelfFailed call.sh
   seen_if n Such m c same (in_replay {texts} s p h read comes such) =
       if_takes call.words call.shelf tells calm (λ k out err. k ≡ n) c (to_replay s h read)
       (λ r comes'. absurd (never_accepted texts r comes' (record { program = p; comes = comes })))
-      (λ workers budget log files' texts' q o k comes' good seen. has_apart call.words call.shelf k h refl)
+      (λ workers budget log files' texts' q o k comes' good seen. runs_apart call.words call.shelf k h)
       (λ script listing watch files' texts' z q k read' comes' good w.
       let same_program = one_program texts p q comes comes' in
       let script_is = same_script call.words call.shelf tells z s k read' h read in
@@ -476,6 +540,20 @@ module _ (call : Call) (answered : IsUndisturbed call → Answered call) (in_par
   shows workers budget log files texts k u =
       let a = answered u in
       let r = runs_it call.words call.shelf k.tells k.worked a.cause k.has k.accepted in
+      record {
+        program = r.program;
+        comes = r.comes;
+        observation = r.observation;
+        seen = r.seen;
+        status = r.status_is;
+        on_out = subst (GotWhole call.out) r.out_is a.on_out;
+        on_err = subst (GotWhole call.err) r.err_is a.on_err;
+      }
+
+  shows_pairs : (workers pairs : ℕ) → Asks call.words (Gen workers pairs) → IsAccepted (gen_texts pairs) → IsUndisturbed call → ShowsTexts call workers default_budget false (gen_texts pairs)
+  shows_pairs workers pairs asked ok u =
+      let a = answered u in
+      let r = generates_it call.words call.shelf workers pairs asked a.cause ok in
       record {
         program = r.program;
         comes = r.comes;
@@ -571,6 +649,11 @@ module _ (call : Call) (answered : IsUndisturbed call → Answered call) (in_par
       let s = shows workers budget log files texts k u in
       (subst IsRunStatus (sym s.status) (run_status workers budget s.program s.observation s.seen), s)
 
+  pairs_answer : (workers pairs : ℕ) → Asks call.words (Gen workers pairs) → IsAccepted (gen_texts pairs) → IsUndisturbed call → IsRunStatus call.status × ShowsTexts call workers default_budget false (gen_texts pairs)
+  pairs_answer workers pairs asked ok u =
+      let s = shows_pairs workers pairs asked ok u in
+      (subst IsRunStatus (sym s.status) (run_status workers default_budget s.program s.observation s.seen), s)
+
   replay_answer : (s : Script) (script listing : List ℕ) (watch : Bool) (files texts : List (List ℕ)) → IsAsked call (Replay script watch files) (listing ∷ texts) texts → IsScript listing s → IsUndisturbed call → IsReplayStatus call.status × ShowsReplay call watch s texts
   replay_answer s script listing watch files texts k read u =
       let r = shows_replay s script listing watch files texts k read u in (subst IsReplayStatus (sym r.status) (replay_status r.program s), r)
@@ -602,6 +685,8 @@ module _ (call : Call) (answered : IsUndisturbed call → Answered call) (in_par
     answers = answered;
     headline = shows;
     complete = λ workers budget log files texts k worked. whole_or_memory (IsRunStatus call.status × ShowsTexts call workers budget log texts) worked (run_answer workers budget log files texts k);
+    generates = shows_pairs;
+    generates_complete = λ workers pairs asked ok worked. whole_or_memory (IsRunStatus call.status × ShowsTexts call workers default_budget false (gen_texts pairs)) worked (pairs_answer workers pairs asked ok);
     replays = shows_replay;
     replays_complete = λ s script listing watch files texts k read worked. whole_or_memory (IsReplayStatus call.status × ShowsReplay call watch s texts) worked (replay_answer s script listing watch files texts k read);
     logs = logs;

@@ -1,5 +1,5 @@
 -- The causes of the program's answers.
-use Rattle.std.specs.Prelude.{◌≡◌, ℕ, List, [], ◌∷◌, ◌++◌, Bool, None}
+use Rattle.std.specs.Prelude.{◌≡◌, ℕ, List, [], ◌∷◌, ◌++◌, Bool, false, None}
 use Rattle.aos_base.specs.declared.text.Pos.{Pos}
 use Rattle.aos_base.specs.declared.text.Refusal.{Refusal}
 use Rattle.aos_base.specs.Observation.{Observation}
@@ -12,8 +12,8 @@ use Rattle.aos_script.specs.Listing.{IsScript}
 use Rattle.aos_script.specs.Refusals.{IsRefused as IsRefusedScript}
 use Rattle.aos_symbols.specs.Outcome.{went, refused as refused_by}
 use Rattle.aos_compile.specs.Elaborates.{ComesTo, names_of}
-use Rattle.aos_words.specs.Words.{Words, Command, Run, Replay, Check, List_, command_of, Asks}
-use Rattle.aos.specs.Wanted.{Wanted, wanted_files, IsWanted, name_of}
+use Rattle.aos_words.specs.Words.{Words, Command, Run, Replay, Check, List_, Gen, command_of, Asks, default_budget}
+use Rattle.aos.specs.Wanted.{Wanted, wanted_files, IsWanted, gen_files, gen_texts, name_of}
 use Rattle.aos.specs.Call.{ShelfUse, SinkUse, ProbesUse, Call, ShelfFailed, SinkFailed}
 use Rattle.aos.specs.Call.{GotWhole, GotPart, GotNothing}
 use Rattle.aos.specs.Fetched.{NoFile, LongFile, Fetches, AreHad, Had}
@@ -31,12 +31,23 @@ pub record Has (words : Words) (shelf : ShelfUse) (c : Command) (all : List (Lis
   pub asks : Asks words c
   pub had : Had shelf.texts (wanted_files c) all
 
+-- The words are a command that runs the modules of these files, which have these texts, by so many
+-- workers with a budget, and tells the log of the run or not. It fetches the files, or it generates
+-- the one module and fetches nothing.
+pub data Runs (words : Words) (shelf : ShelfUse)
+    : (workers budget : ℕ) (log : Bool) (files : Words) (texts : List (List ℕ)) → Type 0 where
+  of_files : {workers budget : ℕ} {log : Bool} {files texts : List (List ℕ)}
+      → Has words shelf (Run workers budget log files) texts
+      → Runs words shelf workers budget log files texts
+  of_pairs : {workers pairs : ℕ} → Has words shelf (Gen workers pairs) []
+      → Runs words shelf workers default_budget false gen_files (gen_texts pairs)
+
 -- the words are a command whose modules are these files, which have these texts; where it has a
 -- script, that is one
 pub data Takes (words : Words) (shelf : ShelfUse)
     : (files : Words) → (texts : List (List ℕ)) → Type 0 where
   to_run : {workers budget : ℕ} {log : Bool} {files texts : List (List ℕ)}
-      → Has words shelf (Run workers budget log files) texts → Takes words shelf files texts
+      → Runs words shelf workers budget log files texts → Takes words shelf files texts
   to_replay : {script listing : List ℕ} {watch : Bool} {files texts : List (List ℕ)} (s : Script)
       → Has words shelf (Replay script watch files) (listing ∷ texts) → IsScript listing s
       → Takes words shelf files texts
@@ -76,7 +87,7 @@ pub data Cause (words : Words) (shelf : ShelfUse) (probes : ProbesUse)
       → Cause words shelf probes 1 [] (refusal_text (name_of files r.file) r.rule r.pos)
   -- the texts have a program, which is run by workers
   ran : {workers budget : ℕ} {log : Bool} {files texts : List (List ℕ)}
-      (p : Program) (o : Observation) → Has words shelf (Run workers budget log files) texts
+      (p : Program) (o : Observation) → Runs words shelf workers budget log files texts
       → ComesTo texts (went p) → IsCompiled p → (seen : Seen workers budget p o)
       → Cause words shelf probes o.status o.output
       (run_report log (names_of p) (script_of workers budget seen.schedule) o)

@@ -12,8 +12,8 @@ use Rattle.aos_symbols.specs.Outcome.{Outcome, went, refused}
 use Rattle.aos_compile.specs.Elaborates.{ComesTo, IsAccepted, names_of}
 use Rattle.aos_sim.specs.Monitors.{HasMonitors}
 use Rattle.aos_lasting.specs.Lasts.{Lasts}
-use Rattle.aos_words.specs.Words.{Words, Command, Run, Replay, command_of, Asks}
-use Rattle.aos.specs.Wanted.{wanted_files, name_of}
+use Rattle.aos_words.specs.Words.{Words, Command, Run, Replay, Gen, command_of, Asks, default_budget}
+use Rattle.aos.specs.Wanted.{wanted_files, gen_texts, name_of}
 use Rattle.aos.specs.Call.{SinkUse, Call, Tells, ShelfFailed, GotWhole, GotNothing, SinksWorked}
 use Rattle.aos.specs.Call.{IsUndisturbed}
 use Rattle.aos.specs.Fetched.{NoFile, LongFile, Fetches}
@@ -22,7 +22,7 @@ use Rattle.aos.specs.Seen.{Seen, replay_of, replay_events, script_of}
 use Rattle.aos.specs.Seen.{EndsWell, EndsWithTrap, IsDead, IsSpent, IsGoing}
 use Rattle.aos.specs.Told.{IsToldBy, IsTelling}
 use Rattle.aos.specs.Watched.{Watched, watch_text}
-use Rattle.aos.specs.Cause.{Has, Takes, Answered, AnsweredInPart}
+use Rattle.aos.specs.Cause.{Has, Runs, Takes, Answered, AnsweredInPart}
 
 -- the status of a run that is over: ended without a trap, ended with one, dead, or spent
 abbrev pub IsRunStatus : ℕ → Type 0
@@ -120,7 +120,7 @@ module _ (call : Call) where
   -- under the script
   pub data IsSeen (Such : Observation → Type 0) : Type 0 where
     in_run : {workers budget : ℕ} {log : Bool} {files texts : List (List ℕ)}
-        → Has call.words call.shelf (Run workers budget log files) texts
+        → Runs call.words call.shelf workers budget log files texts
         → (shown : ShowsTexts workers budget log texts) → Such shown.observation → IsSeen Such
     in_replay : {script listing : List ℕ} {watch : Bool} {files texts : List (List ℕ)} (s : Script)
         (p : Program)
@@ -153,6 +153,18 @@ module _ (call : Call) where
       (workers budget : ℕ) (log : Bool) (files : Words) (texts : List (List ℕ))
       → IsAsked (Run workers budget log files) texts texts → SinksWorked call
       → (call.status ≡ 8) ⊎ (IsRunStatus call.status × ShowsTexts workers budget log texts)
+
+  -- the module is generated, so nothing is asked of the shelf
+  abbrev pub Generates : Type 0
+  Generates =
+      (workers pairs : ℕ) → Asks call.words (Gen workers pairs) → IsAccepted (gen_texts pairs)
+      → IsUndisturbed call → ShowsTexts workers default_budget false (gen_texts pairs)
+
+  abbrev pub GeneratesComplete : Type 0
+  GeneratesComplete =
+      (workers pairs : ℕ) → Asks call.words (Gen workers pairs) → IsAccepted (gen_texts pairs)
+      → SinksWorked call → (call.status ≡ 8)
+      ⊎ (IsRunStatus call.status × ShowsTexts workers default_budget false (gen_texts pairs))
 
   abbrev pub Replays : Type 0
   Replays =
@@ -231,6 +243,11 @@ pub record Promises (call : Call) : Type 0 where
   pub headline : Headline call
   -- and where no count rose, that is the answer, or memory was wanted
   pub complete : Complete call
+  -- the generated module of so many pairs is run so with the budget that a run has where the words
+  -- don't say
+  pub generates : Generates call
+  -- and where no sink failed, that is the answer, or memory was wanted
+  pub generates_complete : GeneratesComplete call
   -- by a script: they are those of the execution of the texts' program under the script; where the
   -- probes watch, each was told its events, and else none was told any
   pub replays : Replays call

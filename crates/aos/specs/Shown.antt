@@ -47,7 +47,7 @@ use Rattle.aos.specs.Report.{report, run_report, replay_report}
 use Rattle.aos.specs.Seen.{script_of}
 use Rattle.aos.specs.Told.{IsToldBy}
 use Rattle.aos.specs.Watched.{Watched, watch_text}
-use Rattle.aos.specs.Cause.{IsCompiled, Cause, PutInPart, whole}
+use Rattle.aos.specs.Cause.{Runs, IsCompiled, Cause, PutInPart, whole}
 
 -- What is seen of an image and of a kernel
 
@@ -185,6 +185,12 @@ ServesTexts c all a =
 abbrev pub ServesTextsWith : Command → List (List ℕ) → ProbesUse → Answer → Type 0
 ServesTextsWith c all probes a =
     (shelf : ShelfUse) → Had shelf.texts (wanted_files c) all → ServesWith c shelf probes a
+
+-- it has one wherever the words are a command that so runs the modules of files that have these texts
+abbrev pub ServesRun : Setting → (files : Words) → (texts : List (List ℕ)) → Answer → Type 0
+ServesRun s files texts a =
+    (words : Words) (shelf : ShelfUse) (probes : ProbesUse)
+    → Runs words shelf s.workers s.budget s.log files texts → Causes words shelf probes a
 
 -- texts as lists of bytes
 abbrev pub texts_of : List (Vec ℕ Global) → List (List ℕ)

@@ -6,7 +6,7 @@ use Rattle.aos_guard.specs.Awaits.{TellsEach, AreInOrder}
 use Rattle.aos_listing.specs.Listing.{listing}
 use Rattle.aos_report.specs.Texts.{awaits_text, lines_text}
 use Rattle.aos_compile.specs.Elaborates.{names_of}
-use Rattle.aos_words.specs.Words.{Command, Run, Replay, Check, List_}
+use Rattle.aos_words.specs.Words.{Command, Run, Replay, Check, List_, Gen}
 
 -- the lines of the program's AWAITs, each once, with whether its condition is local: the modules in
 -- load order, and in each in the order of the text
@@ -26,6 +26,7 @@ IsToldBy (Run workers budget log files) p text = ⊥
 IsToldBy (Replay script watch files) p text = ⊥
 IsToldBy (Check files) p text = IsCheckOf p text
 IsToldBy (List_ files) p text = IsLayoutOf p text
+IsToldBy (Gen workers pairs) p text = ⊥
 
 -- a command that tells of programs, and runs nothing
 abbrev pub IsTelling : Command → Type 0
@@ -33,3 +34,4 @@ IsTelling (Run workers budget log files) = ⊥
 IsTelling (Replay script watch files) = ⊥
 IsTelling (Check files) = Unit {0}
 IsTelling (List_ files) = Unit {0}
+IsTelling (Gen workers pairs) = ⊥

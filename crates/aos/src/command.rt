@@ -2,22 +2,23 @@
 
 ghost use Rattle.std.specs.Prelude.{◌≡◌, ◌≤◌, ◌^◌, [], ◌∷◌, length, map, IfOk};
 ghost use Rattle.aos_script.specs.Listing.{IsScript};
-ghost use Rattle.aos_words.specs.Words.{Run, Replay, words_of, borrowed, AreFew, IsInRange};
+ghost use Rattle.aos_words.specs.Words.{Run, Replay, Gen, words_of, borrowed, AreFew, GenInRange, IsInRange, most_pairs};
 ghost use Rattle.aos_words.specs.Shown.{command_in};
 ghost use Rattle.aos.specs.Call.{shelf_use, probes_use};
-ghost use Rattle.aos.specs.Wanted.{script_limit};
+ghost use Rattle.aos.specs.Wanted.{script_limit, gen_texts};
 ghost use Rattle.aos.specs.Report.{script_line};
 ghost use Rattle.aos.specs.Shown.{IsAnswer, IsSet, texts_of, AreTexts, asks_for};
-ghost use Rattle.aos.specs.Shown.{Causes, Serves, ServesWith, ServesTexts, ServesTextsWith};
+ghost use Rattle.aos.specs.Shown.{Causes, Serves, ServesWith, ServesRun, ServesTexts, ServesTextsWith};
 
 use crate::answer::{Answer, message};
 use crate::compiled::{Compiled, compile_texts};
-use crate::fetch::{FetchedFile, FetchedFiles, fetch_file, fetch_files};
+use crate::fetch::{FetchedFile, FetchedFiles, fetch_file, fetch_files, keep};
 use crate::run::{Setting, replay_image, run_image};
 use crate::telling::{Telling, tell_program};
 use aos_base::NoMemory;
 use aos_dev::Shelf;
 use aos_gate::Gate;
+use aos_gen::{file_name, module_text};
 use aos_probe::Probe;
 use aos_report::{no_worker, script_refused, usage};
 use aos_script::{Script, ScriptErr, read_script};
@@ -28,6 +29,9 @@ use std::thread::Threads;
 
 // The most bytes of a script.
 const SCRIPT_LIMIT: u64 = 67_108_864;
+
+// How many statements an activity of a generated module may begin.
+const GEN_BUDGET: u64 = 1_000_000;
 
 // The refusal of a text that is no script.
 fn refuse_script(alloc: Global, e: ScriptErr) -> Result<Answer, NoMemory>
@@ -52,14 +56,45 @@ fn run_texts<R: Threads + Wait + Sync, G: Gate + Sync>(
 ) -> Result<Answer, NoMemory>
     requires set { IsSet setting }
     requires texts { AreTexts texts.now }
-    ensures { IfOk result (ServesTexts
-        (Run setting.workers setting.budget setting.log (borrowed files.now))
-        (texts_of texts.now)) }
+    ensures { IfOk result
+        (ServesRun setting (borrowed files.now) (texts_of texts.now)) }
 {
     match compile_texts(alloc, files, texts)? {
         Compiled::Went(program, image) => run_image(rt, alloc, image, setting, gate),
         Compiled::Stopped(answer) => Ok(answer),
     }
+}
+
+// The text of the generated module of so many pairs, as the only one.
+fn generated_texts(alloc: Global, pairs: u32) -> Result<Vec<Vec<u8>>, NoMemory>
+    requires { pairs ≤ most_pairs }
+    ensures texts { IfOk result (λ texts. AreTexts texts.items) }
+    ensures made { IfOk result (λ texts. texts_of texts.items ≡ gen_texts pairs) }
+{
+    let text = module_text(alloc, pairs)?;
+    let mut texts = Vec::new(alloc);
+    keep(&mut texts, text)?;
+    Ok(texts)
+}
+
+// The answer where the words ask for a run of the generated module of so many pairs.
+fn run_pairs<R: Threads + Wait + Sync, G: Gate + Sync>(
+    rt: &R,
+    alloc: Global,
+    workers: u32,
+    pairs: u32,
+    gate: &G,
+) -> Result<Answer, NoMemory>
+    requires { GenInRange workers pairs }
+    ensures { IfOk result (ServesTexts (Gen workers pairs) []) }
+{
+    let setting = Setting {
+        workers,
+        budget: GEN_BUDGET,
+        log: false,
+    };
+    let texts = generated_texts(alloc, pairs)?;
+    run_texts(rt, alloc, setting, &[file_name()], &texts, gate)
 }
 
 // The answer where the words ask for a run of these files.
@@ -223,6 +258,7 @@ fn serve<R: Threads + Wait + Sync, F: Shelf, G: Gate + Sync>(
         } => replay_files(alloc, script, watch, &files, shelf, probes),
         Command::Check(files) => tell_files(alloc, Telling::Locals, &files, shelf),
         Command::List(files) => tell_files(alloc, Telling::Layout, &files, shelf),
+        Command::Gen { workers, pairs } => run_pairs(rt, alloc, workers, pairs, gate),
     }
 }
 

@@ -61,7 +61,7 @@ pub fn fetch_file<F: Shelf>(
 }
 
 // Puts a text behind those before it.
-fn keep(texts: &mut Vec<Vec<u8>>, text: Vec<u8>) -> Result<(), AllocError>
+pub fn keep(texts: &mut Vec<Vec<u8>>, text: Vec<u8>) -> Result<(), AllocError>
     ensures { OnOk result (texts.new.items ≡ texts.old.items ++ text ∷ []) }
 {
     texts.push(text)?;

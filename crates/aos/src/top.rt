@@ -53,6 +53,8 @@ fn put_answer<O: Sink, E: Sink>(answer: &Answer, out: &mut O, err: &mut E) -> u8
 /// once and as it happens, and a line for each probe with its total follows the reports.
 /// `check FILE ..`: the texts are checked and compiled, and `out` gets a line for each AWAIT, which
 /// says whether its condition is local. `list FILE ..`: it gets the storage layout.
+/// `gen [--workers n] N`: the generated module of 1 to 500 pairs is run as `run` does, and the shelf is
+/// asked for nothing.
 ///
 /// The status is 0 where the run ended or the program was told of, 3 where the run ended with a trap,
 /// 4 where activities are left that haven't ended and each of them waits for a lock, to enter a

@@ -39,6 +39,7 @@ fn text_of(alloc: Global, command: &Command<'_>) -> Result<String, AllocError> {
         }
         Command::Check(files) => format!(in alloc; "check {files:?}"),
         Command::List(files) => format!(in alloc; "list {files:?}"),
+        Command::Gen { workers, pairs } => format!(in alloc; "gen {workers} {pairs}"),
     }
 }
 

@@ -8,10 +8,10 @@ use Rattle.clap.specs.Simple.{App}
 use Rattle.clap.specs.Walk.{Row, Text, all_of, first_of}
 use Rattle.aos_words.specs.declared.command.WordsErr.{WordsErr}
 use Rattle.aos_words.specs.declared.command.Command.{Command as Given}
-use Rattle.aos_words.specs.Forms.{run_form, replay_form, files_form}
+use Rattle.aos_words.specs.Forms.{run_form, replay_form, files_form, gen_form}
 use Rattle.aos_words.specs.Number.{is_number, number_in}
 use Rattle.aos_words.specs.Shown.{AnswersBy, command_in}
-use Rattle.aos_words.specs.Words.{Words, Run, Replay, Check, List_, most_workers, most_budget, default_budget, most_files, number_or, workers_of, budget_of, is_set, few, files_of, run_of, replay_of, check_of, list_of, taken, by, command_by, command_of, IsWithin, AreFew, IsInRange}
+use Rattle.aos_words.specs.Words.{Words, Run, Replay, Check, List_, Gen, most_workers, most_budget, default_budget, most_files, most_pairs, number_or, workers_of, budget_of, is_set, few, files_of, pairs_of, run_of, replay_of, check_of, list_of, gen_of, taken, by, command_by, command_of, IsWithin, AreFew, IsInRange}
 
 -- Options
 
@@ -58,6 +58,10 @@ workers rows = number_or_default 1 most_workers 1 (first_of (codes "workers") ro
 budget : (rows : List Row) → IfSome (budget_of rows) (IsWithin 1 most_budget)
 budget rows = number_or_default 1 most_budget default_budget (first_of (codes "budget") rows) (omega arith, omega arith)
 
+pairs : (rows : List Row) → IfSome (pairs_of rows) (IsWithin 1 most_pairs)
+pairs rows =
+    and_then (λ _. ⊤) (IsWithin 1 most_pairs) (number_in 1 most_pairs) (first_of (codes "N") rows) (any (first_of (codes "N") rows)) (λ word _. number 1 most_pairs word)
+
 few_files : (files : Words) → IfSome (few files) AreFew
 few_files files = some_if AreFew (nat_le 1 (length files) && nat_le (length files) most_files) files (λ e. within 1 most_files (length files) e)
 
@@ -78,6 +82,11 @@ replay rows =
     and_then (λ _. ⊤) IsInRange _ (first_of (codes "script") rows) (any (first_of (codes "script") rows))
     (λ script _. mapped AreFew IsInRange (λ fs. Replay script (is_set (codes "watch") rows) fs) (files_of rows) (files rows) (λ fs f. f))
 
+generate : (rows : List Row) → IfSome (gen_of rows) IsInRange
+generate rows =
+    and_then (IsWithin 1 most_workers) IsInRange _ (workers_of rows) (workers rows)
+    (λ n w. mapped (IsWithin 1 most_pairs) IsInRange (λ m. Gen n m) (pairs_of rows) (pairs rows) (λ m p. record { workers_in = w; pairs_in = p }))
+
 by_form : {A : Type 0} (P : A → Type 0) (form : App) (made : List Row → Option A) (words : Words) → ((rows : List Row) → IfSome (made rows) P) → IfSome (by form made words) P
 by_form P form made words k = and_then (λ _. ⊤) P made (taken form words) (any (taken form words)) (λ rows _. k rows)
 
@@ -96,7 +105,8 @@ by_name name words =
     either IsInRange (bytes_eq name (codes "run")) _ _ (by_form IsInRange run_form run_of words run)
     (either IsInRange (bytes_eq name (codes "replay")) _ _ (by_form IsInRange replay_form replay_of words replay)
     (either IsInRange (bytes_eq name (codes "check")) _ _ (check words)
-    (either IsInRange (bytes_eq name (codes "list")) _ None (list words) tt)))
+    (either IsInRange (bytes_eq name (codes "list")) _ _ (list words)
+    (either IsInRange (bytes_eq name (codes "gen")) _ None (by_form IsInRange gen_form gen_of words generate) tt))))
 
 in_range : (words : Words) → IfSome (command_of words) IsInRange
 in_range [] = tt

@@ -24,6 +24,10 @@ files_rule = record (new_rule (codes "FILE")) {
   range = Some (record { start_inclusive = 1; end_inclusive = usize_max });
 }
 
+-- N, one word
+abbrev pub number_rule : Rule
+number_rule = record (new_rule (codes "N")) { required = true }
+
 -- run [--workers n] [--budget b] [--log] FILE...
 abbrev pub run_form : App
 run_form =
@@ -40,3 +44,8 @@ replay_form =
 -- NAME FILE...
 abbrev pub files_form : Text → App
 files_form name = with_rule (new_app name) files_rule
+
+-- gen [--workers n] N
+abbrev pub gen_form : App
+gen_form =
+    with_rule (with_rule (new_app (codes "gen")) (option_rule (codes "workers"))) number_rule

@@ -10,7 +10,7 @@ use Rattle.clap.specs.Walk.{Row, Text, all_of, first_of, is_empty}
 use Rattle.clap.specs.Simple.{App, matches_of}
 use Rattle.clap.specs.Faults.{fault_of}
 use Rattle.aos_words.specs.Number.{number_in}
-use Rattle.aos_words.specs.Forms.{run_form, replay_form, files_form}
+use Rattle.aos_words.specs.Forms.{run_form, replay_form, files_form, gen_form}
 
 -- words, each of them bytes
 abbrev pub Words : Type 0
@@ -25,12 +25,14 @@ borrowed words = map (λ w. w.now) words
 
 -- a command: to run files with so many workers and a budget, and to tell the log of that run or not,
 -- to run them by a script, and to tell what its probes saw or not, to tell which of their conditions
--- are local, or to tell their storage layout
+-- are local, or to tell their storage layout; or to run the generated module of so many pairs with so
+-- many workers
 pub data Command : Type 0 where
   Run : (workers budget : ℕ) → (log : Bool) → (files : Words) → Command
   Replay : (script : List ℕ) → (watch : Bool) → (files : Words) → Command
   Check : (files : Words) → Command
   List_ : (files : Words) → Command
+  Gen : (workers pairs : ℕ) → Command
 
 abbrev pub most_workers : ℕ
 most_workers = 16
@@ -43,6 +45,9 @@ default_budget = 1000000
 
 abbrev pub most_files : ℕ
 most_files = 64
+
+abbrev pub most_pairs : ℕ
+most_pairs = 500
 
 -- What clap finds under the names of a command
 
@@ -80,6 +85,14 @@ replay_of rows =
     Replay script (is_set (codes "watch") rows) files)
     (files_of rows)) (first_of (codes "script") rows)
 
+abbrev pub pairs_of : List Row → Option ℕ
+pairs_of rows = option_and_then (number_in 1 most_pairs) (first_of (codes "N") rows)
+
+abbrev pub gen_of : List Row → Option Command
+gen_of rows =
+    option_and_then (λ workers. option_map (λ pairs. Gen workers pairs) (pairs_of rows))
+    (workers_of rows)
+
 -- The command that words are
 
 -- what clap finds in words for a simple command, the first of which stands for the program's name;
@@ -103,6 +116,7 @@ command_by name words =
     else if bytes_eq name (codes "replay") then by replay_form replay_of words
     else if bytes_eq name (codes "check") then check_of words
     else if bytes_eq name (codes "list") then list_of words
+    else if bytes_eq name (codes "gen") then by gen_form gen_of words
     else None
 
 -- the command that words are; None where they are none
@@ -127,9 +141,14 @@ pub record RunsInRange (workers budget : ℕ) (files : Words) : Type 0 where
   pub budget_in : IsWithin 1 most_budget budget
   pub files_in : AreFew files
 
+pub record GenInRange (workers pairs : ℕ) : Type 0 where
+  pub workers_in : IsWithin 1 most_workers workers
+  pub pairs_in : IsWithin 1 most_pairs pairs
+
 -- its numbers are in their ranges
 abbrev pub IsInRange : Command → Type 0
 IsInRange (Run workers budget log files) = RunsInRange workers budget files
 IsInRange (Replay script watch files) = AreFew files
 IsInRange (Check files) = AreFew files
 IsInRange (List_ files) = AreFew files
+IsInRange (Gen workers pairs) = GenInRange workers pairs

@@ -2,7 +2,7 @@
 
 use std::alloc::AllocError;
 
-/// What words ask for. There are 1 to 64 files.
+/// What words ask for. Where there are files, they are 1 to 64.
 #[derive(Drop)]
 pub enum Command<'a> {
     /// To run these files with 1 to 16 workers and a budget of 1 to 10^9, and to tell the log of the run or not.
@@ -22,6 +22,11 @@ pub enum Command<'a> {
     Check(Vec<&'a str>),
     /// To tell the storage layout of these files.
     List(Vec<&'a str>),
+    /// To run the generated module of 1 to 500 pairs with 1 to 16 workers.
+    Gen {
+        workers: u32,
+        pairs: u32,
+    },
 }
 
 /// Why words ask for nothing.

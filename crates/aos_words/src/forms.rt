@@ -3,8 +3,8 @@
 ghost use Rattle.std.specs.Prelude.{◌≡◌, false, IfOk};
 ghost use Rattle.clap.specs.Walk.{rule_of};
 ghost use Rattle.clap.specs.Simple.{app_of};
-ghost use Rattle.aos_words.specs.Forms.{option_rule, required_rule, flag_rule, files_rule};
-ghost use Rattle.aos_words.specs.Forms.{run_form, replay_form, files_form};
+ghost use Rattle.aos_words.specs.Forms.{option_rule, required_rule, flag_rule, files_rule, number_rule};
+ghost use Rattle.aos_words.specs.Forms.{run_form, replay_form, files_form, gen_form};
 
 use clap::{Arg, ArgAction, Command};
 use std::alloc::{AllocError, Global};
@@ -41,6 +41,14 @@ fn files<'a>(alloc: Global) -> Arg<'a>
     Arg::new(alloc, "FILE").required(true).num_args(1..)
 }
 
+// `N`
+fn number<'a>(alloc: Global) -> Arg<'a>
+    ensures rule { rule_of result ≡ number_rule }
+    ensures local { result.global ≡ false }
+{
+    Arg::new(alloc, "N").required(true)
+}
+
 /// `run [--workers n] [--budget b] [--log] FILE...`
 pub fn run_form<'a>(alloc: Global) -> Result<Command<'a>, AllocError>
     ensures { IfOk result (λ c. app_of c ≡ run_form) }
@@ -67,4 +75,13 @@ pub fn files_form<'a>(alloc: Global, name: &'a str) -> Result<Command<'a>, Alloc
     ensures { IfOk result (λ c. app_of c ≡ files_form name.entry.now) }
 {
     Command::new(alloc, name).arg(files(alloc))
+}
+
+/// `gen [--workers n] N`
+pub fn gen_form<'a>(alloc: Global) -> Result<Command<'a>, AllocError>
+    ensures { IfOk result (λ c. app_of c ≡ gen_form) }
+{
+    Command::new(alloc, "gen")
+        .arg(option(alloc, "workers"))?
+        .arg(number(alloc))
 }

@@ -3,7 +3,7 @@
 ghost use Rattle.std.specs.Prelude.{◌≡◌, ◌≤◌, option_map, IfSome};
 ghost use Rattle.clap.specs.Walk.{all_of, first_of, rows_of};
 ghost use Rattle.clap.specs.Matches.{found_of};
-ghost use Rattle.aos_words.specs.Words.{borrowed, number_or, workers_of, budget_of, is_set, files_of};
+ghost use Rattle.aos_words.specs.Words.{borrowed, number_or, workers_of, budget_of, is_set, files_of, pairs_of};
 ghost use Rattle.aos_words.specs.Shown.{AnswersBy};
 
 use crate::command::WordsErr;
@@ -19,6 +19,9 @@ const MOST_BUDGET: u64 = 1_000_000_000;
 
 // How many it may begin where the words don't say.
 const DEFAULT_BUDGET: u64 = 1_000_000;
+
+// The most pairs of a generated module.
+const MOST_PAIRS: u64 = 500;
 
 // The most files of a command.
 const MOST_FILES: usize = 64;
@@ -71,6 +74,19 @@ pub fn budget(matches: &ArgMatches<'_>) -> Option<u64>
         MOST_BUDGET,
         DEFAULT_BUDGET,
     )
+}
+
+/// How many pairs a generated module has.
+pub fn pairs(matches: &ArgMatches<'_>) -> Option<u32>
+    ensures { result ≡ pairs_of (rows_of (found_of matches.now)) }
+{
+    let Some(word) = first_word(matches, "N") else {
+        return None;
+    };
+    match number_in(word, 1, MOST_PAIRS) {
+        Some(pairs) => Some(pairs as u32),
+        None => None,
+    }
 }
 
 /// Whether an option that has no value is there. Clap's own call for it says nothing of other texts than `true` and `false`.

@@ -5,15 +5,15 @@ ghost use Rattle.clap.specs.Walk.{rows_of};
 ghost use Rattle.clap.specs.Matches.{found_of};
 ghost use Rattle.clap.specs.Simple.{app_of};
 ghost use Rattle.clap.specs.Faults.{is_simple_and_free};
-ghost use Rattle.aos_words.specs.Forms.{run_form, replay_form, files_form};
+ghost use Rattle.aos_words.specs.Forms.{run_form, replay_form, files_form, gen_form};
 ghost use Rattle.aos_words.specs.Words.{words_of, borrowed, taken, by, IsInRange};
-ghost use Rattle.aos_words.specs.Words.{run_of, replay_of, files_of, check_of, list_of};
+ghost use Rattle.aos_words.specs.Words.{run_of, replay_of, files_of, check_of, list_of, gen_of};
 ghost use Rattle.aos_words.specs.Words.{command_by, command_of};
 ghost use Rattle.aos_words.specs.Shown.{command_in, AnswersBy};
 
 use crate::command::{Command, WordsErr};
-use crate::forms::{files_form, replay_form, run_form};
-use crate::found::{budget, files, first_word, is_set, workers};
+use crate::forms::{files_form, gen_form, replay_form, run_form};
+use crate::found::{budget, files, first_word, is_set, pairs, workers};
 use clap::ArgMatches;
 use clap::error::ErrorKind;
 use std::alloc::Global;
@@ -67,6 +67,19 @@ fn replay<'a>(alloc: Global, matches: &ArgMatches<'a>) -> Result<Command<'a>, Wo
     })
 }
 
+// The run of a generated module that was found.
+fn generate<'a>(matches: &ArgMatches<'a>) -> Result<Command<'a>, WordsErr>
+    ensures { AnswersBy command_in (gen_of (rows_of (found_of matches.now))) result }
+{
+    let Some(workers) = workers(matches) else {
+        return Err(WordsErr::Refused);
+    };
+    let Some(pairs) = pairs(matches) else {
+        return Err(WordsErr::Refused);
+    };
+    Ok(Command::Gen { workers, pairs })
+}
+
 // The run that the words are.
 fn read_run<'a>(alloc: Global, words: &'a [String]) -> Result<Command<'a>, WordsErr>
     ensures { AnswersBy command_in (by run_form run_of (words_of words.entry.now)) result }
@@ -116,6 +129,16 @@ fn read_list<'a>(alloc: Global, words: &'a [String]) -> Result<Command<'a>, Word
     Ok(Command::List(read_files(alloc, "list", words)?))
 }
 
+// The run of a generated module that the words are.
+fn read_gen<'a>(alloc: Global, words: &'a [String]) -> Result<Command<'a>, WordsErr>
+    ensures { AnswersBy command_in (by gen_form gen_of (words_of words.entry.now)) result }
+{
+    match take(gen_form(alloc)?, words) {
+        Ok(matches) => generate(&matches),
+        Err(e) => Err(e),
+    }
+}
+
 // The command of this name that the words are, of which it is the first.
 fn read_by<'a>(alloc: Global, name: &str, words: &'a [String]) -> Result<Command<'a>, WordsErr>
     ensures { AnswersBy command_in (command_by name.now (words_of words.entry.now)) result }
@@ -125,6 +148,7 @@ fn read_by<'a>(alloc: Global, name: &str, words: &'a [String]) -> Result<Command
         "replay" => read_replay(alloc, words),
         "check" => read_check(alloc, words),
         "list" => read_list(alloc, words),
+        "gen" => read_gen(alloc, words),
         _ => Err(WordsErr::Refused),
     }
 }

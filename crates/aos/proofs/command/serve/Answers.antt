@@ -1,8 +1,10 @@
-use Rattle.std.proofs.Common.{sym, ap, ◌∙◌, subst}
-use Rattle.aos_words.specs.Words.{Run, Replay, Check, List_, borrowed, AreFew, IsInRange}
+use Rattle.std.proofs.Common.{[], sym, ap, ◌∙◌, subst}
+use Rattle.aos_words.specs.Words.{Run, Replay, Check, List_, Gen, borrowed, AreFew, IsInRange}
 use Rattle.aos_words.specs.Shown.{command_in}
 use Rattle.aos.specs.Call.{shelf_use}
-use Rattle.aos.proofs.Causes.{serves_along, serves_with_along}
+use Rattle.aos.specs.Shown.{Serves, ServesTexts}
+use Rattle.aos.proofs.Causes.{on_answer, serves_along, serves_with_along}
+use Rattle.aos.proofs.Fetching.{none_had}
 use Rattle.aos.proofs.command.serve.Goals as goal
 
 pub run_files-requires-clause-set : goal.run_files-requires-clause-set
@@ -46,3 +48,15 @@ pub returns-in-List : goal.returns-in-List
 returns-in-List g c =
     serves_along (List_ (borrowed c.deref-in-List.result.now)) (command_in c.args.command) (shelf_use g.F.Shelf c.args.shelf.now c.tell_files-in-List.new.shelf) _ c.tell_files-in-List.result
     (ap command_in c.in-List.is ∙ ap (λ fs. List_ (borrowed fs)) (sym c.deref-in-List.ensures.value)) c.tell_files-in-List.ensures
+
+pub run_pairs-requires-after_bounds : goal.run_pairs-requires-after_bounds
+run_pairs-requires-after_bounds g c κs within = subst (λ x. IsInRange (command_in x)) c.in-Gen.is c.requires
+
+pub returns-in-Gen : goal.returns-in-Gen
+returns-in-Gen g c =
+    let made = c.in-Gen in
+    serves_along (Gen made.workers made.pairs) (command_in c.args.command) (shelf_use g.F.Shelf c.args.shelf.now c.args.shelf.now) _ c.run_pairs.result
+    (ap command_in made.is)
+    (on_answer (ServesTexts (Gen made.workers made.pairs) []) (Serves (Gen made.workers made.pairs) (shelf_use g.F.Shelf c.args.shelf.now c.args.shelf.now)) c.run_pairs.result
+    (λ a serves. serves (shelf_use g.F.Shelf c.args.shelf.now c.args.shelf.now) (none_had (g.F.Shelf.texts c.args.shelf.now)))
+    c.run_pairs.ensures)
