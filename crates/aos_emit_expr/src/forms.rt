@@ -197,10 +197,10 @@ fn value_form<'b>(scope: &Scope<'_>, value: &'b TExpr) -> Result<Form<'b>, Alloc
             Ok(Form::One(Rows(rows), Instr::PickLen(*number, dimensions(rows)?)))
         }
         TExpr::LenBehind(rows, length) => Ok(Form::Length(rows, dimensions(rows)?, *length)),
+        TExpr::Function(callee, arguments) => call_form(scope, callee, arguments),
         TExpr::CompareTexts(relation, left, right) => {
             Ok(Form::Two(Rows(left), Rows(right), Instr::CmpText(*relation)))
         }
-        TExpr::Function(callee, arguments) => call_form(scope, callee, arguments),
         TExpr::Unary(operator, operand) => {
             Ok(Form::One(Value(operand), Instr::Unary(*operator)))
         }

@@ -4,6 +4,7 @@ ghost use Rattle.std.specs.Prelude.{◌≡◌, ◌++◌, ◌∷◌, [], IfOk, le
 ghost use Rattle.aos_typed.specs.declared.tree.TArgument.TheVariants as argument;
 
 use crate::place::MadePlace;
+use crate::room::put;
 use crate::rows::MadeRows;
 use crate::typed::Typed;
 use aos_typed::TArgument;
@@ -133,7 +134,7 @@ impl MadeArguments {
     pub fn push(&mut self, argument: MadeArgument) -> Result<(), AllocError>
         ensures { IfOk result (λ _. self.new ≡ self.old ++ argument ∷ []) }
     {
-        self.given.push(argument.take())?;
+        put(&mut self.given, argument.take())?;
         Ok(())
     }
 

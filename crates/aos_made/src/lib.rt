@@ -4,11 +4,13 @@
 mod arguments;
 mod callee;
 mod place;
+mod room;
 mod rows;
 mod typed;
 
 pub use arguments::{MadeArgument, MadeArguments};
 pub use callee::MadeCallee;
 pub use place::MadePlace;
+pub use room::put;
 pub use rows::MadeRows;
 pub use typed::{Look, Typed};

@@ -268,7 +268,7 @@ impl Typed {
         ensures { IfOk result (λ r. seen_expr r ≡
             program.CompareTexts relation (seen_rows a) (seen_rows b)) }
     {
-        Typed::new(alloc, TExpr::CompareTexts(relation, a.take(), b.take()))
+        Typed::new(alloc, TExpr::CompareTexts(relation, a.part(), b.part()))
     }
 
     /// The length of a dimension of an array.

@@ -6,7 +6,7 @@ ghost use Rattle.aos_typed.specs.Seen.{seen_expr, seen_stats};
 ghost use Rattle.aos_made_stat.specs.Onto.{onto};
 
 use crate::stats::MadeStats;
-use aos_made::Typed;
+use aos_made::{Typed, put};
 use aos_typed::TArm;
 use std::alloc::{AllocError, Global};
 use std::marker::Model;
@@ -53,10 +53,11 @@ impl MadeArms {
         ensures { OnOk result ((others : Arms) → onto self.new others ≡
             onto self.old (Arm (seen_expr test) (seen_stats body) others)) }
     {
-        self.row.push(TArm {
+        let arm = TArm {
             test: test.take(),
             body: body.take(),
-        })?;
+        };
+        put(&mut self.row, arm)?;
         Ok(())
     }
 

@@ -5,6 +5,7 @@ ghost use Rattle.aos_typed.specs.Program.{Cases, NoElse, Else, OfLabels};
 ghost use Rattle.aos_typed.specs.Seen.{cases_of, seen_else, seen_stats};
 
 use crate::stats::MadeStats;
+use aos_made::put;
 use aos_typed::{LabelRange, TCase, TElse};
 use std::alloc::{AllocError, Global};
 use std::marker::Model;
@@ -51,10 +52,11 @@ impl MadeCases {
         ensures { OnOk result ((others : Cases) → cases_of self.new others ≡
             cases_of self.old (OfLabels labels.items (seen_stats body) others)) }
     {
-        self.row.push(TCase {
+        let arm = TCase {
             labels,
             body: body.take(),
-        })?;
+        };
+        put(&mut self.row, arm)?;
         Ok(())
     }
 

@@ -2,7 +2,7 @@
 
 ghost use Rattle.std.specs.Prelude.{◌≡◌, ◌++◌, ◌∷◌, [], OnOk};
 
-use aos_made::Typed;
+use aos_made::{Typed, put};
 use aos_typed::TExpr;
 use std::alloc::{AllocError, Global};
 use std::marker::Model;
@@ -47,7 +47,7 @@ impl MadeExprs {
     pub fn push(&mut self, one: Typed) -> Result<(), AllocError>
         ensures { OnOk result (self.new ≡ self.old ++ one ∷ []) }
     {
-        self.row.push(one.take())?;
+        put(&mut self.row, one.take())?;
         Ok(())
     }
 

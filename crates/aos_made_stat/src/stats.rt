@@ -3,6 +3,7 @@
 ghost use Rattle.std.specs.Prelude.{◌≡◌, ◌++◌, ◌∷◌, [], OnOk};
 
 use crate::stat::MadeStat;
+use aos_made::put;
 use aos_typed::TStat;
 use std::alloc::{AllocError, Global};
 use std::marker::Model;
@@ -47,7 +48,7 @@ impl MadeStats {
     pub fn push(&mut self, one: MadeStat) -> Result<(), AllocError>
         ensures { OnOk result (self.new ≡ self.old ++ one ∷ []) }
     {
-        self.row.push(one.take())?;
+        put(&mut self.row, one.take())?;
         Ok(())
     }
 

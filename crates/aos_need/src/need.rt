@@ -178,8 +178,8 @@ fn value_end<'b>(value: &'b TExpr) -> Result<(u32, Option<Front<'b>>), AllocErro
         TExpr::Read(_, place) => Ok((0, Some(Front::Place(place)))),
         TExpr::Len(rows, _) => Ok((0, Some(Front::Rows(rows)))),
         TExpr::LenBehind(rows, _) => Ok((0, Some(Front::Rows(rows)))),
-        TExpr::CompareTexts(_, left, right) => both_end(Front::Rows(left), 2, Front::Rows(right)),
         TExpr::Function(callee, arguments) => call_end(1, callee, arguments),
+        TExpr::CompareTexts(_, left, right) => both_end(Front::Rows(left), 2, Front::Rows(right)),
         TExpr::Unary(_, operand) => Ok((0, Some(Front::Value(operand)))),
         TExpr::Binary(_, left, right) => both_end(Front::Value(left), 1, Front::Value(right)),
         TExpr::And(left, right) => {

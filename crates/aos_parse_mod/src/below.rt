@@ -19,7 +19,7 @@ use crate::token::{split, starts_expr};
 use aos_parse_expr::{ParseErr, expr};
 use aos_parse_stat::block;
 use aos_scan::{Token, TokenKind};
-use aos_tree::{Block, Expr, Items};
+use aos_tree::{Block, Boxed, Expr, Items};
 use std::alloc::Global;
 
 pub fn expression<'a>(
@@ -57,7 +57,7 @@ pub fn body<'a>(
     alloc: Global,
     tokens: &'a [Token],
     depth: u32,
-) -> Result<(Option<Block>, &'a [Token]), ParseErr>
+) -> Result<(Option<Boxed<Block>>, &'a [Token]), ParseErr>
     requires ended { IsEnded tokens.now }
     requires nested { depth ≤ 200 }
     ensures tree { IfOk result (λ r. IsBody shallow depth r.0 tokens.now r.1.now) }
@@ -69,7 +69,8 @@ pub fn body<'a>(
         return Ok((None, after));
     }
     let (all, rest) = statements(alloc, tokens, depth)?;
-    Ok((Some(all), rest))
+    let boxed = Boxed::new(alloc, all)?;
+    Ok((Some(boxed), rest))
 }
 
 /// The expression after a word of a kind.

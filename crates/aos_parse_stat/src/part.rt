@@ -16,14 +16,14 @@ ghost use Rattle.aos_parse_stat.specs.Symbols as m;
 use crate::token::{ident, split, word};
 use aos_parse_expr::{ParseErr, desig, expr};
 use aos_scan::{Token, TokenKind};
-use aos_tree::{Desig, Expr, Items, Label, Modifier, Qualident};
+use aos_tree::{Boxed, Desig, Expr, Items, Label, Modifier, Qualident};
 use std::alloc::Global;
 
 pub fn expression<'a>(
     alloc: Global,
     tokens: &'a [Token],
     depth: u32,
-) -> Result<(Expr, &'a [Token]), ParseErr>
+) -> Result<(Boxed<Expr>, &'a [Token]), ParseErr>
     requires ended { IsEnded tokens.now }
     requires nested { depth ≤ 200 }
     ensures tree { IfOk result (λ r. IsExpr shallow depth r.0 tokens.now r.1.now) }
@@ -31,7 +31,8 @@ pub fn expression<'a>(
     ensures moves { Moves m.table (λ r. r.1.now) (m.expr depth ∷ []) tokens.now result }
 {
     let (tree, next) = expr(alloc, tokens, 0, depth)?;
-    Ok((tree, &tokens[next..]))
+    let boxed = Boxed::new(alloc, tree)?;
+    Ok((boxed, &tokens[next..]))
 }
 
 pub fn designator<'a>(
@@ -55,7 +56,7 @@ pub fn word_expr<'a>(
     tokens: &'a [Token],
     depth: u32,
     kind: TokenKind,
-) -> Result<(Expr, &'a [Token]), ParseErr>
+) -> Result<(Boxed<Expr>, &'a [Token]), ParseErr>
     requires ended { IsEnded tokens.now }
     requires nested { depth ≤ 200 }
     requires inner { kind ≢ TokenKind.End }
@@ -78,7 +79,7 @@ pub fn option<'a>(
     tokens: &'a [Token],
     depth: u32,
     kind: TokenKind,
-) -> Result<(Option<Expr>, &'a [Token]), ParseErr>
+) -> Result<(Option<Boxed<Expr>>, &'a [Token]), ParseErr>
     requires ended { IsEnded tokens.now }
     requires nested { depth ≤ 200 }
     requires inner { kind ≢ TokenKind.End }

@@ -85,7 +85,7 @@ pub struct Proc {
     pub formals: Option<Formals>,
     /// None of them is a procedure.
     pub decls: Items<Decl>,
-    pub body: Option<Block>,
+    pub body: Option<Boxed<Block>>,
     pub end: Name,
 }
 
@@ -150,7 +150,7 @@ pub enum TypeExpr {
     /// `PROCEDURE ["{" ident "}"] [Formals]`
     Proc(Pos, Option<Name>, Option<Formals>),
     /// `OBJECT ["(" Qualident ")"] {Decl} Body [ident]`
-    Object(Pos, Option<Qualident>, Items<Decl>, Option<Block>, Option<Name>),
+    Object(Pos, Option<Qualident>, Items<Decl>, Option<Boxed<Block>>, Option<Name>),
 }
 
 impl Drop for TypeExpr {
@@ -212,7 +212,7 @@ pub enum TypeParts {
     Record(Pos, Option<Qualident>, Items<Fields>),
     Pointer(Pos, TypeExpr),
     Proc(Pos, Option<Name>, Option<Formals>),
-    Object(Pos, Option<Qualident>, Items<Decl>, Option<Block>, Option<Name>),
+    Object(Pos, Option<Qualident>, Items<Decl>, Option<Boxed<Block>>, Option<Name>),
 }
 
 impl TypeExpr {

@@ -2,6 +2,7 @@
 
 ghost use Rattle.std.specs.Prelude.{◌≡◌};
 
+use crate::boxed::Boxed;
 use crate::decl::Decl;
 use crate::items::Items;
 use crate::name::{Name, Text};
@@ -15,7 +16,7 @@ pub struct Module {
     pub name: Name,
     pub imports: Items<Import>,
     pub decls: Items<Decl>,
-    pub body: Option<Block>,
+    pub body: Option<Boxed<Block>>,
     pub end: Name,
     pub strings: Items<Text>,
 }

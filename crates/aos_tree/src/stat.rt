@@ -1,5 +1,6 @@
 // Statements.
 
+use crate::boxed::Boxed;
 use crate::expr::{Desig, Expr};
 use crate::items::Items;
 use crate::name::{Name, Qualident};
@@ -17,22 +18,22 @@ pub struct StatSeq {
 pub enum Stat {
     Empty,
     /// `Desig ":=" Expr`, with the place of `:=`
-    Assign(Desig, Pos, Expr),
+    Assign(Desig, Pos, Boxed<Expr>),
     /// `Desig`
     Call(Desig),
     Block(Block),
     Exit(Pos),
-    Return(Pos, Option<Expr>),
-    Await(Pos, Expr),
+    Return(Pos, Option<Boxed<Expr>>),
+    Await(Pos, Boxed<Expr>),
     /// `IF Expr THEN StatSeq {ELSIF Expr THEN StatSeq} [ELSE StatSeq] END`
-    If(Pos, Expr, StatSeq, Items<Elsif>, Option<StatSeq>),
+    If(Pos, Boxed<Expr>, StatSeq, Items<Elsif>, Option<StatSeq>),
     /// `CASE Expr OF Case {"|" Case} [ELSE StatSeq] END`
-    Case(Pos, Expr, Items<Case>, Option<StatSeq>),
-    While(Pos, Expr, StatSeq),
-    Repeat(Pos, StatSeq, Expr),
+    Case(Pos, Boxed<Expr>, Items<Case>, Option<StatSeq>),
+    While(Pos, Boxed<Expr>, StatSeq),
+    Repeat(Pos, StatSeq, Boxed<Expr>),
     Loop(Pos, StatSeq),
     /// `FOR ident ":=" Expr TO Expr [BY Expr] DO StatSeq END`, with the places of `FOR` and of `:=`
-    For(Pos, Name, Pos, Expr, Expr, Option<Expr>, StatSeq),
+    For(Pos, Name, Pos, Boxed<Expr>, Boxed<Expr>, Option<Boxed<Expr>>, StatSeq),
     /// `WITH Qualident ":" Qualident DO StatSeq END`, with the places of `WITH` and of `:`
     With(Pos, Qualident, Pos, Qualident, StatSeq),
 }
@@ -87,7 +88,7 @@ impl Drop for Stat {
 #[derive(Drop)]
 pub struct Elsif {
     pub pos: Pos,
-    pub condition: Expr,
+    pub condition: Boxed<Expr>,
     pub body: StatSeq,
 }
 
@@ -102,8 +103,8 @@ pub enum Case {
 /// `Label = Expr [".." Expr].` Its place is that of its first expression.
 #[derive(Drop)]
 pub struct Label {
-    pub first: Expr,
-    pub last: Option<Expr>,
+    pub first: Boxed<Expr>,
+    pub last: Option<Boxed<Expr>>,
 }
 
 /// `Block = BEGIN ["{" Modifier {"," Modifier} "}"] StatSeq END.`
@@ -131,5 +132,5 @@ impl Drop for Block {
 #[derive(Drop)]
 pub struct Modifier {
     pub name: Name,
-    pub value: Option<Expr>,
+    pub value: Option<Boxed<Expr>>,
 }

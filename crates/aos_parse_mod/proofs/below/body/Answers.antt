@@ -29,4 +29,4 @@ returns-clause-moves c =
 
 pub returns-clause-tree : goal.returns-clause-tree
 returns-clause-tree c =
-    declared.block c.in_ok-all.ensures.tree
+    rw c.in_ok-boxed.ensures (declared.block c.in_ok-all.ensures.tree)

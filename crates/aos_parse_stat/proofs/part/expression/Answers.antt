@@ -50,4 +50,4 @@ slice_bounds-result-start c =
 
 pub returns-clause-tree : goal.returns-clause-tree
 returns-clause-tree c =
-    subst (λ q. IsExpr shallow c.args.depth c.in_ok-tree.tree c.args.tokens.now q) (sym (take_rest c.args.tokens.now c.in_ok-tree.next)) c.in_ok-tree.ensures.tree
+    rw c.in_ok-boxed.ensures (subst (λ q. IsExpr shallow c.args.depth c.in_ok-tree.tree c.args.tokens.now q) (sym (take_rest c.args.tokens.now c.in_ok-tree.next)) c.in_ok-tree.ensures.tree)
