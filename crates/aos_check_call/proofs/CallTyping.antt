@@ -40,7 +40,7 @@ use Rattle.aos_operators.specs.Kinds.{is_pointer_type, is_object_type}
 use Rattle.aos_operators.specs.Places.{place_of}
 use Rattle.aos_operators.proofs.Inside.{Inside, IsPlaceOf, IsOf, AreArguments, IsCalled, IsInitialized, IsCall}
 use Rattle.aos_operators.proofs.Sound.{sound_number}
-use Rattle.aos_rules.specs.Arguments.{Handing, listed as listed_arguments}
+use Rattle.aos_arguments.specs.Arguments.{Handing, listed as listed_arguments}
 use Rattle.aos_rules.specs.Arrays.{text_rows}
 use Rattle.aos_designators.specs.declared.methods.Heading.{Heading}
 use Rattle.aos_designators.specs.declared.methods.Heading.TheVariants as heading
@@ -51,6 +51,7 @@ use Rattle.aos_check_expr.specs.Expressions as judge_expr
 use Rattle.aos_check_expr.proofs.Spots.{AreParameters, IsResultOf, IsSigned, IsSpot, Part, IsProcedure, MayFind, behind_head, behind_of_module}
 use Rattle.aos_check_expr.proofs.Typing.{IsWhole, IsSound, IsTextAt, expr_sound, expr_part, argument_sound, text_argument, arguments_part, Parted, spot_fine, bound_fine, bracketed_fine, parts_sound}
 use Rattle.aos_check_expr.proofs.Called.{IsCalling, IsBound}
+use Rattle.aos_check_expr.proofs.Filled.{AreCovered, heading_covered, signature_covered}
 use Rattle.aos_check_expr.proofs.Initials.{initialized, none_initialized}
 use Rattle.aos_check_call.specs.Calls as judge
 use Rattle.aos_check_call.specs.Calls.{lengths_wanted, new_breaches, is_no_variable, count_breaches, outs, ended, arguments, behind_arguments, is_selected, is_selected_behind, goes_on}
@@ -190,7 +191,7 @@ module _ (p : Inside) (e : Env) (whole : IsWhole p e) where
       by None is = broken (IsInitializedBy t) (record { rule = 99; pos = at }) [] NoMore
       by (Some sig) is =
           holds_bind (IsHanded sig) (IsInitializedBy t) (arguments_for e at sig.parameters (map (expr e) xs) xs) (λ h. kept (listed_arguments h.given))
-          (arguments_part p e at sig.parameters (map (expr e) xs) (parts_of xs) xs (length-map xs (expr e)))
+          (arguments_part p e at sig.parameters (signature_covered e m.home m.number sig is) (map (expr e) xs) (parts_of xs) xs (length-map xs (expr e)))
           (λ g handed h. initialized p e whole t object m found sig is (listed_arguments g.given) (handed.1 whole))
 
   initialized_sound : (at : Pos) (t : TypeId) → is_object (row_of e.types t) ≡ true → (o : Option Method) → env.initializer e t ≡ o → (xs : List TreeExpr) →
@@ -273,25 +274,25 @@ module _ (p : Inside) (e : Env) (whole : IsWhole p e) where
 
   -- Procedures that modules declare.
 
-  perform_with_sound : (at : Pos) (c : Callee) (sig : Signature) → (q : Procedure) × IsCalled p c q × IsSigned e sig q → sig.gives ≡ gives.Nothing → (xs : List TreeExpr) →
+  perform_with_sound : (at : Pos) (c : Callee) (sig : Signature) → AreCovered e sig.parameters → (q : Procedure) × IsCalled p c q × IsSigned e sig q → sig.gives ≡ gives.Nothing → (xs : List TreeExpr) →
       Holds MayBe (judge.perform_with e at c sig xs)
-  perform_with_sound at c sig q none xs =
+  perform_with_sound at c sig covers q none xs =
       holds_bind (IsHanded sig) MayBe (arguments_for e at sig.parameters (map (expr e) xs) xs) (λ h. kept (Some (Perform at c (listed_arguments h.given))))
-      (arguments_part p e at sig.parameters (map (expr e) xs) (parts_of xs) xs (length-map xs (expr e)))
+      (arguments_part p e at sig.parameters covers (map (expr e) xs) (parts_of xs) xs (length-map xs (expr e)))
       (λ g handed h. (q.0, q.1, subst (λ o. IsResultOf o q.0.result) none q.2.result, handed.1 whole q.0.parameters q.2.parameters))
 
-  perform_signed_sound : (at : Pos) (c : Callee) (sig : Signature) → (q : Procedure) × IsCalled p c q × IsSigned e sig q → (xs : List TreeExpr) → Holds MayBe (judge.perform_signed e at c sig xs)
-  perform_signed_sound at c sig q xs = by sig.gives refl
+  perform_signed_sound : (at : Pos) (c : Callee) (sig : Signature) → AreCovered e sig.parameters → (q : Procedure) × IsCalled p c q × IsSigned e sig q → (xs : List TreeExpr) → Holds MayBe (judge.perform_signed e at c sig xs)
+  perform_signed_sound at c sig covers q xs = by sig.gives refl
     where
       by : (g : Gives) → sig.gives ≡ g → Holds MayBe (judge.perform_signed e at c sig xs)
-      by gives.Nothing same = rw same (perform_with_sound at c sig q same xs)
+      by gives.Nothing same = rw same (perform_with_sound at c sig covers q same xs)
       by (gives.Value of) same = rw same (λ h. tt)
 
   perform_sound : (at : Pos) (c : Callee) (g : Heading) → IsCalling p e c g → (xs : List TreeExpr) → Holds MayBe (judge.perform e at c g xs)
   perform_sound at c g called xs = by (signature_of e g) refl
     where
       by : (o : Option Signature) → signature_of e g ≡ o → Holds MayBe (judge.perform e at c g xs)
-      by (Some sig) is = rw is (perform_signed_sound at c sig (called sig is) xs)
+      by (Some sig) is = rw is (perform_signed_sound at c sig (heading_covered e g sig is) (called sig is) xs)
       by None is = rw is (λ h. tt)
 
   performed_sound : (at : Pos) (x : Symbol) (k : ℕ) → IsCalling p e (Plain x.at.home k) (heading.Declared x.at.home k) → (more : List Selector) → Holds MayBe (judge.performed e at x k more)

@@ -40,7 +40,7 @@ use Rattle.aos_operators.specs.declared.known.Class.TheVariants.{Unknown, Consta
 use Rattle.aos_operators.specs.Known.{Answer, Spot, passes, is_number, is_char, is_set, fits, width_of}
 use Rattle.aos_operators.specs.Places.{place_of}
 use Rattle.aos_rules.specs.Assignable as assignable
-use Rattle.aos_rules.specs.Arguments.{listed as listed_arguments}
+use Rattle.aos_arguments.specs.Arguments.{listed as listed_arguments}
 use Rattle.aos_rules.specs.Arrays.{is_characters, is_opening, may_be_text, text_rows, array_rows, text_for, has_room}
 use Rattle.aos_designators.specs.declared.methods.Heading.{Heading}
 use Rattle.aos_designators.specs.declared.methods.Heading.TheVariants as heading

@@ -182,7 +182,7 @@ fn new_lengths(
 }
 
 /// What an initializer with this signature is handed, in NEW at a place.
-#[tactic(auto, using(aos_symbols::proofs::Keeping::after_more, aos_rules::proofs::Listed::as_listed))]
+#[tactic(auto, using(aos_symbols::proofs::Keeping::after_more, aos_arguments::proofs::Listed::as_listed))]
 fn initialized_by(
     alloc: Global,
     found: &mut Option<Breach>,

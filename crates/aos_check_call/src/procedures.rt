@@ -18,7 +18,7 @@ use aos_types::{Gives, Signature};
 use std::alloc::{AllocError, Global};
 
 /// A call of a proper procedure with these arguments, which begins at a place.
-#[tactic(auto, using(aos_symbols::proofs::Keeping::after_more, aos_rules::proofs::Listed::as_listed))]
+#[tactic(auto, using(aos_symbols::proofs::Keeping::after_more, aos_arguments::proofs::Listed::as_listed))]
 fn perform_with(
     alloc: Global,
     found: &mut Option<Breach>,

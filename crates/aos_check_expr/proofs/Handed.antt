@@ -10,7 +10,7 @@ use Rattle.aos_symbols.specs.Breaches.{first_after}
 use Rattle.aos_symbols.specs.Judged.{Judged, kept, bind}
 use Rattle.aos_symbols.proofs.Keeping.{after_more, after_two}
 use Rattle.aos_operators.specs.Known.{Answer}
-use Rattle.aos_rules.specs.Arguments.{Handing, handed}
+use Rattle.aos_arguments.specs.Arguments.{Handing, handed}
 use Rattle.aos_check_expr.specs.Expressions.{desig_alone, handed_from}
 
 drop_some : {X : Type 0} (xs : List X) (i : ℕ) (x : X) → slice_get xs i ≡ Some x → drop i xs ≡ x ∷ drop (suc i) xs

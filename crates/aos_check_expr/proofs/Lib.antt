@@ -13,6 +13,7 @@ pub mod Selves
 pub mod Called
 pub mod Spots
 pub mod Tested
+pub mod Filled
 pub mod Worded
 pub mod Passed
 pub mod CallParts

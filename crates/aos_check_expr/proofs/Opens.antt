@@ -7,7 +7,7 @@ use Rattle.aos_types.specs.declared.row.TypeRow.TheVariants as row
 use Rattle.aos_types.specs.Table.{row_of, is_open}
 use Rattle.aos_types.specs.Sameness.{element_of}
 use Rattle.aos_typed.specs.Open.{open_by, behind, open_dimensions, open_element}
-use Rattle.aos_rules.specs.Arguments.{behind_dimensions}
+use Rattle.aos_arguments.specs.Arguments.{behind_dimensions}
 
 -- what is no open array has no elements of one
 pub closed_row : (r : Option TypeRow) → is_open r ≡ false → element_of r ≡ None

@@ -1,7 +1,7 @@
 -- Arguments that break no rule are those of the procedure's parameters, and a function's call is sound.
-use Rattle.std.proofs.Common.{◌≡◌, ℕ, zero, suc, ◌-◌, ◌==◌, List, [], ◌∷◌, ◌++◌, length, Bool, true, false, not, ◌&&◌, ◌||◌, ◌⊎◌, inl, inr, nat_le, nat_lt, Option, Some, None, is_some, option_and_then, if◌then◌else◌, refl, sym, ap, ◌∙◌, subst, append_assoc, append-nil, eqb-true, arith, ◌≤◌, eq-eqb, le-ltb}
-use Rattle.std.specs.Option.{is_none}
-use Rattle.std.proofs.lemmas.Bool.{and_parts}
+use Rattle.std.proofs.Common.{◌≡◌, ℕ, zero, suc, ◌-◌, ◌==◌, List, [], ◌∷◌, ◌++◌, length, Bool, true, false, not, ◌&&◌, ◌||◌, ◌⊎◌, inl, inr, nat_le, nat_lt, Option, Some, None, is_some, option_and_then, if◌then◌else◌, refl, sym, ap, ◌∙◌, subst, append_assoc, append-nil, eqb-true, arith, ◌≤◌, ◌<◌, eq-eqb, le-ltb}
+use Rattle.std.specs.Option.{is_none, unwrap_or}
+use Rattle.std.proofs.lemmas.Bool.{and_parts, ltb-true}
 use Rattle.std.proofs.lemmas.Option.{none-some, same_Some}
 use Rattle.aos_base.specs.declared.text.Pos.{Pos}
 use Rattle.aos_tree.specs.declared.expr.Expr.{Expr, out-Expr}
@@ -20,7 +20,7 @@ use Rattle.aos_typed.specs.declared.tree.TType.TheVariants as type
 use Rattle.aos_typed.specs.Numbers.{id_of}
 use Rattle.aos_typed.specs.Open.{open_dimensions, open_element}
 use Rattle.aos_typed.specs.Program.{Place, Rows, Known as KnownRows, Longer, Arguments, Expr as TypedExpr, Read, Parameter, Passed, Deref, Typed, Guarded, Callee, Function as Invoked, Procedure}
-use Rattle.aos_typed.specs.WellTyped.{HaveLengths, IsArrayOf, IsByValue, IsOpening, is_whole, FitsObject, IsGiven, NamesType, is_value as is_value_type}
+use Rattle.aos_typed.specs.WellTyped.{HaveLengths, IsArrayOf, IsByValue, IsOpening, is_whole, FitsObject, IsGiven, NamesType, dimension, is_value as is_value_type}
 use Rattle.aos_types.specs.declared.signature.Parameter.{Parameter as Formal}
 use Rattle.aos_types.specs.declared.signature.Gives.{Gives}
 use Rattle.aos_types.specs.declared.signature.Gives.TheVariants as gives
@@ -31,6 +31,7 @@ use Rattle.aos_symbols.specs.Breaches.{breach, breach_unless}
 use Rattle.aos_symbols.specs.Env as env
 use Rattle.aos_symbols.specs.Env.{char, nil, text}
 use Rattle.aos_symbols.proofs.Each.{Each}
+use Rattle.aos_symbols.proofs.Found.{some_found}
 use Rattle.aos_symbols.proofs.Told.{basic as basic_told, of_any, defined}
 use Rattle.aos_symbols.proofs.Holds.{Holds, holds_bind, broken, test_is, none_left, none_right}
 use Rattle.aos_operators.specs.declared.known.Class.{Class}
@@ -44,9 +45,10 @@ use Rattle.aos_operators.proofs.Sound.{not_both, IsScalar, IsClosedPlace, IsOpen
 use Rattle.aos_operators.specs.Kinds.{has_parts, is_opened, is_record_type, is_reference, is_procedural, is_value}
 use Rattle.aos_operators.specs.Places.{place_in}
 use Rattle.aos_rules.specs.Assignable.{is_compatible, is_assignable, typed_for}
-use Rattle.aos_rules.specs.Arguments.{names_type, with_type, Given, Scalar, Whole, Opening, Handing, given_as, listed}
+use Rattle.aos_arguments.specs.Arguments.{names_type, with_type, Given, Scalar, Whole, Opening, Handing, given_as, listed}
 use Rattle.aos_rules.specs.Arrays as arrays
-use Rattle.aos_rules.specs.Arguments as judge
+use Rattle.aos_arguments.specs.Arguments as judge
+use Rattle.aos_arguments.specs.Filled.{value_length, longest, filled_index, filled_place}
 use Rattle.aos_designators.specs.declared.methods.Heading.{Heading}
 use Rattle.aos_check_expr.specs.Expressions.{signature_of}
 use Rattle.aos_check_expr.specs.Expressions as calls
@@ -54,10 +56,11 @@ use Rattle.aos_check_expr.proofs.Opens.{closed_row, all_behind, closed_dimension
 use Rattle.aos_check_expr.proofs.Whole.{IsWritten}
 use Rattle.aos_check_expr.proofs.Objects.{basic_value, value_typed, either_is, IsPartsRow, row_high, high_row, reference_kind, reference_typed, of_any_type, object_of, parts_no_reference, routine_no_parts}
 use Rattle.aos_check_expr.proofs.Called.{IsCalling}
+use Rattle.aos_check_expr.proofs.Filled.{AreCovered, filled_is, heading_covered}
 use Rattle.aos_check_expr.proofs.Pointed.{comes_record, comes_whole}
 use Rattle.aos_check_expr.proofs.Compatible.{by_table, object_fits, whole_fits}
 use Rattle.aos_check_expr.proofs.Callable.{no_element, parameter_id, procedure_row, procedural_row, procedural_typed, procedural_value, callable_own, assignable_compatible, procedural_fits}
-use Rattle.aos_check_expr.proofs.Spots.{IsWhole, IsParameterType, elements_told, elements_id, AreParameters, IsResultOf, IsSigned, told_element, opened_row, Part, Valued, refused_value_part}
+use Rattle.aos_check_expr.proofs.Spots.{IsWhole, IsParameterType, elements_told, elements_id, AreParameters, IsResultOf, IsSigned, told_element, opened_row, row_opened, Part, Valued, refused_value_part}
 use Rattle.aos_check_expr.proofs.Worded.{string_rows_are, string_kept, lengths_read, variables_held, has_in, array_row, no_text, no_object, no_routine, characters_row, char_row}
 
 some_not : (n : ℕ) → Some n ≡ None → ⊥
@@ -394,7 +397,7 @@ module _ (p : Inside) (e : Env) (whole : IsWhole p e) where
   variable_passed : (a : Parameter) (t : TypeId) → a.of ≡ type_as t → a.by_reference ≡ true → IsParameterType e t → is_opened e t ≡ false → (d : Bool) (v : Answer) → Part p e v →
       judge.variable_rule d v.known.class ≡ None → judge.is_referable e t v.known.of ≡ true → IsGivenFor a (Whole (with_type e v.known.of (place_in v.typed)))
   variable_passed a t of reference kind isnt d v x writes refers more rest others =
-      (a, rest, refl, subst (λ o. GivenAs a (with_type e o (place_in v.typed))) (sym sound.known) (by (is_record_type e sound.of) refl), others)
+      (a, rest, refl, inl (subst (λ o. GivenAs a (with_type e o (place_in v.typed))) (sym sound.known) (by (is_record_type e sound.of) refl)), others)
     where
       sound : IsSound p v
       sound = x.sound whole
@@ -554,23 +557,26 @@ module _ (p : Inside) (e : Env) (whole : IsWhole p e) where
       let own = comes_whole p e whole (length e.types) sound.of t comes there in
       (parts_high sound.of own, placed_whole sound.of v.typed own sound.typed, comes)
 
-  -- by value: a value that fits; a record or an array is cut to the parameter's type
-  value_passed : (a : Parameter) (t : TypeId) → a.of ≡ type_as t → a.by_reference ≡ false → IsParameterType e t → is_opened e t ≡ false → (v : Answer) → Part p e v →
+  abbrev Fitting : Answer → TypeId → Type 0
+  Fitting v t = (is_assignable e v.known (Some t) ≡ true) × ((is_value e t || has_parts e t) ≡ true)
+
+  both_in : (b : Bool) (o : Option TextConstant) (s : TextConstant) → (if b then o else None) ≡ Some s → (b ≡ true) × (o ≡ Some s)
+  both_in true o s e = (refl, e)
+  both_in false o s e = absurd (none-some s e)
+
+  -- by value: a value that fits; a record or an array is cut to the parameter's type, and a string constant has 0X behind it
+  value_passed : (a : Parameter) (t : TypeId) → a.of ≡ type_as t → a.by_reference ≡ false → IsParameterType e t → is_opened e t ≡ false →
+      value_length e (record { by_reference = false; of = Some t }) ≤ longest e → (v : Answer) → Part p e v →
       judge.value_rule e t v.known ≡ None → IsGivenFor a (judge.given_unopened e false t v)
-  value_passed a t of value kind isnt v x none = by (has_parts e t) refl
+  value_passed a t of value kind isnt within v x none = given (arrays.text_for e (judge.variable_of t) v.known.class) refl none
     where
       sound : IsSound p v
       sound = x.sound whole
 
-      rules : (is_assignable e v.known (Some t) ≡ true) × ((is_value e t || has_parts e t) ≡ true)
-      rules = without (arrays.text_for e (judge.variable_of t) v.known.class) refl none
-        where
-          without : (o : Option TextConstant) → arrays.text_for e (judge.variable_of t) v.known.class ≡ o → judge.value_rule e t v.known ≡ None →
-              (is_assignable e v.known (Some t) ≡ true) × ((is_value e t || has_parts e t) ≡ true)
-          without (Some s) at = rw at (λ none. absurd (some_not _ none))
-          without None at = rw at (λ none.
-              let two = or_none (judge.broken_unless 35 (is_assignable e v.known (Some t))) (judge.broken_unless 99 (is_value e t || has_parts e t)) none in
-              (unless_none 35 (is_assignable e v.known (Some t)) two.0, unless_none 99 (is_value e t || has_parts e t) two.1))
+      fits : judge.or_else (judge.broken_unless 35 (is_assignable e v.known (Some t))) (judge.broken_unless 99 (is_value e t || has_parts e t)) ≡ None → Fitting v t
+      fits none =
+          let two = or_none (judge.broken_unless 35 (is_assignable e v.known (Some t))) (judge.broken_unless 99 (is_value e t || has_parts e t)) none in
+          (unless_none 35 (is_assignable e v.known (Some t)) two.0, unless_none 99 (is_value e t || has_parts e t) two.1)
 
       as_value : IsByValue p.program a a.of
       as_value = (shut a t of kind isnt, value, refl)
@@ -587,29 +593,63 @@ module _ (p : Inside) (e : Env) (whole : IsWhole p e) where
           at (inl (defined r from there closed)) = let m = n in omega (arith, from, m)
           at (inr opening) = not_both (sym opening ∙ isnt)
 
-      scalar : has_parts e t ≡ false → IsGivenFor a (Scalar (typed_for e (Some t) v))
-      scalar other more rest is =
+      scalar : Fitting v t → has_parts e t ≡ false → IsGivenFor a (Scalar (typed_for e (Some t) v))
+      scalar rules other more rest is =
           let fine = scalar_fits t not_nil (or_left (is_value e t) (has_parts e t) other rules.1) v x rules.0 in
           (a, rest, refl, as_value, subst (λ T. is_value_type p.program.types T ≡ true) (sym of) fine.0, subst (IsOf p (typed_for e (Some t) v)) (sym of) fine.1, is)
 
-      copied : has_parts e t ≡ true → IsGivenFor a (Whole (place_in v.typed))
-      copied parts more rest is =
+      copied : Fitting v t → has_parts e t ≡ true → IsGivenFor a (Whole (place_in v.typed))
+      copied rules parts more rest is =
           let there = (and_parts (not (is_basic t)) _ parts).1 in
           let fine = whole_place t parts v sound rules.0 in (
             a,
             rest,
             refl,
-            (type_as sound.of, fine.1, inr (inr (as_value, ap is_whole (row_is a t of kind) ∙ there, comes_there a t sound.of of kind fine.0 fine.2))),
+            inl (type_as sound.of, fine.1, inr (inr (as_value, ap is_whole (row_is a t of kind) ∙ there, comes_there a t sound.of of kind fine.0 fine.2))),
             is,
           )
 
-      by : (b : Bool) → has_parts e t ≡ b → IsGivenFor a (if b then Whole (place_in v.typed) else Scalar (typed_for e (Some t) v))
-      by true parts = copied parts
-      by false other = scalar other
+      by : Fitting v t → (b : Bool) → has_parts e t ≡ b → IsGivenFor a (if b then Whole (place_in v.typed) else Scalar (typed_for e (Some t) v))
+      by rules true parts = copied rules parts
+      by rules false other = scalar rules other
 
-  given_for : (a : Parameter) (b : Bool) (t : TypeId) → a.of ≡ type_as t → a.by_reference ≡ b → IsParameterType e t → (d : Bool) (v : Answer) → Part p e v →
+      -- an array of characters that isn't open
+      fixed : arrays.is_characters e (judge.variable_of t) ≡ true → (n : ℕ) × (row_of e.types t ≡ Some (row.Array n char))
+      fixed is =
+          let has = characters_row p e whole t Variable is in
+          elim has.0.2 [
+            | inl n ↦ (n.0, n.1 ∙ ap (λ u. Some (row.Array n.0 u)) has.1)
+            | inr o ↦ absurd (not_both (sym (row_opened e t has.0.0 has.0.1 o) ∙ isnt))
+          ]
+
+      filled : (s : TextConstant) → arrays.text_for e (judge.variable_of t) v.known.class ≡ Some s → judge.or_else (judge.broken_unless 35 (arrays.has_room e (Some t) s)) (judge.broken_unless 99 (is_some (filled_index e s))) ≡ None →
+          IsGivenFor a (Whole (filled_place e s))
+      filled s at none more rest is =
+          let meant = both_in (arrays.is_characters e (judge.variable_of t)) (arrays.string_in e v.known.class) s at in
+          let array = fixed meant.0 in
+          let n = array.0 in
+          let length_is : unwrap_or (arrays.length_of e (Some t) 0) 0 ≡ n = ap (λ r. unwrap_or (dimension e.types 0 r) 0) array.1 in
+          let two = or_none (judge.broken_unless 35 (arrays.has_room e (Some t) s)) (judge.broken_unless 99 (is_some (filled_index e s))) none in
+          let room = unless_none 35 (arrays.has_room e (Some t) s) two.0 in
+          let index = some_found (filled_index e s) (unless_none 99 (is_some (filled_index e s)) two.1) in
+          let few : nat_lt (length (env.characters e s)) (unwrap_or (arrays.length_of e (Some t) 0) 0) ≡ true =
+          sym (ap (λ b. b || nat_lt (length (env.characters e s)) (unwrap_or (arrays.length_of e (Some t) 0) 0)) isnt) ∙ room in
+          let less : length (env.characters e s) < n = ltb-true (length (env.characters e s)) n (ap (nat_lt (length (env.characters e s))) (sym length_is) ∙ few) in
+          let value_is = ap (λ b. if b then unwrap_or (arrays.length_of e (Some t) 0) 0 else 0) meant.0 in
+          let most : n ≤ longest e = subst (λ m. m ≤ longest e) (value_is ∙ length_is) within in
+          let below : length (env.characters e s) < longest e = omega (arith, less, most) in
+          let constant = filled_is p e whole s index.0 (has_in p e whole v.known.class s meant.1) index.1 below in
+          (a, rest, refl, inr (n, longest e, as_value, row_is a t of kind ∙ array.1, most, constant), is)
+
+      given : (o : Option TextConstant) → arrays.text_for e (judge.variable_of t) v.known.class ≡ o → judge.value_rule e t v.known ≡ None →
+          IsGivenFor a (judge.given_unopened e false t v)
+      given (Some s) at = rw at (filled s at)
+      given None at = rw at (λ none. by (fits none) (has_parts e t) refl)
+
+  given_for : (a : Parameter) (b : Bool) (t : TypeId) → a.of ≡ type_as t → a.by_reference ≡ b → IsParameterType e t →
+      value_length e (record { by_reference = b; of = Some t }) ≤ longest e → (d : Bool) (v : Answer) → Part p e v →
       judge.argument_rule e (record { by_reference = b; of = Some t }) d v.known ≡ None → IsGivenFor a (judge.given e (record { by_reference = b; of = Some t }) v)
-  given_for a b t of same kind d v x none = by (is_opened e t) refl b same none
+  given_for a b t of same kind within d v x none = by (is_opened e t) refl b same within none
     where
       types : Bool → Bool → Option ℕ
       types opening b = if opening then judge.open_rule e t v.known else if b then judge.broken_unless 35 (judge.is_referable e t v.known.of) else judge.value_rule e t v.known
@@ -620,16 +660,17 @@ module _ (p : Inside) (e : Env) (whole : IsWhole p e) where
       at : Bool → Bool → Given
       at opening b = if opening then Opening (arrays.rows_in e (open_dimensions e.types t) v) else judge.given_unopened e b t v
 
-      by : (opening : Bool) → is_opened e t ≡ opening → (b : Bool) → a.by_reference ≡ b → judge.or_else (writes b) (types opening b) ≡ None → IsGivenFor a (at opening b)
-      by true opening b same none = λ more rest is.
+      by : (opening : Bool) → is_opened e t ≡ opening → (b : Bool) → a.by_reference ≡ b → value_length e (record { by_reference = b; of = Some t }) ≤ longest e →
+          judge.or_else (writes b) (types opening b) ≡ None → IsGivenFor a (at opening b)
+      by true opening b same within none = λ more rest is.
           let own = is_opening a t of kind opening (open_dimensions e.types t) (type_as (open_element e.types t)) refl (elements_id e whole.opens t opening) in
           let two = or_none (writes b) (types true b) none in
           let may = λ (by_reference : a.by_reference ≡ true). variables_given t opening d v x two.1 (subst (λ c. writes c ≡ None) (sym same ∙ by_reference) two.0) in
           (a, rest, open_dimensions e.types t, type_as (open_element e.types t), refl, own, rows_given t opening v x two.1, lengths_given t opening v x two.1, is, may)
-      by false isnt true same none =
+      by false isnt true same within none =
           let two = or_none (writes true) (types false true) none in
           variable_passed a t of same kind isnt d v x two.0 (unless_none 35 (judge.is_referable e t v.known.of) two.1)
-      by false isnt false same none = value_passed a t of same kind isnt v x none
+      by false isnt false same within none = value_passed a t of same kind isnt within v x none
 
 module _ (p : Inside) (e : Env) where
   -- What arguments give, behind those before them.
@@ -645,18 +686,18 @@ module _ (p : Inside) (e : Env) where
       × ((whole : IsWhole p e) (a : Parameter) (t : TypeId) → f.of ≡ Some t → a.of ≡ type_as t → a.by_reference ≡ f.by_reference → IsParameterType e t →
       (y : Given) × (g.given ≡ h.given ++ y ∷ []) × ((more : Arguments) (rest : List Parameter) → AreArguments p more rest → AreArguments p (given_as y more) (a ∷ rest)))
 
-  handed_part : (ps : List Formal) (js : List (Judged Answer)) → Each (Holds (Part p e)) js → (xs : List Expr) (h : Handing) → length ps ≡ length xs → length js ≡ length xs →
+  handed_part : (ps : List Formal) → AreCovered e ps → (js : List (Judged Answer)) → Each (Holds (Part p e)) js → (xs : List Expr) (h : Handing) → length ps ≡ length xs → length js ≡ length xs →
       Holds (Handed h ps) (calls.handed_from e h ps js xs)
-  handed_part [] js parts [] h many same = λ none. (refl, λ whole as' are. ([], sym (append-nil h.given), are))
-  handed_part [] js parts (x ∷ xs) h many same = absurd (omega (arith, many))
-  handed_part (f ∷ ps) js parts [] h many same = absurd (omega (arith, many))
-  handed_part (f ∷ ps) [] parts (x ∷ xs) h many same = absurd (omega (arith, same))
-  handed_part (f ∷ ps) (j ∷ js) parts (x ∷ xs) h many same =
+  handed_part [] covers js parts [] h many same = λ none. (refl, λ whole as' are. ([], sym (append-nil h.given), are))
+  handed_part [] covers js parts (x ∷ xs) h many same = absurd (omega (arith, many))
+  handed_part (f ∷ ps) covers js parts [] h many same = absurd (omega (arith, many))
+  handed_part (f ∷ ps) covers [] parts (x ∷ xs) h many same = absurd (omega (arith, same))
+  handed_part (f ∷ ps) covers (j ∷ js) parts (x ∷ xs) h many same =
       let d = is_some (calls.desig_alone x) in
       let at = (out-Expr x).pos in
       holds_bind (One h f) (Handed h (f ∷ ps)) (bind j (λ a. judge.handed e h f d at a)) (λ g. calls.handed_from e g ps js xs)
       (holds_bind (Part p e) (One h f) j (λ a. judge.handed e h f d at a) parts.0 (λ a part none. one d a part (no_breach (judge.argument_rule e f d a.known) at none)))
-      (λ g is none. all g is (handed_part ps js parts.1 xs g (omega (arith, many)) (omega (arith, same)) none))
+      (λ g is none. all g is (handed_part ps covers.1 js parts.1 xs g (omega (arith, many)) (omega (arith, same)) none))
     where
       and_same : (b : Bool) → (b && true) ≡ b
       and_same true = refl
@@ -671,7 +712,7 @@ module _ (p : Inside) (e : Env) where
           refl,
           subst (λ o. judge.argument_rule e (record { by_reference = f.by_reference; of = o }) d a.known ≡ None →
               (more : Arguments) (rest : List Parameter) → AreArguments p more rest → AreArguments p (given_as (judge.given e (record { by_reference = f.by_reference; of = o }) a) more) (q ∷ rest))
-              (sym of) (given_for p e whole q f.by_reference t as_type same kind d a part) rule,
+              (sym of) (given_for p e whole q f.by_reference t as_type same kind (subst (λ o. value_length e (record { by_reference = f.by_reference; of = o }) ≤ longest e) of covers.0) d a part) rule,
         ),
       )
 
@@ -688,25 +729,25 @@ module _ (p : Inside) (e : Env) where
       )
 
   -- all arguments of a call
-  pub arguments_part : (first : Pos) (ps : List Formal) (js : List (Judged Answer)) → Each (Holds (Part p e)) js → (xs : List Expr) → length js ≡ length xs →
+  pub arguments_part : (first : Pos) (ps : List Formal) → AreCovered e ps → (js : List (Judged Answer)) → Each (Holds (Part p e)) js → (xs : List Expr) → length js ≡ length xs →
       Holds (λ (g : Handing). (g.are_kept ≡ true) × (IsWhole p e → (as' : List Parameter) → AreParameters e ps as' → AreArguments p (listed g.given) as')) (calls.arguments_for e first ps js xs)
-  arguments_part first ps js parts xs same = by (length ps == length xs) refl
+  arguments_part first ps covers js parts xs same = by (length ps == length xs) refl
     where
       by : (b : Bool) → (length ps == length xs) ≡ b →
           Holds (λ (g : Handing). (g.are_kept ≡ true) × (IsWhole p e → (as' : List Parameter) → AreParameters e ps as' → AreArguments p (listed g.given) as'))
           (if b then calls.handed_from e (judge.nothing_handed true) ps js xs else judged (breach 34 first) (judge.nothing_handed false))
       by true many = λ none.
-          let r = handed_part ps js parts xs (judge.nothing_handed true) (eqb-true (length ps) (length xs) many) same none in
+          let r = handed_part ps covers js parts xs (judge.nothing_handed true) (eqb-true (length ps) (length xs) many) same none in
           (r.0, λ whole as' are. let g = r.1 whole as' are in subst (λ l. AreArguments p (listed l) as') (sym g.1) g.2)
       by false many = broken (λ (g : Handing). (g.are_kept ≡ true) × (IsWhole p e → (as' : List Parameter) → AreParameters e ps as' → AreArguments p (listed g.given) as')) (record { rule = 34; pos = first }) [] (judge.nothing_handed false)
 
   -- A function's value.
 
-  function_part : (first : Pos) (c : Callee) (s : Signature) (of : Option TypeId) → (IsWhole p e → (q : Procedure) × IsCalled p c q × IsSigned e s q) → s.gives ≡ gives.Value of →
+  function_part : (first : Pos) (c : Callee) (s : Signature) → AreCovered e s.parameters → (of : Option TypeId) → (IsWhole p e → (q : Procedure) × IsCalled p c q × IsSigned e s q) → s.gives ≡ gives.Value of →
       (js : List (Judged Answer)) → Each (Holds (Part p e)) js → (xs : List Expr) → length js ≡ length xs → Holds (Valued p e) (calls.function_value e first c s.parameters of js xs)
-  function_part first c s of called value js parts xs same =
+  function_part first c s covers of called value js parts xs same =
       holds_bind (λ (g : Handing). (g.are_kept ≡ true) × (IsWhole p e → (as' : List Parameter) → AreParameters e s.parameters as' → AreArguments p (listed g.given) as')) (Valued p e)
-      (calls.arguments_for e first s.parameters js xs) (calls.function_told e first c of) (arguments_part first s.parameters js parts xs same) told
+      (calls.arguments_for e first s.parameters js xs) (calls.function_told e first c of) (arguments_part first s.parameters covers js parts xs same) told
     where
       given : IsWhole p e → (gs : List Given) (q : Procedure) → IsCalled p c q → (t : TypeId) → q.result ≡ Some (type_as t) → (t ≡ nil → ⊥) →
           AreArguments p (listed gs) q.parameters → (b : Bool) → is_basic t ≡ b → (b || (is_reference e t || is_procedural e t)) ≡ true → IsScalar p t (Invoked c (listed gs)) ⊎ IsOther p t (Invoked c (listed gs))
@@ -761,7 +802,7 @@ module _ (p : Inside) (e : Env) where
       by_result s is gives.Nothing at =
           rw at (holds_bind (λ (h : Handing). Unit {0}) (Valued p e) (calls.arguments_for e first s.parameters js xs) (λ h. refused_value 36 first) (λ none. tt)
           (λ h any. refused_value_part p e 36 first))
-      by_result s is (gives.Value of) at = rw at (function_part first c s of (λ whole. called whole s is) at js parts xs same)
+      by_result s is (gives.Value of) at = rw at (function_part first c s (heading_covered e h s is) of (λ whole. called whole s is) at js parts xs same)
 
       by : (o : Option Signature) → signature_of e h ≡ o → Holds (Valued p e) (calls.invoked e first c h js xs)
       by None is = rw is (refused_value_part p e 20 first)

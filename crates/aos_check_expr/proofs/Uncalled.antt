@@ -60,8 +60,8 @@ use Rattle.aos_operators.specs.declared.operations.Step.{Step}
 use Rattle.aos_operators.specs.declared.operations.Operation.{Operation}
 use Rattle.aos_operators.specs.Known.{Answer, Spot, Held, Stands, Value, read_from, type_as, typed_as, is_basic, is_nil, is_number, as_procedure}
 use Rattle.aos_operators.specs.Operations as op
-use Rattle.aos_rules.specs.declared.functions.Taking.TheVariants as taking
-use Rattle.aos_rules.specs.Arguments.{Given}
+use Rattle.aos_arguments.specs.declared.functions.Taking.TheVariants as taking
+use Rattle.aos_arguments.specs.Arguments.{Given}
 use Rattle.aos_designators.specs.declared.designators.Head.{Head}
 use Rattle.aos_designators.specs.declared.methods.Heading.{Heading}
 use Rattle.aos_designators.specs.declared.methods.Heading.TheVariants as heading

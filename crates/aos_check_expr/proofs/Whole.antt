@@ -1,5 +1,5 @@
 -- Environments of bodies, in which each variable has its type: what is known of its table of types.
-use Rattle.std.proofs.Common.{◌≡◌, ℕ, ◌+◌, ◌≤◌, ◌<◌, List, [], ◌∷◌, length, Bool, true, false, ◌==◌, ◌&&◌, ◌⊎◌, inl, inr, not, Option, Some, None, is_some, option_map, slice_get, refl, sym, ap, ◌∙◌, le-ltb, arith}
+use Rattle.std.proofs.Common.{◌≡◌, ℕ, ◌+◌, ◌≤◌, ◌<◌, List, [], ◌∷◌, ◌++◌, length, Bool, true, false, ◌==◌, ◌&&◌, ◌⊎◌, inl, inr, not, Option, Some, None, is_some, option_map, slice_get, refl, sym, ap, ◌∙◌, le-ltb, arith}
 use Rattle.std.proofs.lemmas.Option.{none-some, same_Some, slice_get_within, slice_get_past}
 use Rattle.std.proofs.lemmas.Bool.{and_parts}
 use Rattle.aos_base.specs.declared.text.Pos.{Pos}
@@ -43,6 +43,7 @@ use Rattle.aos_operators.proofs.Inside.{Inside, IsPlaceOf, AreRows, AreVariables
 use Rattle.aos_operators.specs.Known.{Spot, is_basic, object_number, type_as, type_of}
 use Rattle.aos_operators.proofs.Good.{HasGood}
 use Rattle.aos_operators.proofs.Types.{not_both, id_as}
+use Rattle.aos_arguments.specs.Filled.{filled_texts}
 use Rattle.aos_designators.specs.Designators as desig
 use Rattle.aos_check_expr.proofs.Opens.{OpensFall, OpensStand, IsVariableNumber, some_there, behind_all}
 
@@ -155,7 +156,7 @@ NarrowsWell e x k a (v ∷ vs) =
 -- and begins with what is predeclared, the types behind the first ten are its object types, each procedure that a module's scope names is as its signature says,
 -- a body without a signature gives nothing, SELF is of an object type, whose fields, methods and initializer are those of the program,
 -- beside each procedure type stands what has its formals, no type is that of procedures that are named, and each module's string
--- constants are those of its text.
+-- constants begin with those of its text, behind which the bodies' module has those with 0X behind them.
 pub record IsWhole (p : Inside) (e : Env) : Type 0 where
   pub variables : (o : Open) (s : Scope) (w : List ℕ) (x : Entry) (k : ℕ) → o.scope ≡ 0 → env.scope e o ≡ Some s → find s w ≡ Some x →
       x.means ≡ means.Variable k → IsTyped p e (ModuleVar o.home k) (env.variable_type e o k)
@@ -189,7 +190,11 @@ pub record IsWhole (p : Inside) (e : Env) : Type 0 where
   pub signatures : (m k : ℕ) (s : Scope) (w : List ℕ) (x : Entry) → env.scope e (env.own m) ≡ Some s → find s w ≡ Some x → x.means ≡ means.Procedure k →
       (g : Signature) → env.signature e m k ≡ Some g → (q : Procedure) × (procedure_in p.program m k ≡ Some q) × IsSigned e g q
   pub strings : (m : ℕ) (h : Home) → env.home e m ≡ Some h →
-      (x : Module) × (slice_get p.program.modules m ≡ Some x) × (length x.variables ≡ env.variable_count e m) × (x.texts ≡ texts_of h)
+      (x : Module) × (slice_get p.program.modules m ≡ Some x) × (length x.variables ≡ env.variable_count e m)
+      × (more : List (List ℕ)) × (x.texts ≡ texts_of h ++ more)
+  pub filled :
+      (x : Module) × (slice_get p.program.modules e.number ≡ Some x) × (length x.variables ≡ env.variable_count e e.number)
+      × (x.texts ≡ texts_of e.here ++ filled_texts e)
 
 -- the predeclared types are there
 pub many_types : (p : Inside) (e : Env) → IsWhole p e → 10 ≤ length e.types

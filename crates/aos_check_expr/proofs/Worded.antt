@@ -32,7 +32,7 @@ use Rattle.aos_symbols.specs.Env as env
 use Rattle.aos_symbols.specs.Env.{boolean, char, text, longint}
 use Rattle.aos_symbols.proofs.Each.{Each, all_of}
 use Rattle.aos_symbols.proofs.Found.{some_found}
-use Rattle.aos_symbols.proofs.Told.{IsLength}
+use Rattle.aos_symbols.proofs.Told.{IsLength, get_front}
 use Rattle.aos_symbols.proofs.Holds.{Holds, none_left, none_right, test_is}
 use Rattle.aos_operators.proofs.Inside.{Inside, IsPlaceOf, AreRows, AreVariables, IsOf}
 use Rattle.aos_operators.specs.declared.known.Class.{Class}
@@ -303,7 +303,8 @@ module _ (p : Inside) (e : Env) (whole : IsWhole p e) where
               behind = t.number;
               is = ap (λ n. n + t.number) (sym m.2);
               characters = codes h s;
-              there = ap (λ ts. slice_get ts t.number) m.3 ∙ slice_get-map (codes h) h.strings t.number ∙ ap (option_map (codes h)) is;
+              there = ap (λ ts. slice_get ts t.number) m.4
+                  ∙ get_front (map (codes h) h.strings) m.3 t.number (codes h s) (slice_get-map (codes h) h.strings t.number ∙ ap (option_map (codes h)) is);
               long = ap suc (long h s there is);
             },
           )

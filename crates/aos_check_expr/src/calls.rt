@@ -8,10 +8,10 @@ ghost use Rattle.aos_operators.specs.Seen.{seen_answer, seen_spot};
 ghost use Rattle.aos_designators.specs.Designators as designators;
 ghost use Rattle.aos_check_expr.specs.Expressions as judge;
 
+use aos_arguments::{Limit, limit_meant};
 use aos_base::Pos;
 use aos_designators::{Head, guarded, is_module, member, named, plain, refused_at};
 use aos_operators::{Answer, Spot, refused};
-use aos_rules::{Limit, limit_meant};
 use aos_symbols::{
     ARGUMENT_COUNT, ARGUMENT_TYPE, Breach, Env, Lookup, Meaning, NOT_BUILT, NOT_EXPORTED, UNKNOWN,
     WRONG_CALL,

@@ -7,11 +7,15 @@ ghost use Rattle.aos_symbols.specs.Judged.{walk};
 ghost use Rattle.aos_operators.specs.Operations as operations;
 ghost use Rattle.aos_operators.specs.Seen.{seen_answer, seen_spot};
 ghost use Rattle.aos_designators.specs.Seen.{seen_bound, seen_part};
-ghost use Rattle.aos_rules.specs.Seen.{seen_handing};
+ghost use Rattle.aos_arguments.specs.Seen.{seen_handing};
 ghost use Rattle.aos_check_expr.specs.Expressions as judge;
 
 use crate::calls::{desig_alone, guard_type, limit_called, not_called, qualident_in};
 use crate::signatures::signature_at;
+use aos_arguments::{
+    Handing, Limit, Taking, function_value, hand, nothing_handed, step_in, value_of_one,
+    value_of_two,
+};
 use aos_base::Pos;
 use aos_designators::{
     Bound, Head, Heading, Part, bound_part, element as element_of, followed_part, guarded,
@@ -25,10 +29,7 @@ use aos_operators::forms::{
 use aos_operators::{
     Answer, Spot, constant_answer, is_integer, operations, refused, refused_value, spot_of,
 };
-use aos_rules::{
-    Handing, Limit, Taking, function_value, hand, len_alone, len_in, nothing_handed, related,
-    step_in, tested, value_of_one, value_of_two,
-};
+use aos_rules::{len_alone, len_in, related, tested};
 use aos_symbols::{
     ARGUMENT_COUNT, Breach, Env, Function, Lookup, Meaning, NOT_CONSTANT, Symbol, WRONG_CALL, note,
 };

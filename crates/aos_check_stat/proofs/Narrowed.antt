@@ -198,6 +198,7 @@ module _ (e : Env) (ns : List Narrowed) (exclusive condition : Bool) where
     patterns = whole.patterns;
     signatures = λ m k s w x there found means g is. let q = whole.signatures m k s w x there found means g is in (q.0, q.1, signed_within g q.0 q.2);
     strings = whole.strings;
+    filled = whole.filled;
   }
 
 -- in an exclusive block, or in none

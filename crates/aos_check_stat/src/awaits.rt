@@ -5,11 +5,11 @@ ghost use Rattle.aos_typed.specs.Seen.{seen_stat};
 ghost use Rattle.aos_symbols.specs.Breaches.{first_after};
 ghost use Rattle.aos_check_stat.specs.Bodies as judge;
 
+use crate::boxed::condition;
 use aos_base::Pos;
-use aos_check_expr::condition;
 use aos_made_stat::MadeStat;
 use aos_symbols::{AWAIT_OUTSIDE, Breach, Env, note};
-use aos_tree::Expr;
+use aos_tree::{Boxed, Expr};
 use std::alloc::{AllocError, Global};
 
 /// Goes into a block that is exclusive or not, and gives whether an exclusive one stands round it.
@@ -36,7 +36,7 @@ pub fn await_of(
     found: &mut Option<Breach>,
     env: &mut Env<'_>,
     at: Pos,
-    test: &Expr,
+    test: &Boxed<Expr>,
 ) -> Result<Option<MadeStat>, AllocError>
     ensures env { OnOk result (env.new ≡ env.old) }
     ensures noted { OnOk result (found.new ≡

@@ -8,7 +8,7 @@ ghost use Rattle.aos_check_stat.specs.Bodies as judge;
 use crate::modifiers::{are_exclusive, refuse_of_body};
 use crate::statements::stats_in;
 use aos_symbols::{Breach, Env};
-use aos_tree::Block;
+use aos_tree::{Block, Boxed};
 use aos_typed::TStat;
 use std::alloc::{AllocError, Global};
 
@@ -18,7 +18,7 @@ pub fn body_of(
     found: &mut Option<Breach>,
     env: &mut Env<'_>,
     may_be_active: bool,
-    body: &Option<Block>,
+    body: &Option<Boxed<Block>>,
 ) -> Result<Vec<TStat>, AllocError>
     ensures env { OnOk result (env.new ≡ env.old) }
     ensures noted { OnOk result (found.new ≡
@@ -30,7 +30,8 @@ pub fn body_of(
 {
     match body {
         None => Ok(Vec::new(alloc)),
-        Some(block) => {
+        Some(held) => {
+            let block = held.get();
             let text = env.here.text();
             let modifiers = block.modifiers.as_slice();
             let exclusive = are_exclusive(text, modifiers);

@@ -9,11 +9,12 @@ ghost use Rattle.aos_operators.specs.Seen.{seen_answer};
 ghost use Rattle.aos_check_stat.specs.Bodies as judge;
 ghost use Rattle.aos_check_stat.specs.Taken.{AreTaken};
 
+use crate::boxed::expr;
 use aos_base::Pos;
-use aos_check_expr::{constant_class, expr};
+use aos_check_expr::constant_class;
 use aos_operators::{Answer, is_char, is_number, number};
 use aos_symbols::{Breach, Env, WRONG_LABEL, note};
-use aos_tree::{Expr, Label};
+use aos_tree::{Boxed, Expr, Label};
 use aos_typed::LabelRange;
 use aos_types::TypeId;
 use std::alloc::{AllocError, Global};
@@ -123,14 +124,14 @@ fn label_value(
     env: &Env<'_>,
     at: Pos,
     of: Option<TypeId>,
-    part: &Expr,
+    part: &Boxed<Expr>,
 ) -> Result<Option<i64>, AllocError>
     ensures noted { OnOk result (found.new ≡
         first_after found.old (judge.label_value env.now at of part.now).breaches) }
     ensures answer { IfOk result (λ n. n ≡ (judge.label_value env.now at of part.now).answer) }
 {
     let known = expr(alloc, found, env, part)?.known;
-    let value = constant_class(found, known.class, part.pos);
+    let value = constant_class(found, known.class, part.get().pos);
     if !is_label(of, known.of) {
         note(found, WRONG_LABEL, at);
     }
@@ -159,7 +160,7 @@ fn label_range(
         first_after found.old (judge.label_range env.now of label.now).breaches) }
     ensures answer { IfOk result (λ r. r ≡ (judge.label_range env.now of label.now).answer) }
 {
-    let at = label.first.pos;
+    let at = label.first.get().pos;
     let first = label_value(alloc, found, env, at, of, &label.first)?;
     match &label.last {
         None => Ok(range_of(first, first)),
@@ -192,7 +193,7 @@ pub fn labels_in(
     let first = labels.all.len();
     for label in arm {
         let range = label_range(alloc, found, env, of, label)?;
-        labels.put(found, label.first.pos, range)?;
+        labels.put(found, label.first.get().pos, range)?;
     }
     labels.behind(alloc, first)
 }
@@ -203,7 +204,7 @@ pub fn selector(
     alloc: Global,
     found: &mut Option<Breach>,
     env: &Env<'_>,
-    part: &Expr,
+    part: &Boxed<Expr>,
 ) -> Result<Answer, AllocError>
     ensures noted { OnOk result (found.new ≡
         first_after found.old (judge.selector env.now part.now).breaches) }
@@ -211,7 +212,7 @@ pub fn selector(
 {
     let value = expr(alloc, found, env, part)?;
     if !(is_number(value.known.of) || is_char(value.known.of)) {
-        note(found, WRONG_LABEL, part.pos);
+        note(found, WRONG_LABEL, part.get().pos);
     }
     Ok(value)
 }

@@ -3,6 +3,7 @@
 
 mod awaits;
 pub mod bodies;
+mod boxed;
 mod labels;
 mod loops;
 mod modifiers;

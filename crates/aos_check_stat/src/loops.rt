@@ -9,10 +9,10 @@ ghost use Rattle.aos_symbols.specs.Breaches.{first_after};
 ghost use Rattle.aos_check_stat.specs.Bodies as judge;
 ghost use Rattle.aos_check_stat.specs.Listed as listed;
 
+use crate::boxed::expr;
 use crate::modifiers::alone;
 use crate::withs::is_lone_self;
 use aos_base::Pos;
-use aos_check_expr::expr;
 use aos_designators::{access, place_of_variable, refuse_written};
 use aos_made::{MadePlace, Typed};
 use aos_operators::{Class, fits, is_number, type_of_literal};
@@ -20,7 +20,7 @@ use aos_symbols::{
     Breach, Env, Lookup, Meaning, NOT_BUILT, NOT_EXPORTED, Symbol, UNFIT, UNKNOWN, WRONG_FOR,
     WRONG_SELF, note,
 };
-use aos_tree::{Expr, Name};
+use aos_tree::{Boxed, Expr, Name};
 use aos_typed::{Literal, TExpr, TPlace};
 use aos_types::TypeId;
 use std::alloc::{AllocError, Global};
@@ -156,7 +156,7 @@ fn fitting(
     of: Option<TypeId>,
     rule: u16,
     at: Pos,
-    part: &Expr,
+    part: &Boxed<Expr>,
 ) -> Result<Typed, AllocError>
     ensures noted { OnOk result (found.new ≡
         first_after found.old (judge.fitting env.now of rule at part.now).breaches) }
@@ -220,7 +220,7 @@ fn step_of(
     env: &Env<'_>,
     at: Pos,
     of: Option<TypeId>,
-    by: &Option<Expr>,
+    by: &Option<Boxed<Expr>>,
 ) -> Result<i64, AllocError>
     ensures noted { OnOk result (found.new ≡
         first_after found.old (judge.step_of env.now at of by.now).breaches) }
@@ -245,9 +245,9 @@ pub fn counting(
     env: &Env<'_>,
     name: Name,
     assigned: Pos,
-    from: &Expr,
-    to: &Expr,
-    by: &Option<Expr>,
+    from: &Boxed<Expr>,
+    to: &Boxed<Expr>,
+    by: &Option<Boxed<Expr>>,
 ) -> Result<Counted, AllocError>
     ensures noted { OnOk result (found.new ≡ first_after found.old
         (listed.counting env.now name assigned from.now to.now by.now).breaches) }

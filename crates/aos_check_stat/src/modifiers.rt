@@ -7,12 +7,12 @@ ghost use Rattle.aos_symbols.specs.Spelling as spelling;
 ghost use Rattle.aos_check_expr.specs.Expressions as expressions;
 ghost use Rattle.aos_check_stat.specs.Bodies as judge;
 
+use crate::boxed::expr;
 use aos_base::{Pos, Priority};
-use aos_check_expr::expr;
 use aos_operators::Class;
 use aos_rules::number_in;
 use aos_symbols::{Breach, Env, NOT_BUILT, WRONG_MODIFIER, is_active, is_priority, is_word, note};
-use aos_tree::{Block, Expr, Modifier};
+use aos_tree::{Block, Boxed, Expr, Modifier};
 use std::alloc::{AllocError, Global};
 
 /// Whether a modifier is SAFE, which isn't built.
@@ -171,7 +171,7 @@ fn level_in(class: Class) -> Option<Priority>
 pub(crate) fn alone(
     alloc: Global,
     env: &Env<'_>,
-    value: &Expr,
+    value: &Boxed<Expr>,
 ) -> Result<(Option<Breach>, Class), AllocError>
     ensures own { IfOk result (λ r. r.0 ≡
         first_after None (expressions.expr env.now value.now).breaches) }
@@ -203,7 +203,7 @@ fn refuse_value(
     found: &mut Option<Breach>,
     env: &Env<'_>,
     at: Pos,
-    value: &Option<Expr>,
+    value: &Option<Boxed<Expr>>,
 ) -> Result<(), AllocError>
     ensures { OnOk result (found.new ≡
         first_after found.old (judge.value_breaches env.now at value.now)) }
@@ -282,7 +282,11 @@ pub fn refuse_of_body(
 }
 
 /// The priority that the value of a PRIORITY names, or the normal one.
-fn level_of(alloc: Global, env: &Env<'_>, value: &Option<Expr>) -> Result<Priority, AllocError>
+fn level_of(
+    alloc: Global,
+    env: &Env<'_>,
+    value: &Option<Boxed<Expr>>,
+) -> Result<Priority, AllocError>
     ensures { IfOk result (λ p. p ≡ judge.level_of env.now value.now) }
 {
     match value {
@@ -324,12 +328,12 @@ fn said_by_all(alloc: Global, env: &Env<'_>, modifiers: &[Modifier]) -> Result<P
 pub fn priority_of(
     alloc: Global,
     env: &Env<'_>,
-    body: &Option<Block>,
+    body: &Option<Boxed<Block>>,
 ) -> Result<Priority, AllocError>
     ensures { IfOk result (λ p. p ≡ judge.priority_of env.now body.now) }
 {
     match body {
         None => Ok(Priority::Normal),
-        Some(body) => said_by_all(alloc, env, body.modifiers.as_slice()),
+        Some(body) => said_by_all(alloc, env, body.get().modifiers.as_slice()),
     }
 }

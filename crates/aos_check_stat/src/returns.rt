@@ -5,14 +5,14 @@ ghost use Rattle.aos_typed.specs.Seen.{seen_stat};
 ghost use Rattle.aos_symbols.specs.Breaches.{first_after};
 ghost use Rattle.aos_check_stat.specs.Bodies as judge;
 
+use crate::boxed::expr;
 use aos_base::Pos;
 use aos_check_call::refused;
-use aos_check_expr::expr;
 use aos_made_stat::MadeStat;
 use aos_operators::may_be_value;
 use aos_rules::{is_assignable, typed_for};
 use aos_symbols::{Breach, Env, NOT_BUILT, WRONG_RETURN, note};
-use aos_tree::Expr;
+use aos_tree::{Boxed, Expr};
 use aos_types::{Gives, TypeId};
 use std::alloc::{AllocError, Global};
 
@@ -34,7 +34,7 @@ fn return_value(
     env: &Env<'_>,
     at: Pos,
     of: Option<TypeId>,
-    value: &Expr,
+    value: &Boxed<Expr>,
 ) -> Result<Option<MadeStat>, AllocError>
     ensures noted { OnOk result (found.new ≡ first_after found.old
         (judge.return_value env.now at of value.now).breaches) }
@@ -59,7 +59,7 @@ pub fn return_of(
     found: &mut Option<Breach>,
     env: &Env<'_>,
     at: Pos,
-    value: &Option<Expr>,
+    value: &Option<Boxed<Expr>>,
 ) -> Result<Option<MadeStat>, AllocError>
     ensures noted { OnOk result (found.new ≡ first_after found.old
         (judge.return_of env.now at (judge.gives_here env.now) value.now).breaches) }

@@ -12,6 +12,7 @@ ghost use Rattle.aos_check_stat.specs.Listed as listed;
 ghost use Rattle.aos_made_stat.specs.Onto.{onto};
 
 use crate::awaits::{await_of, enter_block, leave_block};
+use crate::boxed::{condition, expr};
 use crate::labels::{Labels, labels_in, selector};
 use crate::loops::{Counted, counting};
 use crate::modifiers::{are_exclusive, refuse_modifiers};
@@ -19,13 +20,13 @@ use crate::returns::return_of;
 use crate::withs::{enter_with, guarded_variable, leave_with, with_stat};
 use aos_base::Pos;
 use aos_check_call::{called, put_text, refused, text_to, value_fits};
-use aos_check_expr::{condition, designator, expr};
+use aos_check_expr::designator;
 use aos_designators::refuse_assigned;
 use aos_made_stat::{MadeArms, MadeCases, MadeElse, MadeStat, MadeStats};
 use aos_operators::{Answer, Spot, has_parts, place_in, place_of, type_of, width_of};
 use aos_rules::typed_for;
 use aos_symbols::{Breach, EXIT_OUTSIDE, Env, UNFIT, note};
-use aos_tree::{Block, Case, Desig, Elsif, Expr, Name, Qualident, Stat, StatSeq};
+use aos_tree::{Block, Boxed, Case, Desig, Elsif, Expr, Name, Qualident, Stat, StatSeq};
 use aos_types::TypeId;
 use std::alloc::{AllocError, Global};
 
@@ -81,7 +82,7 @@ fn assign(
     env: &Env<'_>,
     desig: &Desig,
     at: Pos,
-    value: &Expr,
+    value: &Boxed<Expr>,
 ) -> Result<Option<MadeStat>, AllocError>
     ensures noted { OnOk result (found.new ≡
         first_after found.old (judge.assign env.now desig.now at value.now).breaches) }
@@ -189,7 +190,7 @@ fn put_arm(
     env: &mut Env<'_>,
     in_loop: bool,
     body: &StatSeq,
-    test: &Expr,
+    test: &Boxed<Expr>,
     arms: &mut MadeArms,
 ) -> Result<(), AllocError>
     ensures env { OnOk result (env.new ≡ env.old) }
@@ -320,7 +321,7 @@ fn while_of(
     in_loop: bool,
     at: Pos,
     body: &StatSeq,
-    test: &Expr,
+    test: &Boxed<Expr>,
 ) -> Result<Option<MadeStat>, AllocError>
     ensures env { OnOk result (env.new ≡ env.old) }
     ensures noted { OnOk result (found.new ≡ first_after found.old
@@ -343,7 +344,7 @@ fn repeat_of(
     in_loop: bool,
     at: Pos,
     body: &StatSeq,
-    test: &Expr,
+    test: &Boxed<Expr>,
 ) -> Result<Option<MadeStat>, AllocError>
     ensures env { OnOk result (env.new ≡ env.old) }
     ensures noted { OnOk result (found.new ≡ first_after found.old
@@ -390,9 +391,9 @@ fn for_of(
     name: Name,
     assigned: Pos,
     body: &StatSeq,
-    from: &Expr,
-    to: &Expr,
-    by: &Option<Expr>,
+    from: &Boxed<Expr>,
+    to: &Boxed<Expr>,
+    by: &Option<Boxed<Expr>>,
 ) -> Result<Option<MadeStat>, AllocError>
     ensures env { OnOk result (env.new ≡ env.old) }
     ensures noted { OnOk result (found.new ≡ first_after found.old (listed.for_of env.old in_loop

@@ -1,5 +1,6 @@
 -- The program that texts come to is well typed.
 use Rattle.std.proofs.Common.{◌≡◌, ℕ, suc, ◌+◌, ◌-◌, ◌<◌, ◌≤◌, List, [], ◌∷◌, length, map, Option, Some, None, slice_get, zip, All, refl, sym, ap, subst, arith}
+use Rattle.std.proofs.lemmas.List.Elements.{All-append}
 use Rattle.std.proofs.lemmas.Option.{slice_get_within}
 use Rattle.aos_types.specs.declared.row.TypeId.{TypeId}
 use Rattle.aos_types.specs.declared.TheConstants.{MOST_SCALARS}
@@ -9,7 +10,7 @@ use Rattle.aos_typed.specs.Program.{ObjectType, Module, Program}
 use Rattle.aos_typed.specs.WellTyped.{AreSlots, AreStatements, AreTypes, IsVariableType, IsProcedure, AreObjectTypes, module_scalars, ProgramKeepsRules, IsWellTyped}
 use Rattle.aos_typed.specs.Rules.{ModuleKeepsRules, ObjectKeepsRules}
 use Rattle.aos_typed.proofs.Numbered.{numbered_typed}
-use Rattle.aos_symbols.specs.Home.{Home}
+use Rattle.aos_symbols.specs.Home.{Home, texts_of}
 use Rattle.aos_symbols.specs.Outcome as outcome
 use Rattle.aos_symbols.specs.Outcome.{went, in_turn}
 use Rattle.aos_symbols.proofs.Each.{Each, all_of}
@@ -100,7 +101,8 @@ module _ (w : World) (sound : IsWorld w) where
   codes_of_homes n [] (m ∷ ms) are = absurd are
   codes_of_homes n (h ∷ hs) [] are = absurd are
   codes_of_homes n (h ∷ hs) (m ∷ ms) are =
-      (subst (All (λ t. All (λ c. c < 256) t)) (sym are.0.texts) (texts_below h), codes_of_homes (suc n) hs ms are.1)
+      let codes = All-append (λ t. All (λ c. c < 256) t) (texts_of h) are.0.more (texts_below h) are.0.codes in
+      (subst (All (λ t. All (λ c. c < 256) t)) (sym are.0.texts) codes, codes_of_homes (suc n) hs ms are.1)
 
   -- the methods that each type declares are in their slots
   slots : (k : ℕ) (o : ObjectType) → slice_get w.objects k ≡ Some o → AreSlots (program_of w) (on_base (methods_of (program_of w)) (base_type (program_of w) k)) o.methods

@@ -1,5 +1,5 @@
 -- What modules declare that break no rule, beside their modules of the typed program.
-use Rattle.std.proofs.Common.{◌≡◌, ℕ, zero, suc, ◌+◌, ◌≤◌, ◌<◌, ◌⊎◌, List, [], ◌∷◌, ◌++◌, length, map, true, Option, Some, slice_get, sum_by, refl, sym, ap, ◌∙◌, subst, arith}
+use Rattle.std.proofs.Common.{◌≡◌, ℕ, zero, suc, ◌+◌, ◌≤◌, ◌<◌, ◌⊎◌, List, [], ◌∷◌, ◌++◌, length, map, true, Option, Some, slice_get, sum_by, refl, sym, ap, ◌∙◌, subst, arith, All}
 use Rattle.std.proofs.lemmas.Option.{none-some, same_Some, slice_get_within}
 use Rattle.aos_types.specs.declared.row.TypeId.{TypeId}
 use Rattle.aos_types.specs.declared.TheConstants.{MOST_SCALARS}
@@ -26,7 +26,7 @@ use Rattle.aos_compile.proofs.TypingScalars.{sum_stays}
 use Rattle.aos_compile.proofs.TypingTypes.{RowsStay, there_stays}
 
 -- A module with a number that breaks no rule, and what it declares: each type that its scope names is told, each variable of its scope has
--- a type, and the program's module has these, the string constants of its text, and a procedure for each signature but those of methods;
+-- a type, and the program's module has these, the string constants of its text and more, and a procedure for each signature but those of methods;
 -- each constant has a good value, and each object type its scope there.
 pub record IsHome (types : List TypeRow) (number : ℕ) (h : Home) (m : Module) : Type 0 where
   pub scope : Scope
@@ -36,7 +36,9 @@ pub record IsHome (types : List TypeRow) (number : ℕ) (h : Home) (m : Module) 
   pub numbers : (w : List ℕ) (x : Entry) (k : ℕ) → find scope w ≡ Some x → x.means ≡ means.Variable k → k < length scope.variables
   pub known : Each (IsKnown types) scope.variables
   pub typed : map (λ v. v.of) m.variables ≡ map type_of scope.variables
-  pub texts : m.texts ≡ texts_of h
+  pub more : List (List ℕ)
+  pub texts : m.texts ≡ texts_of h ++ more
+  pub codes : All (λ t. All (λ c. c < 256) t) more
   pub few : sum_by (variable_cells types) scope.variables ≤ MOST_SCALARS
   pub fields : FieldsAgree types h
   pub good : (k : ℕ) (s : Scope) → slice_get h.scopes k ≡ Some s → AreGood s.constants
@@ -113,7 +115,9 @@ module _ (ts us : List TypeRow) (old : AreReady ts) (new : AreReady us) (on : Go
     numbers = is.numbers;
     known = implied (IsKnown ts) (IsKnown us) (known_on ts us on) is.scope.variables is.known;
     typed = is.typed;
+    more = is.more;
     texts = is.texts;
+    codes = is.codes;
     few =
         subst (λ n. n ≤ MOST_SCALARS)
         (sym (sum_stays ts us ten old.closed stay old.sound.none_contains_itself new.sound.none_contains_itself is.scope.variables is.known)) is.few;

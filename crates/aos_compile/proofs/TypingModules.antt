@@ -31,7 +31,8 @@ use Rattle.aos_symbols.specs.Outcome as outcome
 use Rattle.aos_symbols.specs.Declarations.{Procedure, procedures, methods_in, all_procedures, type_defs, all_type_defs, inner_parts, types_of, single_variables, formal_names, inner_decls}
 use Rattle.aos_entries.specs.Entries.{procedure_scope, inner_scope, inner_scopes, scopes}
 use Rattle.aos_symbols.specs.Scope.{Scope, find}
-use Rattle.aos_symbols.specs.Home.{Home, object_of}
+use Rattle.aos_symbols.specs.Home.{Home, object_of, texts_of}
+use Rattle.aos_arguments.specs.Filled.{filled_texts}
 use Rattle.aos_check_names.specs.Names.{name_breaches, declared_again, twice, module_names, other_end, within_decl}
 use Rattle.aos_symbols.specs.Env as env
 use Rattle.aos_symbols.specs.Env.{object_among}
@@ -279,6 +280,12 @@ module _ (w : World) (sound : IsWorld w) (text : List ℕ) (m : Tree) (once : Ea
   homes_more : AreHomes e.types 0 world.before world.modules
   homes_more = one_more e.types w.before w.modules e.here (module_of e m b) homes_now (home w sound text m e is b many placed fields)
 
+  -- the last module has the string constants with 0X behind them
+  filled_there : (x : Module) × (slice_get world.modules e.number ≡ Some x) × (x.texts ≡ texts_of e.here ++ filled_texts e)
+  filled_there =
+      let long = same_length w.types 0 w.before w.modules sound.homes in
+      (module_of e m b, ap (slice_get world.modules) (is.number_is ∙ long) ∙ get_end w.modules (module_of e m b), refl)
+
   fields_before : (k : ℕ) (h : Home) → slice_get e.before k ≡ Some h → FieldsAgree e.types h
   fields_before k h at = (home_at e.types w.before w.modules homes_now k h (ap (λ hs. slice_get hs k) (sym is.before_is) ∙ at)).2.fields
 
@@ -419,7 +426,7 @@ module _ (w : World) (sound : IsWorld w) (text : List ℕ) (m : Tree) (once : Ea
   everywhere : (own : Option TypedProcedure) (path : List Open) (self : Option TypeId) → IsPlaced (inside own) (record e { path = path; self_type = self }) →
       IsWhole (inside own) (record e { path = path; self_type = self })
   everywhere own path self placed =
-      whole (inside own) (record e { path = path; self_type = self }) world.before homes_more at_home is.table is.fields fields_before is.narrowed_is refl count known shapes (called_at path self) (begun_at own path self) placed
+      whole (inside own) (record e { path = path; self_type = self }) world.before homes_more at_home is.table is.fields fields_before is.narrowed_is refl count known shapes (called_at path self) (begun_at own path self) filled_there placed
 
   own_path : e.path ≡ env.own e.number ∷ []
   own_path = is.path_is ∙ ap (λ n. env.own n ∷ []) (sym is.number_is)

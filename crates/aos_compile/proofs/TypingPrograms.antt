@@ -351,7 +351,10 @@ module _ (p q : Program) (grows : Grows p q) where
           (h.0, h.1, h.2, value_parameter h.0 h.0.of one.0 h.3, scalar_grows h.0.of h.4, value_grows e h.0.of h.5, arguments_grow more h.1 one.1 h.6)
       arguments_grow (Whole x more) as' all h =
           let one = first_there as' h.0 h.1 h.2 all in
-          (h.0, h.1, h.2, (h.3.0, place_grows x h.3.0 h.3.1, given_grows h.0 x h.3.0 one.0 h.3.2), arguments_grow more h.1 one.1 h.4)
+          let whole = either_grows
+          (λ a. (a.0, place_grows x a.0 a.1, given_grows h.0 x a.0 one.0 a.2))
+          (λ f. (f.0, f.1, value_parameter h.0 h.0.of one.0 f.2, row_grows (id_of h.0.of).0 (row.Array f.0 (id_of TChar)) f.3, f.4, constant_grows x f.1 f.5)) h.3 in
+          (h.0, h.1, h.2, whole, arguments_grow more h.1 one.1 h.4)
       arguments_grow (Opening r more) as' all h =
           let one = first_there as' h.0 h.1 h.4 all in
           (h.0, h.1, h.2, h.3, h.4, opening_grows h.0 h.2 h.3 one.0 h.5, rows_grow r h.2 h.3 h.6, h.7, arguments_grow more h.1 one.1 h.8, λ by_reference. variables_grow r (h.9 by_reference))

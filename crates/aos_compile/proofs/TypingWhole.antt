@@ -1,5 +1,5 @@
 -- The environment of bodies: what is known of it where the modules before and this one break no rule.
-use Rattle.std.proofs.Common.{◌≡◌, ℕ, ◌+◌, ◌<◌, ◌==◌, ◌-◌, List, [], ◌∷◌, length, map, Bool, true, false, is_some, if◌then◌else◌, Option, Some, None, option_map, option_and_then, slice_get, refl, sym, ap, ◌∙◌, subst, eqb-true, arith}
+use Rattle.std.proofs.Common.{◌≡◌, ℕ, ◌+◌, ◌<◌, ◌==◌, ◌-◌, List, [], ◌∷◌, length, map, Bool, true, false, is_some, if◌then◌else◌, Option, Some, None, option_map, option_and_then, slice_get, refl, sym, ap, ◌∙◌, subst, eqb-true, arith, ◌++◌, eq-eqb}
 use Rattle.std.proofs.lemmas.Bool.{and_parts}
 use Rattle.std.proofs.lemmas.List.{length-map}
 use Rattle.std.proofs.lemmas.Option.{none-some, same_Some, slice_get-map, slice_get_within}
@@ -23,13 +23,14 @@ use Rattle.aos_symbols.specs.declared.env.Open.{Open}
 use Rattle.aos_symbols.specs.declared.env.Method.{Method}
 use Rattle.aos_symbols.specs.declared.env.Env.{Env}
 use Rattle.aos_symbols.specs.Scope.{Scope, find}
-use Rattle.aos_symbols.specs.Home.{Home, object_of, scope_of, fields_of}
+use Rattle.aos_symbols.specs.Home.{Home, object_of, scope_of, fields_of, texts_of}
 use Rattle.aos_symbols.specs.Env as env
 use Rattle.aos_symbols.specs.Spelling.{word}
 use Rattle.aos_symbols.proofs.Each.{Each, each_at}
 use Rattle.aos_symbols.proofs.Told.{IsTold, IsKnown, FieldsAgree}
 use Rattle.aos_operators.specs.Known.{object_number, type_of}
 use Rattle.aos_operators.proofs.Inside.{Inside}
+use Rattle.aos_arguments.specs.Filled.{filled_texts}
 use Rattle.aos_designators.specs.Designators as desig
 use Rattle.aos_check_expr.proofs.Opens.{some_there}
 use Rattle.aos_check_expr.proofs.Whole.{IsTyped, closed, IsResultOf, IsSigned, IsSearched, IsWhole, NarrowsWell, opens_told}
@@ -80,6 +81,7 @@ module _ (p : Inside) (e : Env) (hs : List Home) (are : AreHomes e.types 0 hs p.
     (called : (t : TypeId) (w : Word) (m : Meant) → is_object (row_of e.types t) ≡ true → meant e t w ≡ Some m →
     (q : TypedProcedure) × (slice_get (methods_of p.program (object_number t)) m.slot ≡ Some q) × IsMeant e p.program.modules p.program.objects m q)
     (begun : (t : TypeId) → is_object (row_of e.types t) ≡ true → IsBegun p e t)
+    (behind : (x : Module) × (slice_get p.program.modules e.number ≡ Some x) × (x.texts ≡ texts_of e.here ++ filled_texts e))
     (placed : IsPlaced p e) where
   home_of : (m : ℕ) (h : Home) → env.home e m ≡ Some h → (x : Module) × (slice_get p.program.modules m ≡ Some x) × IsHome e.types m h x
   home_of m h there = home_at e.types hs p.program.modules are m h (at m h there)
@@ -241,5 +243,10 @@ module _ (p : Inside) (e : Env) (hs : List Home) (are : AreHomes e.types 0 hs p.
     initial = initial;
     patterns = patterns;
     signatures = by_signature;
-    strings = λ m h there. let one = home_of m h there in (one.0, one.1, counted m h one.0 there one.2, one.2.texts);
+    strings = λ m h there. let one = home_of m h there in (one.0, one.1, counted m h one.0 there one.2, one.2.more, one.2.texts);
+    filled =
+        let own : env.home e e.number ≡ Some e.here = ap (λ b. if b then Some e.here else slice_get e.before e.number) (eq-eqb e.number e.number refl) in
+        let one = home_of e.number e.here own in
+        let same : one.0 ≡ behind.0 = same_Some one.0 behind.0 (sym one.1 ∙ behind.1) in
+        (behind.0, behind.1, ap (λ (x : Module). length x.variables) (sym same) ∙ counted e.number e.here one.0 own one.2, behind.2);
   }

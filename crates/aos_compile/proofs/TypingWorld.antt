@@ -21,9 +21,11 @@ use Rattle.aos_symbols.proofs.Each.{Each}
 use Rattle.aos_symbols.proofs.Told.{get_front}
 use Rattle.aos_check_expr.proofs.Opens.{some_there}
 use Rattle.aos_check_decl.proofs.Typing.{AreReady, IsReady, IsHeading, IsDeclared}
+use Rattle.aos_arguments.specs.Filled.{filled_texts}
 use Rattle.aos_compile.specs.Modules.{World, no_modules, program_of, first_scope, Bodies, variables_of, variable_of, procedure_of, module_of}
 use Rattle.aos_compile.proofs.Keeping.{WorldKeeps, none_keep}
 use Rattle.aos_compile.proofs.OwnMethods.{AreNamed, are_named}
+use Rattle.aos_compile.proofs.Strings.{filled_below}
 use Rattle.aos_compile.proofs.TypingHomes.{IsHome, AreHomes, home_at}
 use Rattle.aos_compile.proofs.TypingLocals.{types_beside}
 use Rattle.aos_compile.proofs.TypingMethods.{HasOwn}
@@ -128,7 +130,9 @@ module _ (w : World) (sound : IsWorld w) (text : List ℕ) (m : Tree) where
           typed =
               ap (λ (o : Option Scope). map (λ v. v.of) (map (variable_of e.here.text) (zip (single_variables m.decls) (variables_of o)))) is.own_is
               ∙ types_beside e.here.text (single_variables m.decls) is.own.variables is.count;
+          more = filled_texts e;
           texts = refl;
+          codes = filled_below e;
           few = is.few;
           fields = is.fields;
           good = is.constants;

@@ -37,6 +37,7 @@ use Rattle.aos_symbols.specs.Spelling.{word, is_active}
 use Rattle.aos_symbols.specs.Declarations.{Procedure, procedures, methods_in, type_defs, inner_parts, types_of, single_variables, formal_names}
 use Rattle.aos_symbols.specs.Scope.{Scope}
 use Rattle.aos_symbols.specs.Home.{Home, slot_at, texts_of}
+use Rattle.aos_arguments.specs.Filled.{filled_texts}
 use Rattle.aos_check_names.specs.Names.{name_breaches}
 use Rattle.aos_symbols.specs.Env as env
 use Rattle.aos_operators.specs.Known.{type_as, type_of}
@@ -293,7 +294,7 @@ module_of e m b =
     record {
       name = spelling text m.name;
       variables = map (variable_of text) (zip (single_variables m.decls) (variables_of (slice_get e.here.scopes 0)));
-      texts = texts_of e.here;
+      texts = texts_of e.here ++ filled_texts e;
       procedures = procedures_of text e.here.scopes (first_scope m) (procedures m.decls) e.here.signatures b.procedures;
       body = body_with text m.body (listed b.own);
     }

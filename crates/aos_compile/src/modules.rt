@@ -12,6 +12,7 @@ ghost use Rattle.aos_symbols.specs.Outcome.{went, refused, passed, refusal_of};
 ghost use Rattle.aos_check_names.specs.Names.{name_breaches};
 ghost use Rattle.aos_symbols.specs.Declarations.{single_variables};
 ghost use Rattle.aos_symbols.specs.Home.{texts_of as texts_in};
+ghost use Rattle.aos_arguments.specs.Filled.{filled_texts};
 ghost use Rattle.aos_symbols.specs.Env as env_of;
 ghost use Rattle.aos_compile.specs.declared.compile_err.CompileErr.TheVariants as err;
 ghost use Rattle.aos_compile.specs.Elaborates.{OnRefused};
@@ -148,11 +149,12 @@ fn outline_of(
         map (judge.variable_of env.now.here.text)
         (zip (single_variables tree.now.decls)
         (judge.variables_of (slice_get env.now.here.scopes 0)))) }
-    ensures texts { IfOk result (λ r. map (λ t. t.items) r.2.items ≡ texts_in env.now.here) }
+    ensures texts { IfOk result (λ r. map (λ t. t.items) r.2.items ≡
+        texts_in env.now.here ++ filled_texts env.now) }
 {
     let name = spelling_of(alloc, env.here.text(), tree.name)?;
     let variables = variables_of(alloc, env, tree.decls.as_slice())?;
-    let texts = texts_of(alloc, &env.here)?;
+    let texts = texts_of(alloc, env)?;
     Ok((name, variables, texts))
 }
 

@@ -20,7 +20,7 @@ use aos_check_decl::defined_type;
 use aos_check_stat::{body_of, priority_of};
 use aos_entries::{inner_decls, inner_parts, type_definitions};
 use aos_symbols::{Breach, Env, Home, ObjectScope, is_active, word};
-use aos_tree::{Block, Decl, Modifier, Module, Name, TypeDef, TypeExpr};
+use aos_tree::{Block, Boxed, Decl, Modifier, Module, Name, TypeDef, TypeExpr};
 use aos_typed::{TMethod, TProcedure, TStat};
 use aos_types::TypeId;
 use aos_unnamed::is_given;
@@ -112,7 +112,7 @@ fn procedure_statements(
     found: &mut Option<Breach>,
     env: &mut Env<'_>,
     scope: u32,
-    body: &Option<Block>,
+    body: &Option<Boxed<Block>>,
 ) -> Result<Vec<TStat>, AllocError>
     ensures noted { OnOk result (found.new ≡ first_after found.old
         (body_of_env (env_of.within env.old scope) false body.now).breaches) }
@@ -249,11 +249,11 @@ fn has_modifier(text: &[u8], modifiers: &[Modifier]) -> bool
 }
 
 /// Whether a body is active.
-fn is_active_body(text: &[u8], body: &Option<Block>) -> bool
+fn is_active_body(text: &[u8], body: &Option<Boxed<Block>>) -> bool
     ensures { result ≡ judge.has_active text.now body.now }
 {
     match body {
-        Some(body) => has_modifier(text, body.modifiers.as_slice()),
+        Some(body) => has_modifier(text, body.get().modifiers.as_slice()),
         None => false,
     }
 }

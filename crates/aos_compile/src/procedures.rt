@@ -13,7 +13,7 @@ use crate::variables::variables_from;
 use aos_check_stat::are_exclusive;
 use aos_operators::type_of;
 use aos_symbols::{Env, Scope};
-use aos_tree::{Block, Decl, Formals, Name, Proc};
+use aos_tree::{Block, Boxed, Decl, Formals, Name, Proc};
 use aos_typed::{TParameter, TProcedure, TStat, TType, TVariable};
 use aos_types::{Gives, Parameter, Signature};
 use std::alloc::{AllocError, Global};
@@ -108,11 +108,11 @@ fn locals_of(
 }
 
 /// Whether a body is exclusive.
-pub fn is_exclusive_body(text: &[u8], body: &Option<Block>) -> bool
+pub fn is_exclusive_body(text: &[u8], body: &Option<Boxed<Block>>) -> bool
     ensures { result ≡ judge.has_exclusive text.now body.now }
 {
     match body {
-        Some(body) => are_exclusive(text, body.modifiers.as_slice()),
+        Some(body) => are_exclusive(text, body.get().modifiers.as_slice()),
         None => false,
     }
 }

@@ -8,7 +8,7 @@ use aos_check_decl::declare;
 use aos_check_names::check_names;
 use aos_check_stat::body_of;
 use aos_symbols::{Breach, Env};
-use aos_tree::{Block, Items, Module};
+use aos_tree::{Block, Boxed, Items, Module};
 use aos_typed::TStat;
 use std::alloc::{AllocError, Global};
 
@@ -65,7 +65,7 @@ fn tell_body(
     alloc: Global,
     out: &mut String,
     env: &mut Env<'_>,
-    body: &Option<Block>,
+    body: &Option<Boxed<Block>>,
 ) -> Result<(), AllocError> {
     let mut found = None;
     let body = body_of(alloc, &mut found, env, false, body)?;

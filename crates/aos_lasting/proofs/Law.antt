@@ -35,7 +35,7 @@ use Rattle.aos_typed.specs.Program.{Place, ModuleVar, Local, Passed, Field, Inde
 use Rattle.aos_typed.specs.Routines.{Routine, has_self, parameters_at, parameters_of, routine_of, routines, self_type}
 use Rattle.aos_typed.specs.Spot.{Spot, Declared}
 use Rattle.aos_typed.specs.Value.{number_of, Value, Int, Flag, Char, Set, Object, Callable, Place as PlaceValue, Sort, Integer, Boolean, Character, Elements, literal_value, value_as, given, is_true, unary_sort, binary_sort}
-use Rattle.aos_typed.specs.WellTyped.{Includes, IsArrayOf, IsCalled, IsConstantText, IsGiven, IsNamed, IsObjectAt, IsOf, IsParameter, IsPlaceOf, AreArguments, AreRows, is_basic, is_procedural, is_reference, procedure_in as procedure_of, taken, target}
+use Rattle.aos_typed.specs.WellTyped.{Includes, IsArrayOf, IsCalled, IsConstantText, IsFilled, IsGiven, IsNamed, IsObjectAt, IsOf, IsParameter, IsPlaceOf, AreArguments, AreRows, is_basic, is_procedural, is_reference, procedure_in as procedure_of, taken, target}
 use Rattle.aos_typed.specs.Meaning.{field_of as field_in, Here, Question, Doing, Found, found, place_in, object_in, instance_in, procedure_in, on_instance, element_of, row_at, dereferenced, sizes_from, lengths_from, is_instance, guarded, has_type, sent, dispatched, bound, bound_to, applied, calls, place_of, rows_of, arguments_of, receiver_of, value_of, called, by_number as by_object}
 use Rattle.aos_typed.specs.Source.{arguments_in}
 use Rattle.aos_sim.proofs.Does.{HasTypes, IsSelf}
@@ -647,6 +647,17 @@ module _ (p : Program) (typed : HasTypes p) (made : ℕ → Option Made) (n : �
   given_closed a q u (inr (inl h)) = h.0
   given_closed a q u (inr (inr h)) = h.0.0
 
+  abbrev IsHandedWhole : Parameter → Place → Type 0
+  IsHandedWhole a q = ((u : TType) × IsPlaceOf p own q u × IsGiven p own a q u) ⊎ IsFilled p own a q
+
+  whole_closed : (a : Parameter) (q : Place) → IsHandedWhole a q → is_open (row_of p.types (id_of a.of)) ≡ false
+  whole_closed a q (inl h) = given_closed a q h.0 h.2
+  whole_closed a q (inr f) = f.2.0
+
+  whole_law : (a : Parameter) (q : Place) → IsHandedWhole a q → ((u : TType) → IsPlaceOf p own q u → Law (λ s. At s (target_of p q)) (place_of p here q)) → Law (λ s. At s (target_of p q)) (place_of p here q)
+  whole_law a q (inl h) place = place h.0 h.1
+  whole_law a q (inr f) place = constant_law q f.1 f.5
+
   and_law : (t : TType) (b : Bool) (e : Expr) → Law (Are t) (value_of p here e) → Law (Are t) (if b then value_of p here e else Val (Flag false))
   and_law t true e h = h
   and_law t false e h = flag_serves t false
@@ -797,9 +808,9 @@ module _ (p : Program) (typed : HasTypes p) (made : ℕ → Option Made) (n : �
         let rest = h.1 in
         let all = subst (AreFlags num i) h.2 flags in
         subst (λ l. Law (AreFreeFor p made l) (arguments_of p here (Whole q more))) (sym h.2)
-        (law_bind (λ s. At s (target_of p q)) (AreFreeFor p made (a ∷ rest)) (place_of p here q) _ (place_law q h.3.0 h.3.1 own_uses.1) (λ s at.
+        (law_bind (λ s. At s (target_of p q)) (AreFreeFor p made (a ∷ rest)) (place_of p here q) _ (whole_law a q h.3 (λ u typed'. place_law q u typed' own_uses.1)) (λ s at.
         law_bind (AreFreeFor p made rest) (AreFreeFor p made (a ∷ rest)) (arguments_of p here more) _ (arguments_law more rest num (suc i) h.4 (later_flags num i a rest all) uses.1)
-        (λ vs f. (varied_free num i a (target_of p q) s (first_flag num i a rest all) own_uses.0 at, subst (λ b. AreFreeFor p made rest (drop (if b then suc (open_dimensions p.types (id_of a.of)) else 1) (PlaceValue s ∷ vs))) (sym (given_closed a q h.3.0 h.3.2)) f))))
+        (λ vs f. (varied_free num i a (target_of p q) s (first_flag num i a rest all) own_uses.0 at, subst (λ b. AreFreeFor p made rest (drop (if b then suc (open_dimensions p.types (id_of a.of)) else 1) (PlaceValue s ∷ vs))) (sym (whole_closed a q h.3)) f))))
     arguments_law (Opening b more) ps num i h flags us =
         let uses = part Ok (varies (is_variable p num i) (rows_target p b) ++ rows_uses p b) (arguments_uses p num (suc i) more) us in
         let own_uses = part Ok (varies (is_variable p num i) (rows_target p b)) (rows_uses p b) uses.0 in

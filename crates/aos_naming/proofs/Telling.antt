@@ -418,7 +418,7 @@ module _ (p : Program) (names : HasNames p) (n : ℕ) (here : Here) (C : Value �
       arguments_tell (Whole q more) ps n i h s =
           let us = part Kept (varies (is_variable p n i) (target p q) ++ place_uses p q) (arguments_uses p n (suc i) more) s in
           let ws = part Kept (varies (is_variable p n i) (target p q)) (place_uses p q) us.0 in
-          tells_bind Any (AllAre C) (place_of p here q) _ (place_tells q h.3.0 h.3.1 ws.1) (λ x y.
+          tells_bind Any (AllAre C) (place_of p here q) _ (elim h.3 [ inl a ↦ place_tells q a.0 a.1 ws.1 | inr f ↦ constant_tells q f.1 f.5 ]) (λ x y.
           tells_bind (AllAre C) (AllAre C) (arguments_of p here more) _ (arguments_tell more h.1 n (suc i) h.4 us.1) (λ vs cs. (plainly.place x, cs)))
       arguments_tell (Opening r more) ps n i h s =
           let us = part Kept (varies (is_variable p n i) (rows_target p r) ++ rows_uses p r) (arguments_uses p n (suc i) more) s in

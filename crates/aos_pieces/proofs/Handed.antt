@@ -1,5 +1,5 @@
 -- The kinds of what a call hands over, in the order in which it lies on the stack, and those of an open array.
-use Rattle.std.proofs.Common.{◌≡◌, ◌≤◌, ◌+◌, ◌-◌, inl, inr, ℕ, zero, suc, true, false, List, [], ◌∷◌, ◌++◌, Option, Some, length, map, refl, sym, ap, ◌∙◌, arith, append_assoc, append-nil, length-append}
+use Rattle.std.proofs.Common.{◌≡◌, ◌≤◌, ◌+◌, ◌-◌, ◌⊎◌, inl, inr, ℕ, zero, suc, true, false, List, [], ◌∷◌, ◌++◌, Option, Some, length, map, refl, sym, ap, ◌∙◌, arith, append_assoc, append-nil, length-append}
 use Rattle.std.specs.Prelude.{replicate, reverse}
 use Rattle.std.proofs.lemmas.List.{length-replicate, replicate-append-replicate, reverse-append}
 use Rattle.aos_types.specs.declared.row.TypeRow.{TypeRow}
@@ -18,7 +18,7 @@ use Rattle.aos_typed.specs.declared.tree.TType.{TType}
 use Rattle.aos_typed.specs.Numbers.{id_of}
 use Rattle.aos_typed.specs.Open.{open_dimensions}
 use Rattle.aos_typed.specs.Program.{Parameter, Procedure, Place, Rows, Known, Opened, Row, Spread, Longer, Arguments, NoMore, Scalar, Whole, Opening, Program}
-use Rattle.aos_typed.specs.WellTyped.{is_value, is_open_parameter, IsGiven, IsOpening, AreRows, AreArguments}
+use Rattle.aos_typed.specs.WellTyped.{is_value, is_open_parameter, is_whole, IsFilled, IsGiven, IsOpening, IsPlaceOf, AreRows, AreArguments}
 use Rattle.aos_sim.specs.Code.{kind_of, dimensions}
 use Rattle.aos_sim.specs.Need.{arguments_need, operands}
 use Rattle.aos_sim.proofs.Does.{HasPredeclared}
@@ -104,10 +104,15 @@ module _ (p : Program) where
       value_kinds p.types a e f (value_scalar p has a.of v) ks ∙ ap (λ k. k ∷ kinds_of ks) (value_kind p has a.of v)
 
   -- the place of a variable, or of what is copied,
-  pub place_kinds : (o : Option Procedure) (a : Parameter) (x : Place) (u : TType) → IsGiven p o a x u → (ks : List ParamKind) → kinds_of (parameter_kind p.types a ∷ ks) ≡ (A ∷ []) ++ kinds_of ks
+  place_kinds : (o : Option Procedure) (a : Parameter) (x : Place) (u : TType) → IsGiven p o a x u → (ks : List ParamKind) → kinds_of (parameter_kind p.types a ∷ ks) ≡ (A ∷ []) ++ kinds_of ks
   place_kinds o a x u (inl r) ks = reference_kinds p.types a r.0.0 r.0.1 ks
   place_kinds o a x u (inr (inl r)) ks = reference_kinds p.types a r.0 r.1 ks
   place_kinds o a x u (inr (inr v)) ks = whole_kinds p.types a v.0.0 v.0.1 (no_scalar (row_of p.types (id_of a.of)) v.1) ks
+
+  -- one that is found, or a string constant
+  pub first_kinds : (o : Option Procedure) (a : Parameter) (x : Place) → ((u : TType) × IsPlaceOf p o x u × IsGiven p o a x u) ⊎ IsFilled p o a x → (ks : List ParamKind) → kinds_of (parameter_kind p.types a ∷ ks) ≡ (A ∷ []) ++ kinds_of ks
+  first_kinds o a x (inl h) ks = place_kinds o a x h.0 h.2 ks
+  first_kinds o a x (inr f) ks = whole_kinds p.types a f.2.0 f.2.1 (no_scalar (row_of p.types (id_of a.of)) (ap is_whole f.3)) ks
 
   -- and an array
   pub open_kinds : (a : Parameter) (n : ℕ) (t : TType) → IsOpening p a n t → (j : ℕ) → j ≡ n → (ks : List ParamKind) → kinds_of (parameter_kind p.types a ∷ ks) ≡ (A ∷ replicate j N) ++ kinds_of ks
@@ -130,7 +135,7 @@ module _ (p : Program) where
       omega (arith, same, one, rest)
   handed_room o has (Whole x more) ps h =
       let same = ap (λ l. length (kinds_for l)) h.2 in
-      let one = ap length (place_kinds o h.0 x h.3.0 h.3.2 (map (parameter_kind p.types) h.1)) in
+      let one = ap length (first_kinds o h.0 x h.3 (map (parameter_kind p.types) h.1)) in
       let rest = handed_room o has more h.1 h.4 in
       omega (arith, same, one, rest)
   handed_room o has (Opening r more) ps h =
@@ -151,7 +156,7 @@ module _ (p : Program) where
       omega (arith, same, one, rest)
   handed_many o has (Whole x more) ps h =
       let same = ap (λ l. length (kinds_for l)) h.2 in
-      let one = ap length (place_kinds o h.0 x h.3.0 h.3.2 (map (parameter_kind p.types) h.1)) in
+      let one = ap length (first_kinds o h.0 x h.3 (map (parameter_kind p.types) h.1)) in
       let rest = handed_many o has more h.1 h.4 in
       omega (arith, same, one, rest)
   handed_many o has (Opening r more) ps h =

@@ -40,7 +40,7 @@ use Rattle.aos_sim.proofs.Routines.{routine_there, object_there}
 use Rattle.aos_pieces.specs.Piece.{Round, Piece}
 use Rattle.aos_pieces.proofs.Pieces.{nothing, one, both, one_then, then_one, choose, left_with, recoded}
 use Rattle.aos_pieces.proofs.Operands.{included_kind, literal_kind, taken_kind, given_kind, given_of_two_kind, taken_kinds, number_value, reference_value, procedural_value, pattern_procedural, pattern_there, object_reference, any_or_target, fitted_value, reference_kind, target_kind, procedural_kind, pattern_kind, value_kind, fitted_kind}
-use Rattle.aos_pieces.proofs.Handed.{dimensions_are, pushed, rows_taken, opened_row, opened_longer, reversed_row, kinds_taken, handed_first, scalar_kinds, place_kinds, open_kinds, handed_room, passed_size, opened_size}
+use Rattle.aos_pieces.proofs.Handed.{dimensions_are, pushed, rows_taken, opened_row, opened_longer, reversed_row, kinds_taken, handed_first, scalar_kinds, first_kinds, open_kinds, handed_room, passed_size, opened_size}
 use Rattle.aos_pieces.proofs.Numbers.{HasNumbers}
 
 mutual
@@ -383,8 +383,8 @@ module _ (p : Program) (o : Option Procedure) (image : Image) (own : ℕ) (role 
         (both (value_piece e h.0.of h.5 at s (omega (arith, room)))
         (arguments_piece more h.1 h.6 (at + length (value_code p o e at)) (kind_of p.types h.0.of ∷ s) (omega (arith, room))))
     arguments_piece (Whole x more) ps h at s room =
-        left_with (handed_first p (A ∷ []) h.0 h.1 ps s h.2 (place_kinds p o h.0 x h.3.0 h.3.2))
-        (both (place_piece x h.3.0 h.3.1 at s (omega (arith, room)))
+        left_with (handed_first p (A ∷ []) h.0 h.1 ps s h.2 (first_kinds p o h.0 x h.3))
+        (both (elim h.3 [ inl a ↦ place_piece x a.0 a.1 at s (omega (arith, room)) | inr f ↦ constant_piece x f.1 f.5 at s (omega (arith, room)) ])
         (arguments_piece more h.1 h.4 (at + length (place_code p o x at)) (A ∷ s) (omega (arith, room))))
     arguments_piece (Opening r more) ps h at s room =
         let j = dimensions r in

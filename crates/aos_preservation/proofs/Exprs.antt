@@ -6,6 +6,7 @@ use Rattle.std.specs.Option.{unwrap_or}
 use Rattle.std.proofs.lemmas.Option.{slice_get-map}
 use Rattle.aos_base.specs.declared.number.Width.TheVariants.{W16, W32, W64}
 use Rattle.aos_base.specs.declared.operator.Binary.TheVariants.{SetSpan}
+use Rattle.aos_base.specs.declared.place.Root.TheVariants.{Module as ModuleRoot}
 use Rattle.aos_base.specs.declared.operator.Unary.TheVariants.{Range}
 use Rattle.aos_base.specs.Operators.{binary as binary_of, unary as unary_of}
 use Rattle.aos_base.specs.Question.{Val, Traps, bind, ByName, Upward}
@@ -25,13 +26,13 @@ use Rattle.aos_typed.specs.Open.{open_dimensions}
 use Rattle.aos_typed.specs.Program.{Place, ModuleVar, Local, Passed, Field, Index, Of as Behind, Deref, Typed as Named, Guarded, Rows, Known, Opened, Row, Spread, Longer, Arguments, NoMore, Scalar, Whole, Opening, Callee, Plain as PlainCall, Dispatched, Upper, Through, Expr, Lit, SelfRef, Read, Unary, Binary, And, Or, Element, Ord, Chr, CompareTexts, Len, LenBehind, Function, Same, Is as IsOfType, IsRecord, Guard, ProcedureOf, MethodOf, SameProcedure, Had, Parameter, Procedure, Program}
 use Rattle.aos_typed.specs.Routines.{self_type}
 use Rattle.aos_typed.specs.Sort.{Sort, Plain, Variable, Alias, variable_shape}
-use Rattle.aos_typed.specs.Spot.{Spot}
+use Rattle.aos_typed.specs.Spot.{Spot, OfModule}
 use Rattle.aos_typed.specs.Typing.{Extends, Is, IsPlain, nested}
 use Rattle.aos_typed.specs.Value.{Value, Int, Flag, Object, Place as PlaceValue, Character, binary_sort, is_true, literal_value, number_of, ord, unary_sort}
-use Rattle.aos_typed.specs.WellTyped.{AreArguments, AreRows, Fits, HaveLengths, Includes, IsArrayOf, IsByValue, IsCalled, IsConstantText, IsGiven, IsLength, IsNamed, IsObjectAt, IsOf, IsOpening, IsPlaceOf, NamesType, is_basic, is_procedural, is_value, taken}
+use Rattle.aos_typed.specs.WellTyped.{AreArguments, AreRows, Fits, HaveLengths, Includes, IsArrayOf, IsByValue, IsCalled, IsConstantText, IsFilled, IsGiven, IsLength, IsNamed, IsObjectAt, IsOf, IsOpening, IsPlaceOf, NamesType, is_basic, is_procedural, is_value, is_whole, taken}
 use Rattle.aos_typed.specs.Meaning.{Found, Here, Doing, arguments_of, called, calls, found, has_type, length_at, own_place, place_of, record_guarded, rows_of, value_of}
 use Rattle.aos_typed.specs.Source.{arguments_in}
-use Rattle.aos_sim.proofs.Designators.{RowsHold, holds_exactly, holds_extension}
+use Rattle.aos_sim.proofs.Designators.{RowsHold, filled_begins, holds_exactly, holds_extension}
 use Rattle.aos_sim.proofs.Does.{Given, Handles, HandlesFor, HasScalar, HasTypes, IsAnswer, IsCalledOn, IsObject, IsSelf, Knows, alias_sort}
 use Rattle.aos_sim.proofs.Exprs.{given_basic, included_basic, literal_basic, no_scalar, ord_is, taken_basic, two_basic}
 use Rattle.aos_sim.proofs.Extended.{open_some, record_base}
@@ -152,6 +153,23 @@ module _ (p : Program) (typed : HasTypes p) (w : World Sort) (own : Option Proce
           let r = holds_extension p typed (id_of u) (id_of a.of) is.shape h.1 h.2 is.holds in
           is_handled (is_open (row_of p.types (id_of a.of))) a.by_reference one false false false (id_of a.of) (PlaceValue s ∷ []) h.0.0 h.0.1 (no_scalar (row_of p.types (id_of a.of)) h.1)
           (s, refl, (r.0, is.there ∙ ap (λ z. Some z) r.1, each_rest IsPlain (variable_shape p.types (id_of a.of)) r.0 (subst (EachSort IsPlain) r.1 is.plain)))
+
+  -- a string constant, by its place
+  filled_typed : (a : Parameter) (q : Place) → IsFilled p own a q → Ok (λ s. HandlesFor p w a (PlaceValue s ∷ [])) (place_of p here q)
+  filled_typed a (ModuleVar h k) f =
+      let t = id_of a.of in
+      let s : Spot = record { root = ModuleRoot h; path = k ∷ []; type = 0; of = OfModule h k } in
+      let begins = filled_begins p typed t f.0 f.1 f.3 f.4 in
+      is_handled (is_open (row_of p.types t)) a.by_reference (is_scalar (row_of p.types t)) false false false t (PlaceValue s ∷ []) f.2.0 f.2.1 (no_scalar (row_of p.types t) (ap is_whole f.3))
+      (s, refl, (begins.0, constant_there p w known.modules h k f.1 f.5 ∙ ap (λ z. Some z) begins.1, begins.2))
+  filled_typed a (Local k) f = absurd f.5
+  filled_typed a (Passed k) f = absurd f.5
+  filled_typed a (Field q u k) f = absurd f.5
+  filled_typed a (Index q n u e) f = absurd f.5
+  filled_typed a (Behind r) f = absurd f.5
+  filled_typed a (Deref e u) f = absurd f.5
+  filled_typed a (Named q k) f = absurd f.5
+  filled_typed a (Guarded q k) f = absurd f.5
 
   -- an array for an open one
   opening_given : (a : Parameter) (bounded : Type 0) (n : ℕ) (t : TType) → IsOpening p a n t → bounded → (x : Found) → AreFound p w bounded n t x → HandlesFor p w a (PlaceValue x.place ∷ x.lengths)
@@ -295,9 +313,13 @@ module _ (p : Program) (typed : HasTypes p) (w : World Sort) (own : Option Proce
         typed_bind p w here (Of ok.0.of) (Given p w as') (value_of p here e) _ (value_typed e ok.0.of ok.5) (λ v c.
         typed_bind p w here (Given p w ok.1) (Given p w as') (arguments_of p here more) _ (arguments_typed more ok.1 ok.6) (λ vs g. handled_one ok.0 ok.1 as' ok.2 (v ∷ []) vs (scalar_given ok.0 ok.3 ok.4 v c) g))
     arguments_typed (Whole q more) as' ok =
-        let u = ok.3.0 in
-        typed_bind p w here (IsFound p w (Names q u) u) (Given p w as') (place_of p here q) _ (place_typed q u ok.3.1) (λ s f.
-        typed_bind p w here (Given p w ok.1) (Given p w as') (arguments_of p here more) _ (arguments_typed more ok.1 ok.4) (λ vs g. handled_one ok.0 ok.1 as' ok.2 (PlaceValue s ∷ []) vs (whole_given ok.0 q u ok.3.2 s f) g))
+        let behind = arguments_typed more ok.1 ok.4 in
+        elim ok.3 [
+          | inl h ↦ typed_bind p w here (IsFound p w (Names q h.0) h.0) (Given p w as') (place_of p here q) _ (place_typed q h.0 h.1) (λ s f.
+              typed_bind p w here (Given p w ok.1) (Given p w as') (arguments_of p here more) _ behind (λ vs g. handled_one ok.0 ok.1 as' ok.2 (PlaceValue s ∷ []) vs (whole_given ok.0 q h.0 h.2 s f) g))
+          | inr h ↦ typed_bind p w here (λ s. HandlesFor p w ok.0 (PlaceValue s ∷ [])) (Given p w as') (place_of p here q) _ (filled_typed ok.0 q h) (λ s f.
+              typed_bind p w here (Given p w ok.1) (Given p w as') (arguments_of p here more) _ behind (λ vs g. handled_one ok.0 ok.1 as' ok.2 (PlaceValue s ∷ []) vs f g))
+        ]
     arguments_typed (Opening r more) as' ok =
         typed_bind p w here (AreFound p w (HaveLengths r) ok.2 ok.3) (Given p w as') (rows_of p here r) _ (rows_typed r ok.2 ok.3 ok.6) (λ x f.
         typed_bind p w here (Given p w ok.1) (Given p w as') (arguments_of p here more) _ (arguments_typed more ok.1 ok.8)

@@ -1,15 +1,13 @@
 -- The dimensions of an array are its own and those of its elements.
-use Rattle.std.proofs.Common.{◌≡◌, ℕ, zero, suc, ◌-◌, ◌<◌, ◌≤◌, List, [], ◌∷◌, ◌++◌, Option, Some, None, option_and_then, refl, sym, ap, ◌∙◌, append_assoc, append-nil, arith}
+use Rattle.std.proofs.Common.{◌≡◌, ℕ, zero, suc, ◌-◌, ◌<◌, ◌≤◌, List, [], ◌∷◌, ◌++◌, Option, Some, None, refl, sym, ap, ◌∙◌, append_assoc, append-nil, arith}
 use Rattle.std.proofs.lemmas.Option.{none-some, same_Some}
 use Rattle.aos_types.specs.declared.row.TypeId.{TypeId}
 use Rattle.aos_types.specs.declared.row.TypeRow.{TypeRow}
 use Rattle.aos_types.specs.declared.row.TypeRow.TheVariants as row
-use Rattle.aos_types.specs.Table.{row_of}
 use Rattle.aos_typed.specs.WellTyped.{dimension}
 use Rattle.aos_symbols.specs.declared.env.Env.{Env}
 use Rattle.aos_symbols.specs.Env as env
 use Rattle.aos_rules.specs.Arrays.{length_of, array_in, lengths_from}
-use Rattle.aos_rules.specs.Arguments.{element_in, behind_dimensions}
 
 pub own_length : (e : Env) (of : Option TypeId) (n : ℕ) (t : TypeId) → env.row_of e of ≡ Some (row.Array n t) → length_of e of 0 ≡ Some n
 own_length e of n t is = ap (λ r. dimension e.types 0 r) is
@@ -48,20 +46,3 @@ pub lengths_all : (e : Env) (of : Option TypeId) (n : ℕ) (done all : List ℕ)
 lengths_all e of n done all over before =
     let none : n ≡ 0 = omega (arith, over) in
     sym (append-nil done) ∙ ap (λ k. done ++ lengths_from e.types k (env.row_of e of)) (sym none) ∙ before
-
--- The type behind so many dimensions.
-
-pub behind_one : (e : Env) (t u : TypeId) (n : ℕ) (all : Option TypeId) → element_in (row_of e.types t) ≡ Some u → 0 < n →
-    behind_dimensions e.types n t ≡ all → behind_dimensions e.types (n - 1) u ≡ all
-behind_one e t u n all is some before =
-    let next : n ≡ suc (n - 1) = omega arith in
-    sym (ap (λ k. behind_dimensions e.types k t) next ∙ ap (λ o. option_and_then (λ v. behind_dimensions e.types (n - 1) v) o) is) ∙ before
-
-pub behind_none : (e : Env) (t : TypeId) (n : ℕ) (all : Option TypeId) → element_in (row_of e.types t) ≡ None → 0 < n → behind_dimensions e.types n t ≡ all → None ≡ all
-behind_none e t n all is some before =
-    let next : n ≡ suc (n - 1) = omega arith in
-    sym (ap (λ k. behind_dimensions e.types k t) next ∙ ap (λ o. option_and_then (λ v. behind_dimensions e.types (n - 1) v) o) is) ∙ before
-
-pub behind_all : (e : Env) (t : TypeId) (n : ℕ) (all : Option TypeId) → n ≤ 0 → behind_dimensions e.types n t ≡ all → Some t ≡ all
-behind_all e t n all over before =
-    let none : n ≡ 0 = omega (arith, over) in ap (λ k. behind_dimensions e.types k t) (sym none) ∙ before

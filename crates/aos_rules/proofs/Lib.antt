@@ -1,3 +1,2 @@
 pub mod Dimensions
 pub mod Order
-pub mod Listed

@@ -1,6 +1,6 @@
 -- The code of a designator finds the place that the designator names, or traps as it does; that of an array finds its place and the
 -- lengths of its dimensions.
-use Rattle.std.proofs.Common.{◌≡◌, ℕ, zero, suc, ℤ, pos, negsuc, ◌+◌, ◌*◌, ◌<◌, ◌^◌, Bool, true, false, List, [], ◌∷◌, ◌++◌, length, map, Option, Some, None, if◌then◌else◌, refl, sym, ap, ◌∙◌, subst, arith, append-nil, length-append}
+use Rattle.std.proofs.Common.{◌≡◌, ℕ, zero, suc, ℤ, pos, negsuc, ◌+◌, ◌*◌, ◌<◌, ◌≤◌, ◌^◌, Bool, true, false, List, [], ◌∷◌, ◌++◌, length, map, Option, Some, None, if◌then◌else◌, refl, sym, ap, ◌∙◌, subst, arith, append-nil, length-append}
 use Rattle.std.proofs.Common.{◌⊎◌}
 use Rattle.std.specs.Prelude.{All, nat_lt, slice_get, option_and_then, option_map}
 use Rattle.std.specs.Option.{unwrap_or}
@@ -33,7 +33,7 @@ use Rattle.aos_typed.specs.Typing.{Is, IsPlain, OnPlace, Names, nested}
 use Rattle.aos_typed.specs.Value.{Value, Int, Flag, Char, Set, Object, Callable, Place, number_of}
 use Rattle.aos_typed.specs.Meaning.{Here, Doing, Found, found, part_of, field_of, element_of, row_at, text_length, own_place, lengths_from, place_of, rows_of}
 use Rattle.aos_typed.specs.Meaning as source
-use Rattle.aos_typed.specs.WellTyped.{variable_type, field_type, IsConstantText, IsArrayOf, IsLength, IsParameter, IsLocal, IsByReference, IsByValue, IsOpening, HaveLengths, is_whole}
+use Rattle.aos_typed.specs.WellTyped.{variable_type, field_type, IsConstantText, IsArray, IsArrayOf, IsLength, IsParameter, IsLocal, IsByReference, IsByValue, IsOpening, HaveLengths, is_whole}
 use Rattle.aos_code.specs.declared.instr.Cell.{Cell}
 use Rattle.aos_code.specs.declared.instr.Cell.TheVariants as cell
 use Rattle.aos_code.specs.declared.instr.Cell.TheVariants.{Num}
@@ -283,6 +283,20 @@ counted_all (n ∷ ns) zs f s =
 pub nested_shape : (rows : List TypeRow) → IsRanked rows → (ns : List ℕ) (t of : TypeId) → IsArrayOf rows ns t of → variable_shape rows t ≡ nested ns (variable_shape rows of)
 nested_shape rows ranked [] t of h = ap (variable_shape rows) h
 nested_shape rows ranked (n ∷ ns) t of h = array_shape rows ranked t h.0 n h.1 ∙ ap (repeated n) (nested_shape rows ranked ns h.0 of h.2)
+
+-- a row of characters begins with each shorter one
+characters_begin : (n m : ℕ) → n ≤ m → (more : Shape Sort) × (characters m ≡ join (characters n) more) × EachSort IsPlain more
+characters_begin zero m h = (characters m, refl, each_repeated IsPlain m (One (Plain (id_of type.Char))) tt)
+characters_begin (suc n) zero h = absurd (omega (arith, h))
+characters_begin (suc n) (suc m) h =
+    let r = characters_begin n m (omega (arith, h)) in (r.0, ap (λ s. Pair (One (Plain (id_of type.Char))) s) r.1, r.2)
+
+-- and so does a string constant with the array of characters for which it is handed over
+pub filled_begins : (program : Program) → HasTypes program → (t : TypeId) (n m : ℕ) → IsArray n (id_of type.Char) (row_of program.types t) → n ≤ m → (more : Shape Sort) × (characters m ≡ join (variable_shape program.types t) more) × EachSort IsPlain more
+filled_begins program typed t n m is h =
+    let r = characters_begin n m h in
+    let own = array_shape program.types typed.ranked t (id_of type.Char) n is ∙ ap (repeated n) (basic_is_one program typed.predeclared type.Char refl) in
+    (r.0, r.1 ∙ ap (λ s. join s r.0) (sym own), r.2)
 
 module _ (program : Program) (own : Option Procedure) (tables : Tables) (number : ℕ) (here : Here) (code : List Instr) where
   abbrev onward : List Instr → Onward

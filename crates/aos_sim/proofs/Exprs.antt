@@ -9,6 +9,7 @@ use Rattle.std.proofs.lemmas.Option.{slice_get-map}
 use Rattle.aos_base.specs.declared.number.Width.{Width}
 use Rattle.aos_base.specs.declared.number.Width.TheVariants.{W16, W32, W64}
 use Rattle.aos_base.specs.declared.number.Relation.{Relation}
+use Rattle.aos_base.specs.declared.place.Root.TheVariants.{Module as ModuleRoot}
 use Rattle.aos_base.specs.Number.{IsWithin}
 use Rattle.aos_base.specs.declared.operator.Unary.{Unary as UnaryOperator}
 use Rattle.aos_base.specs.declared.operator.Unary.TheVariants.{Neg, Abs, Not, Odd, Cap, Compl, Range}
@@ -22,7 +23,7 @@ use Rattle.aos_types.specs.declared.row.TypeId.{TypeId}
 use Rattle.aos_types.specs.declared.row.TypeRow.{TypeRow}
 use Rattle.aos_types.specs.declared.row.TypeRow.TheVariants as row
 use Rattle.aos_types.specs.Table.{row_of, is_open, is_record, is_object, is_scalar}
-use Rattle.aos_types.specs.Shape.{Shape}
+use Rattle.aos_types.specs.Shape.{Shape, join}
 use Rattle.aos_types.proofs.Tables.{comes_on}
 use Rattle.aos_types.specs.World.{World}
 use Rattle.aos_typed.specs.declared.tree.Literal.{Literal}
@@ -40,9 +41,9 @@ use Rattle.aos_sim.proofs.Parts.{each_rest}
 use Rattle.aos_typed.specs.Value.{Value, Int, Object, Place, Sort as Kind, Character, literal_value, number_of, given as given_value, unary_sort, binary_sort, binary, element, ord}
 use Rattle.aos_typed.specs.Meaning.{Here, Doing, Found, length_at, text_length, place_of, rows_of, arguments_of, value_of, called as called_of}
 use Rattle.aos_typed.specs.Spot.{Spot}
-use Rattle.aos_typed.specs.WellTyped.{is_basic, is_procedural, is_value, is_reference, is_whole, Includes, Fits, IsLiteral, HasRange, taken, Gives as GivenOf, GivesOfTwo, NamesType, IsGiven, IsConstantText, IsOpening, IsByValue, IsLength, HaveLengths, IsPlaceOf, IsObjectAt, AreRows, AreArguments, IsCalled, IsOf, IsNamed}
+use Rattle.aos_typed.specs.WellTyped.{is_basic, is_procedural, is_value, is_reference, is_whole, Includes, Fits, IsLiteral, HasRange, taken, Gives as GivenOf, GivesOfTwo, NamesType, IsGiven, IsFilled, IsConstantText, IsOpening, IsByValue, IsLength, HaveLengths, IsPlaceOf, IsObjectAt, AreRows, AreArguments, IsCalled, IsOf, IsNamed}
 use Rattle.aos_code.specs.declared.instr.Cell.{Cell}
-use Rattle.aos_code.specs.declared.instr.Cell.TheVariants.{Num, Ref}
+use Rattle.aos_code.specs.declared.instr.Cell.TheVariants.{Num, Ref, Place as AsPlace}
 use Rattle.aos_code.specs.declared.instr.Instr.{Instr}
 use Rattle.aos_code.specs.declared.instr.Instr.TheVariants as i
 use Rattle.aos_code.specs.Silent.{Stack, Keeps, Act, on_place, counted_on, gives_picked, gives, gives_self, given}
@@ -55,9 +56,10 @@ use Rattle.aos_sim.proofs.First.{all_get}
 use Rattle.aos_sim.proofs.Extended.{record_base, open_some}
 use Rattle.aos_sim.proofs.References.{nil_value, no_procedure, made_reference, to_target, fitting_value, value_is_one, value_no_record, value_scalar}
 use Rattle.aos_sim.proofs.Objects.{object_target, deref_does, object_does, spread_does, is_does, guard_does, same_does, is_record_does, guard_place_does, typed_does}
-use Rattle.aos_sim.proofs.Does.{HasPredeclared, HasTypes, HasShapes, IsObject, IsSelf, alias_sort, HasScalar, Handles, HandlesFor, Given, addr_of, lengths_are, Does, knows_grows, along, does_bind, does_more}
+use Rattle.aos_sim.proofs.Does.{HasPredeclared, HasTypes, HasShapes, IsObject, IsSelf, alias_sort, HasScalar, HasWhole, Handles, HandlesFor, Given, addr_of, lengths_are, spot_cell, Does, place_grows, knows_grows, along, does_bind, does_more}
+use Rattle.aos_sim.proofs.Variables.{constant_there, constant_cell}
 use Rattle.aos_sim.proofs.Evaluates.{OfType, number_in, pushed, pushed-append, Pushed, OnTop, OnStack, OfSort, Brings, ComesTo, Remain, Evaluates, Yields, yields, evaluates, sorts_stay, front_does, piece_does, pieces_do, two_do, values_stay, operand_does, ends_at}
-use Rattle.aos_sim.proofs.Designators.{IsFound, HasFields, has_record, RowsHold, holds_exactly, holds_extension, longer_rows, AreFound, rows_cells, IsText, text_cells, counted_taken, Finds, FindsRows, Hands, FindsText, FindsRoom, places_stay, rows_remain, texts_remain, variable_does, local_does, passed_does, field_does, index_does, array_rows, constant_rows, opened_does, row_does, of_does, rows_text, rows_room}
+use Rattle.aos_sim.proofs.Designators.{IsFound, HasFields, has_record, RowsHold, holds_exactly, holds_extension, filled_begins, longer_rows, AreFound, rows_cells, IsText, text_cells, counted_taken, Finds, FindsRows, Hands, FindsText, FindsRoom, places_stay, rows_remain, texts_remain, variable_does, local_does, passed_does, field_does, index_does, array_rows, constant_rows, opened_does, row_does, of_does, rows_text, rows_room}
 use Rattle.aos_sim.proofs.Sends.{Answers, Answered, plain_does, upper_does, dispatched_does, through_does}
 use Rattle.aos_sim.proofs.Callables.{IsProcedureValue, procedure_does, bound_yields, named_comes, none_comes, bound_comes, any_comes, one_does}
 use Rattle.aos_sim.proofs.Results.{Agrees, chr_agrees}
@@ -422,6 +424,33 @@ module _ (program : Program) (own : Option Procedure) (tables : Tables) (number 
           let r = holds_extension program typed (id_of u) t is.shape h.1 h.2 is.holds in
           is_handled (is_open (row_of program.types t)) a.by_reference (is_scalar (row_of program.types t)) false false false w t (Place p ∷ []) h.0.0 h.0.1 (no_scalar (row_of program.types t) h.1) (p, refl, (r.0, is.there ∙ ap (λ z. Some z) r.1, each_rest IsPlain (variable_shape program.types t) r.0 (subst (EachSort IsPlain) r.1 is.plain)))
 
+  -- a string constant, by its place
+  filled_does : HasTypes program → (d : Designator) (a : Parameter) (rest as' : List Parameter) (cb : List Instr) (rb : Doing (List Value)) (at : ℕ) → as' ≡ a ∷ rest → IsFilled program own a d → Hands program own tables number here code rest cb rb (at + length (place_code program own d at)) → Hands program own tables number here code as' (place_code program own d at ++ cb) (bind (place_of program here d) (λ p. bind rb (λ vs. Val (Place p ∷ vs)))) at
+  filled_does typed (ModuleVar m l) a rest as' cb rb at e f hb =
+      let t = id_of a.of in
+      let one = is_scalar (row_of program.types t) in
+      let begins = filled_begins program typed t f.0 f.1 f.3 f.4 in
+      handed_does (λ w p. HasWhole program w p t) (λ w p. place_in w p ∷ []) (λ p vs. Place p ∷ vs) as' rest (place_code program own (ModuleVar m l) at) cb (place_of program here (ModuleVar m l)) rb at
+      (λ w w' g p h.
+      let all = join (variable_shape program.types t) h.0 in
+      ((h.0, place_grows program here w w' g p all h.1, h.2), ap (λ c. c ∷ []) (spot_cell w w' g p all h.1)))
+      (λ w p vs h more.
+      handled_one a rest as' e w (Place p ∷ []) vs
+      (is_handled (is_open (row_of program.types t)) a.by_reference one false false false w t (Place p ∷ []) f.2.0 f.2.1 (no_scalar (row_of program.types t) (ap is_whole f.3)) (p, refl, h)) more)
+      (λ w p vs h. refl)
+      (λ w known rest k s. record {
+        is = (begins.0, constant_there program w known.modules m l f.1 f.5 ∙ ap (λ z. Some z) begins.1, begins.2);
+        run = ap (λ c. onward rest 0 (at + 1) k (AsPlace (ModuleRoot m) c 0 ∷ s)) (sym (constant_cell program w known.modules m l f.1 f.5 own));
+      }) hb
+  filled_does typed (Local k) a rest as' cb rb at e f hb = absurd f.5
+  filled_does typed (Passed k) a rest as' cb rb at e f hb = absurd f.5
+  filled_does typed (Field p u k) a rest as' cb rb at e f hb = absurd f.5
+  filled_does typed (Index p l u x) a rest as' cb rb at e f hb = absurd f.5
+  filled_does typed (Of r) a rest as' cb rb at e f hb = absurd f.5
+  filled_does typed (Deref x u) a rest as' cb rb at e f hb = absurd f.5
+  filled_does typed (Typed p u) a rest as' cb rb at e f hb = absurd f.5
+  filled_does typed (Guarded p u) a rest as' cb rb at e f hb = absurd f.5
+
   -- an array for an open one
   opening_does : (a : Parameter) (rest as' : List Parameter) (bounded : Type 0) (n : ℕ) (t : TType) (ca cb : List Instr) (ra : Doing Found) (rb : Doing (List Value)) (at : ℕ) → as' ≡ a ∷ rest → IsOpening program a n t → bounded → FindsRows program own tables number here code bounded n t ca ra at → Hands program own tables number here code rest cb rb (at + length ca) → Hands program own tables number here code as' (ca ++ cb) (bind ra (λ x. bind rb (λ vs. Val (Place x.place ∷ (x.lengths ++ vs))))) at
   opening_does a rest as' bounded n t ca cb ra rb at e opening b ha hb =
@@ -596,8 +625,13 @@ module _ (program : Program) (own : Option Procedure) (tables : Tables) (number 
       arguments_do (Whole p more) as' ok at =
           let ca = place_code program own p at in
           let pb = at + length ca in
-          let u = ok.3.0 in
-          whole_does typed p u ok.0 ok.1 as' ca (arguments_code program own more pb) (place_of program here p) (arguments_of program here more) at ok.2 ok.3.2 (place_does p u ok.3.1 at) (arguments_do more ok.1 ok.4 pb)
+          let cb = arguments_code program own more pb in
+          let rb = arguments_of program here more in
+          let behind = arguments_do more ok.1 ok.4 pb in
+          elim ok.3 [
+            | inl h ↦ whole_does typed p h.0 ok.0 ok.1 as' ca cb (place_of program here p) rb at ok.2 h.2 (place_does p h.0 h.1 at) behind
+            | inr f ↦ filled_does typed p ok.0 ok.1 as' cb rb at ok.2 f behind
+          ]
       arguments_do (Opening r more) as' ok at =
           let ca = rows_code program own r at in
           let pb = at + length ca in

@@ -1,7 +1,7 @@
 -- NEW of an object: what its initializer is handed is kept while the object is made, then the initializer is called, the object is stored,
 -- and its body is carried out.
 use Rattle.std.proofs.Common.{◌≡◌, ℕ, suc, ◌+◌, ◌<◌, Bool, true, false, Option, Some, None, List, [], ◌∷◌, ◌++◌, length, map, drop, if◌then◌else◌, refl, sym, ap, ◌∙◌, subst, arith, append_assoc, length-append}
-use Rattle.std.proofs.Common.{inl, inr}
+use Rattle.std.proofs.Common.{◌⊎◌, inl, inr}
 use Rattle.std.specs.Prelude.{◌||◌, is_some, reverse, option_and_then}
 use Rattle.std.specs.List.{list_any}
 use Rattle.std.proofs.Math.Nat.{le-max_left, le-max_right}
@@ -28,7 +28,7 @@ use Rattle.aos_typed.specs.Spot.{Spot}
 use Rattle.aos_typed.specs.Typing.{Extends, HasLengths}
 use Rattle.aos_typed.specs.Value.{Value, Object}
 use Rattle.aos_typed.specs.Meaning.{Here, Doing, Item, After, Into, place_of, arguments_of, initialized, carried_out}
-use Rattle.aos_typed.specs.WellTyped.{target, NamesType, IsGiven, AreArguments, IsInitialized}
+use Rattle.aos_typed.specs.WellTyped.{target, NamesType, IsPlaceOf, IsGiven, IsFilled, AreArguments, IsInitialized}
 use Rattle.aos_layout.specs.Frame.{parameter_kind}
 use Rattle.aos_layout.specs.Layout.{leads_to}
 use Rattle.aos_code.specs.declared.instr.Cell.{Cell}
@@ -80,6 +80,10 @@ module _ (program : Program) where
   given_closed own a p u (inr (inl h)) = h.0
   given_closed own a p u (inr (inr h)) = h.0.0
 
+  whole_closed : (own : Option Procedure) (a : Parameter) (p : Place) → ((u : TType) × IsPlaceOf program own p u × IsGiven program own a p u) ⊎ IsFilled program own a p → is_open (row_of program.types (id_of a.of)) ≡ false
+  whole_closed own a p (inl h) = given_closed own a p h.0 h.2
+  whole_closed own a p (inr f) = f.2.0
+
   first_kinds : (a : Parameter) (rest as' : List Parameter) → as' ≡ a ∷ rest → length (all_kinds as') ≡ length (kinds_for program (is_open (row_of program.types (id_of a.of))) a.by_reference (is_scalar (row_of program.types (id_of a.of))) (id_of a.of)) + length (all_kinds rest)
   first_kinds a rest as' e =
       ap (λ l. length (all_kinds l)) e ∙ ap length (kinds_first program a (map (parameter_kind program.types) rest))
@@ -96,7 +100,7 @@ module _ (program : Program) (own : Option Procedure) (tables : Tables) (number 
   operands_are : (us : Arguments) (as' : List Parameter) → AreArguments program own us as' → length (all_kinds program as') ≡ operands us
   operands_are NoMore as' ok = ap (λ l. length (all_kinds program l)) ok
   operands_are (Scalar e more) as' ok = closed_first program ok.0 ok.1 as' (operands more) ok.2 ok.3.0 (operands_are more ok.1 ok.6)
-  operands_are (Whole p more) as' ok = closed_first program ok.0 ok.1 as' (operands more) ok.2 (given_closed program own ok.0 p ok.3.0 ok.3.2) (operands_are more ok.1 ok.4)
+  operands_are (Whole p more) as' ok = closed_first program ok.0 ok.1 as' (operands more) ok.2 (whole_closed program own ok.0 p ok.3) (operands_are more ok.1 ok.4)
   operands_are (Opening r more) as' ok =
       let a = ok.0 in
       let first = first_kinds program a ok.1 as' ok.4 in

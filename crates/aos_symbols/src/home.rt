@@ -201,6 +201,13 @@ impl<'a> Home<'a> {
         self.scopes.get(number as usize)
     }
 
+    /// All scopes.
+    pub fn scopes(&self) -> &[Scope<'a>]
+        ensures { result.now ≡ self.now.scopes }
+    {
+        self.scopes.as_slice()
+    }
+
     /// The next constant of a scope. Without memory all stays as it was.
     pub fn add_constant(&mut self, scope: u32, constant: Constant) -> Result<(), AllocError>
         ensures ok { OnOk result (self.new ≡ home.add_constant self.old scope constant) }
@@ -295,6 +302,13 @@ impl<'a> Home<'a> {
         ensures { option_copied result ≡ slice_get self.now.signatures number }
     {
         self.signatures.get(number as usize)
+    }
+
+    /// The signatures whose headings are met.
+    pub fn signatures(&self) -> &[Signature]
+        ensures { result.now ≡ self.now.signatures }
+    {
+        self.signatures.as_slice()
     }
 
     /// The signature of the procedure whose scope has a number, where its heading is met.

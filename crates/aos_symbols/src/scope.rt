@@ -226,6 +226,13 @@ impl<'a> Scope<'a> {
         self.constants.get(number as usize).copied()
     }
 
+    /// The constants that are declared so far.
+    pub fn constants(&self) -> &[Constant]
+        ensures { result.now ≡ self.now.constants }
+    {
+        self.constants.as_slice()
+    }
+
     /// The type of the variable with a number: none where the variable is declared later, and no type where its declaration
     /// breaks a rule.
     pub fn variable(&self, number: u32) -> Option<Option<TypeId>>

@@ -131,7 +131,8 @@ module _ (p : Program) (n k i j : ℕ) where
       arguments_stay NoMore as' h = h
       arguments_stay (Scalar e more) as' h = (h.0, h.1, h.2, h.3, h.4, value_stays e h.0.of h.5, arguments_stay more h.1 h.6)
       arguments_stay (Whole x more) as' h =
-          (h.0, h.1, h.2, (h.3.0, place_stays x h.3.0 h.3.1, given_stays h.0 x h.3.0 h.3.2), arguments_stay more h.1 h.4)
+          let whole = either (λ a. (a.0, place_stays x a.0 a.1, given_stays h.0 x a.0 a.2)) (λ a. (a.0, a.1, a.2, a.3, a.4, constant_stays p n k i j x a.1 a.5)) h.3 in
+          (h.0, h.1, h.2, whole, arguments_stay more h.1 h.4)
       arguments_stay (Opening r more) as' h =
           (h.0, h.1, h.2, h.3, h.4, h.5, rows_stay r h.2 h.3 h.6, h.7, arguments_stay more h.1 h.8, λ by_reference. variables_stay p n k i j r (h.9 by_reference))
 

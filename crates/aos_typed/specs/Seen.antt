@@ -73,7 +73,7 @@ abbrev mutual
   seen_expr (expr.Element' p a) = Element (seen_expr a)
   seen_expr (expr.Ord' p a) = Ord (seen_expr a)
   seen_expr (expr.Chr' p a) = Chr (seen_expr a)
-  seen_expr (expr.CompareTexts r a b) = CompareTexts r (seen_rows a) (seen_rows b)
+  seen_expr (expr.CompareTexts' r p a q b) = CompareTexts r (seen_rows a) (seen_rows b)
   seen_expr (expr.Len r d) = Len (seen_rows r) d
   seen_expr (expr.LenBehind r n) = LenBehind (seen_rows r) n
   seen_expr (expr.Function' c shape row) = Function (seen_callee c) (seen_arguments row)

@@ -344,6 +344,11 @@ module _ (p : Program) where
         ⊎ (((is_open_parameter a ≡ false) × (a.by_reference ≡ true) × NamesType place u × (comes_to p.types (id_of u) (id_of a.of) ≡ true))
         ⊎ (IsByValue a a.of × (is_whole (row_of p.types (id_of a.of)) ≡ true) × (comes_to p.types (id_of u) (id_of a.of) ≡ true)))
 
+    -- a parameter that is an array of characters by value gets a string constant that is at least as long, with 0X behind its characters
+    abbrev pub IsFilled : Parameter → Place → Type 0
+    IsFilled a place =
+        (n m : ℕ) × IsByValue a a.of × IsArray n (id_of Char) (row_of p.types (id_of a.of)) × (n ≤ m) × IsConstantText place m
+
     abbrev mutual
       -- a designator is of a type
       pub IsPlaceOf : Place → TType → Type 0
@@ -396,7 +401,7 @@ module _ (p : Program) where
           × AreArguments more rest
       AreArguments (Whole place more) as' =
           (a : Parameter) × (rest : List Parameter) × (as' ≡ a ∷ rest)
-          × ((u : TType) × IsPlaceOf place u × IsGiven a place u) × AreArguments more rest
+          × (((u : TType) × IsPlaceOf place u × IsGiven a place u) ⊎ IsFilled a place) × AreArguments more rest
       AreArguments (Opening r more) as' =
           (a : Parameter) × (rest : List Parameter) × (n : ℕ) × (t : TType) × (as' ≡ a ∷ rest) × IsOpening a n t × AreRows r n t
           × HaveLengths r × AreArguments more rest × (a.by_reference ≡ true → AreVariables r)

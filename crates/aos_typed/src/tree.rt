@@ -168,7 +168,7 @@ pub enum TExpr {
     /// The character of a code; trap 14 where that isn't 0 to 255.
     Chr(Box<TExpr>),
     /// Two texts compared, each an array of characters with its length.
-    CompareTexts(Relation, TRows, TRows),
+    CompareTexts(Relation, Box<TRows>, Box<TRows>),
     /// The length of a dimension of an array, which is found first.
     Len(TRows, u32),
     /// The length of a dimension behind the open ones, which is known. The array is found first.

@@ -1,10 +1,11 @@
 -- A module of the typed program, from its parts.
-use Rattle.std.proofs.Common.{ℕ, slice_get, suc, length, Vec, Global, map, ap, ◌∙◌}
+use Rattle.std.proofs.Common.{ℕ, ◌++◌, slice_get, suc, length, Vec, Global, map, ap, ◌∙◌}
 use Rattle.std.specs.List.{zip}
 use Rattle.aos_typed.specs.declared.tree.TStat.{TStat}
 use Rattle.aos_typed.specs.Seen.{seen_variable, seen_procedure, seen_stats, seen_body}
 use Rattle.aos_symbols.specs.Declarations.{procedures, type_defs, single_variables}
 use Rattle.aos_symbols.specs.Home.{texts_of}
+use Rattle.aos_arguments.specs.Filled.{filled_texts}
 use Rattle.aos_compile.specs.Modules as judge
 use Rattle.aos_compile.proofs.Passes.{stats_listed}
 use Rattle.aos_compile.proofs.modules.module_of.Goals as goal
@@ -24,7 +25,7 @@ returns c =
     let exclusive = c.is_exclusive_body.ensures ∙ ap (λ t. judge.has_exclusive t tree.body) c.text.ensures in
     let told = map seen_procedure c.in_ok-procedures.procedures.items in
     let given = map (λ (t : Vec ℕ Global). t.items) parts.texts.items in
-    let texts = texts_of e.here in
+    let texts = texts_of e.here ++ filled_texts e in
     ap (λ n. record { name = n; variables = map seen_variable parts.variables.items; texts = given; procedures = told; body = body }) parts.ensures.name
     ∙ ap (λ vs. record { name = spelled; variables = vs; texts = given; procedures = told; body = body }) parts.ensures.variables
     ∙ ap (λ ts. record { name = spelled; variables = variables; texts = ts; procedures = told; body = body }) parts.ensures.texts

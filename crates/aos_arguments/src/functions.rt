@@ -4,8 +4,8 @@ ghost use Rattle.std.specs.Prelude.{◌≡◌, OnOk, IfOk, map};
 ghost use Rattle.aos_typed.specs.Seen.{seen_callee, seen_expr};
 ghost use Rattle.aos_symbols.specs.Breaches.{first_after};
 ghost use Rattle.aos_operators.specs.Seen.{seen_answer};
-ghost use Rattle.aos_rules.specs.Functions as judge;
-ghost use Rattle.aos_rules.specs.Seen.{seen_given, seen_handing};
+ghost use Rattle.aos_arguments.specs.Functions as judge;
+ghost use Rattle.aos_arguments.specs.Seen.{seen_given, seen_handing};
 
 use crate::arguments::Handing;
 use aos_base::Pos;

@@ -16,11 +16,11 @@ use Rattle.aos_operators.specs.declared.operations.Step.{Step}
 use Rattle.aos_operators.specs.Known.{Answer, passes, is_number, constant_answer, answered, nothing, refused}
 use Rattle.aos_operators.specs.Operations as op
 use Rattle.aos_operators.specs.Kinds as kinds
-use Rattle.aos_rules.specs.declared.functions.Limit.{Limit}
-use Rattle.aos_rules.specs.declared.functions.Limit.TheVariants as which
-use Rattle.aos_rules.specs.declared.functions.Taking.{Taking}
-use Rattle.aos_rules.specs.declared.functions.Taking.TheVariants as taking
-use Rattle.aos_rules.specs.Arguments.{Given, Handing, listed}
+use Rattle.aos_arguments.specs.declared.functions.Limit.{Limit}
+use Rattle.aos_arguments.specs.declared.functions.Limit.TheVariants as which
+use Rattle.aos_arguments.specs.declared.functions.Taking.{Taking}
+use Rattle.aos_arguments.specs.declared.functions.Taking.TheVariants as taking
+use Rattle.aos_arguments.specs.Arguments.{Given, Handing, listed}
 
 -- MAX and MIN of a type.
 

@@ -1,5 +1,5 @@
 -- The arguments of a call: one for each parameter of the procedure (Oberon-2 report, 10.1 and appendix A).
-use Rattle.std.specs.Prelude.{ℕ, zero, suc, List, [], ◌∷◌, ◌++◌, length, Bool, true, false, ◌&&◌, ◌||◌, nat_lt, Option, Some, None, option_and_then, if◌then◌else◌, not}
+use Rattle.std.specs.Prelude.{ℕ, zero, suc, List, [], ◌∷◌, ◌++◌, length, Bool, true, false, ◌&&◌, ◌||◌, nat_lt, Option, Some, None, is_some, option_and_then, if◌then◌else◌, not}
 use Rattle.std.specs.Option.{is_none}
 use Rattle.aos_base.specs.declared.text.Pos.{Pos}
 use Rattle.aos_types.specs.declared.row.TypeId.{TypeId}
@@ -25,6 +25,7 @@ use Rattle.aos_operators.specs.Kinds.{has_parts, is_opened, is_record_type, is_v
 use Rattle.aos_operators.specs.Places.{place_in}
 use Rattle.aos_rules.specs.Assignable.{is_assignable, typed_for}
 use Rattle.aos_rules.specs.Arrays.{is_array, is_characters, string_in, text_for, has_room, rows_in}
+use Rattle.aos_arguments.specs.Filled.{filled_index, filled_place}
 
 -- The rule that an argument breaks, if it breaks one.
 
@@ -86,12 +87,13 @@ open_rule e t k = by (string_in e k.class)
     by (Some s) = string_rule e t s
     by None = array_rule e t k.of
 
--- a value fits the parameter as in an assignment; a string constant for a fixed array isn't built
+-- a value fits the parameter as in an assignment, and a string constant an array of characters that has room for it; each string constant
+-- stands in the module's text or has a name in a module before it
 abbrev pub value_rule : Env → TypeId → Known → Option ℕ
 value_rule e t k = by (text_for e (variable_of t) k.class)
   where
     by : Option TextConstant → Option ℕ
-    by (Some s) = Some (if has_room e (Some t) s then 99 else 35)
+    by (Some s) = or_else (broken_unless 35 (has_room e (Some t) s)) (broken_unless 99 (is_some (filled_index e s)))
     by None = or_else (broken_unless 35 (is_assignable e k (Some t))) (broken_unless 99 (is_value e t || has_parts e t))
 
 -- by reference the types are the same, or are records of which the argument's extends the parameter's
@@ -143,11 +145,15 @@ abbrev pub listed : List Given → Arguments
 listed [] = NoMore
 listed (g ∷ gs) = given_as g (listed gs)
 
--- a scalar by value is evaluated; a record or an array is found, and so is a variable by reference, the place of a record with the
--- record's own type
+-- a scalar by value is evaluated; a record or an array is found, a string constant where it has 0X behind it, and a variable by
+-- reference, the place of a record with the record's own type
 abbrev pub given_unopened : Env → (by_reference : Bool) → TypeId → Answer → Given
 given_unopened e true t a = Whole (with_type e a.known.of (place_in a.typed))
-given_unopened e false t a = if has_parts e t then Whole (place_in a.typed) else Scalar (typed_for e (Some t) a)
+given_unopened e false t a = by (text_for e (variable_of t) a.known.class)
+  where
+    by : Option TextConstant → Given
+    by (Some s) = Whole (filled_place e s)
+    by None = if has_parts e t then Whole (place_in a.typed) else Scalar (typed_for e (Some t) a)
 
 abbrev pub given : Env → Parameter → Answer → Given
 given e p a = by p.of

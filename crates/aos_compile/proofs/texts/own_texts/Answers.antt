@@ -3,7 +3,7 @@ use Rattle.std.proofs.Common.{◌<◌, ℕ, [], ◌∷◌, ◌++◌, Vec, Global
 use Rattle.std.proofs.lemmas.List.{map-append}
 use Rattle.aos_symbols.specs.Home.{character}
 use Rattle.aos_compile.proofs.Strings.{text_of, one_more}
-use Rattle.aos_compile.proofs.texts.texts_of.Goals as goal
+use Rattle.aos_compile.proofs.texts.own_texts.Goals as goal
 
 pub loop-number-preserved : goal.loop-number-preserved
 loop-number-preserved c =

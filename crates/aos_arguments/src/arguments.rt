@@ -5,17 +5,18 @@ ghost use Rattle.aos_types.specs.Table as table;
 ghost use Rattle.aos_typed.specs.Seen.{seen_place};
 ghost use Rattle.aos_symbols.specs.Breaches.{first_after};
 ghost use Rattle.aos_operators.specs.Seen.{seen_answer};
-ghost use Rattle.aos_rules.specs.Arguments as judge;
-ghost use Rattle.aos_rules.specs.Seen.{seen_given, seen_handing};
+ghost use Rattle.aos_arguments.specs.Arguments as judge;
+ghost use Rattle.aos_arguments.specs.Seen.{seen_given, seen_handing};
 
-use crate::assignable::{is_assignable, typed_for};
-use crate::lengths::is_array;
-use crate::texts::{has_room, is_characters, rows_in, string_in, text_for};
+use crate::filled::{filled_index, filled_place};
 use aos_base::Pos;
 use aos_made::{MadeArgument, MadeArguments, MadePlace};
 use aos_operators::{
     Answer, Class, Known, has_parts, is_opened, is_record_type, is_value, made_place_in,
     object_number, open_dimensions,
+};
+use aos_rules::{
+    has_room, is_array, is_assignable, is_characters, rows_in, string_in, text_for, typed_for,
 };
 use aos_symbols::{ARGUMENT_TYPE, Breach, Env, NO_VARIABLE, NOT_BUILT, READ_ONLY, note};
 use aos_typed::{TPlace, TextConstant, open_array};
@@ -57,7 +58,7 @@ fn element_in(env: &Env<'_>, of: TypeId) -> Option<TypeId>
 }
 
 /// The type behind so many dimensions of an array.
-#[tactic(auto, using(crate::proofs::Dimensions::behind_one, crate::proofs::Dimensions::behind_none, crate::proofs::Dimensions::behind_all))]
+#[tactic(auto, using(crate::proofs::Behind::behind_one, crate::proofs::Behind::behind_none, crate::proofs::Behind::behind_all))]
 fn behind_dimensions(env: &Env<'_>, count: u32, of: TypeId) -> Option<TypeId>
     ensures { result ≡ judge.behind_dimensions env.now.types count of }
 {
@@ -144,8 +145,11 @@ fn value_rule(
     ensures { IfOk result (λ r. r ≡ judge.value_rule env.now of known) }
 {
     if let Some(text) = text_for(env, variable_of(of), known.class) {
-        let has_room = has_room(env, Some(of), text);
-        return Ok(Some(if has_room { NOT_BUILT } else { ARGUMENT_TYPE }));
+        if !has_room(env, Some(of), text) {
+            return Ok(Some(ARGUMENT_TYPE));
+        }
+        let index = filled_index(alloc, env, text)?;
+        return Ok(broken_unless(NOT_BUILT, index.is_some()));
     }
     if is_assignable(alloc, env, known, Some(of))? {
         Ok(broken_unless(NOT_BUILT, is_value(env, of) || has_parts(env, of)))
@@ -250,6 +254,9 @@ fn given_unopened(
         let place = made_place_in(alloc, argument.typed)?;
         let place = with_type(alloc, env, own, place)?;
         return Ok(MadeArgument::whole(place));
+    }
+    if let Some(text) = text_for(env, variable_of(of), argument.known.class) {
+        return Ok(MadeArgument::whole(filled_place(alloc, env, text)?));
     }
     if has_parts(env, of) {
         let place = made_place_in(alloc, argument.typed)?;

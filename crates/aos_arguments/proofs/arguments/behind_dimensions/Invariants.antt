@@ -1,6 +1,6 @@
 use Rattle.std.proofs.Common.{◌≡◌}
-use Rattle.aos_rules.specs.Arguments as judge
-use Rattle.aos_rules.proofs.arguments.behind_dimensions.Given as goal
+use Rattle.aos_arguments.specs.Arguments as judge
+use Rattle.aos_arguments.proofs.arguments.behind_dimensions.Given as goal
 
 -- what is behind the dimensions that are left is behind all of them
 abbrev pub invariant-loop-left : goal.invariant-loop-left

@@ -4,8 +4,8 @@ use Rattle.aos_typed.specs.declared.tree.TArgument.{TArgument}
 use Rattle.aos_typed.specs.declared.tree.TArgument.TheVariants as argument
 use Rattle.aos_typed.specs.Program.{Arguments}
 use Rattle.aos_typed.specs.Seen.{seen_argument, seen_list}
-use Rattle.aos_rules.specs.Arguments.{given_as, listed}
-use Rattle.aos_rules.specs.Seen.{seen_given}
+use Rattle.aos_arguments.specs.Arguments.{given_as, listed}
+use Rattle.aos_arguments.specs.Seen.{seen_given}
 
 as_given : (a : TArgument) (more : Arguments) → seen_argument a more ≡ given_as (seen_given a) more
 as_given (argument.Scalar e) more = refl

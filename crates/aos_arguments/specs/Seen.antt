@@ -3,8 +3,8 @@ use Rattle.std.specs.Prelude.{map}
 use Rattle.aos_typed.specs.Seen.{seen_place, seen_rows, seen_expr}
 use Rattle.aos_typed.specs.declared.tree.TArgument.{TArgument}
 use Rattle.aos_typed.specs.declared.tree.TArgument.TheVariants as argument
-use Rattle.aos_rules.specs.declared.arguments.Handing.{Handing as CodeHanding}
-use Rattle.aos_rules.specs.Arguments.{Given, Scalar, Whole, Opening, Handing}
+use Rattle.aos_arguments.specs.declared.arguments.Handing.{Handing as CodeHanding}
+use Rattle.aos_arguments.specs.Arguments.{Given, Scalar, Whole, Opening, Handing}
 
 abbrev pub seen_given : TArgument → Given
 seen_given (argument.Scalar e) = Scalar (seen_expr e)

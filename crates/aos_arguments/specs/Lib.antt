@@ -1,0 +1,4 @@
+pub mod Filled
+pub mod Arguments
+pub mod Functions
+pub mod Seen
