@@ -34,3 +34,5 @@ pub mod Telling
 pub mod Numbers
 pub mod Counted
 mod Headed
+pub mod Methodless
+pub mod Coming

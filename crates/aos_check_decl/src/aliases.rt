@@ -343,8 +343,8 @@ fn first_row(number: u32, target: Target) -> TypeRow
     }
 }
 
-/// Puts the rows of a module's definitions behind the others, before any of them is met.
-pub(crate) fn add_rows(types: &mut Types, targets: &[Target]) -> Result<(), NoMemory>
+/// Puts the rows of these definitions behind the others.
+fn add_all(types: &mut Types, targets: &[Target]) -> Result<(), NoMemory>
     ensures { OnOk result (types.new ≡
         types.old ++ judge.first_rows (length types.old) targets.now) }
 {
@@ -354,5 +354,24 @@ pub(crate) fn add_rows(types: &mut Types, targets: &[Target]) -> Result<(), NoMe
         };
         types.add(first_row(number, *target))?;
     }
+    Ok(())
+}
+
+/// Puts the rows of a module's definitions behind the others, before any of them is met. The first row is that of a type that is to come
+/// until the others are there, so that no scalars are counted before.
+#[tactic(auto, using(crate::proofs::Coming::first_set, crate::proofs::Coming::none_set, crate::proofs::Coming::in_range))]
+pub(crate) fn add_rows(types: &mut Types, targets: &[Target]) -> Result<(), NoMemory>
+    ensures { OnOk result (types.new ≡
+        types.old ++ judge.first_rows (length types.old) targets.now) }
+{
+    if targets.is_empty() {
+        return Ok(());
+    }
+    let Ok(number) = u32::try_from(types.len()) else {
+        return Err(NoMemory);
+    };
+    let own = types.add(first_row(number, Target::Own))?;
+    add_all(types, &targets[1..])?;
+    types.set(own, first_row(number, targets[0]));
     Ok(())
 }

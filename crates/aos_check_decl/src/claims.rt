@@ -4,11 +4,12 @@ ghost use Rattle.std.specs.Prelude.{◌≡◌, fold, slice_set, OnOk};
 ghost use Rattle.std.specs.List.{flat_map};
 ghost use Rattle.aos_types.specs.Table as table;
 ghost use Rattle.aos_symbols.specs.Breaches.{first_after};
+ghost use Rattle.aos_symbols.specs.Members.{AreMembers};
 ghost use Rattle.aos_check_decl.specs.Limits as judge;
 
 use crate::aliases::NIL;
 use aos_base::{NoMemory, Pos};
-use aos_symbols::{Breach, Claim, Env, IN_BASE, WRONG_BASE, WRONG_TYPE, note};
+use aos_symbols::{Breach, Claim, Env, IN_BASE, Members, WRONG_BASE, WRONG_TYPE, note};
 use aos_tree::Name;
 use aos_types::{Items, TypeId, TypeRow, Types};
 use std::alloc::{AllocError, Global};
@@ -73,13 +74,15 @@ fn note_object_base(found: &mut Option<Breach>, env: &Env<'_>, at: Pos, base: Ty
 fn note_field(
     found: &mut Option<Breach>,
     env: &Env<'_>,
+    all: &Members<'_>,
     name: Name,
     base: TypeId,
 ) -> Result<(), AllocError>
+    requires { AreMembers env.now all.now }
     ensures { OnOk result (found.new ≡ first_after found.old
         (judge.claim_breaches env.now (Claim.Field name base))) }
 {
-    if env.field(base, name)?.is_some() || env.method(base, name)?.is_some() {
+    if env.field_among(all, base, name)?.is_some() || env.method_among(all, base, name)?.is_some() {
         note(found, IN_BASE, name.pos);
     }
     Ok(())
@@ -88,20 +91,28 @@ fn note_field(
 fn note_method(
     found: &mut Option<Breach>,
     env: &Env<'_>,
+    all: &Members<'_>,
     name: Name,
     base: TypeId,
 ) -> Result<(), AllocError>
+    requires { AreMembers env.now all.now }
     ensures { OnOk result (found.new ≡ first_after found.old
         (judge.claim_breaches env.now (Claim.Method name base))) }
 {
-    if env.field(base, name)?.is_some() {
+    if env.field_among(all, base, name)?.is_some() {
         note(found, IN_BASE, name.pos);
     }
     Ok(())
 }
 
-/// What is asked of one type.
-fn note_claim(found: &mut Option<Breach>, env: &Env<'_>, claim: Claim) -> Result<(), AllocError>
+/// What is asked of one type, where these are what all types declare.
+fn note_claim(
+    found: &mut Option<Breach>,
+    env: &Env<'_>,
+    all: &Members<'_>,
+    claim: Claim,
+) -> Result<(), AllocError>
+    requires { AreMembers env.now all.now }
     ensures { OnOk result (found.new ≡ first_after found.old (judge.claim_breaches env.now claim)) }
 {
     match claim {
@@ -109,20 +120,25 @@ fn note_claim(found: &mut Option<Breach>, env: &Env<'_>, claim: Claim) -> Result
         Claim::Result(_, _) => {},
         Claim::Base(at, base, of) => note_base(found, env, at, base, of),
         Claim::ObjectBase(at, base, of) => note_object_base(found, env, at, base, of),
-        Claim::Field(name, base) => note_field(found, env, name, base)?,
-        Claim::Method(name, base) => note_method(found, env, name, base)?,
+        Claim::Field(name, base) => note_field(found, env, all, name, base)?,
+        Claim::Method(name, base) => note_method(found, env, all, name, base)?,
     }
     Ok(())
 }
 
 /// What is asked of all types that a module names.
 #[tactic(auto, using(aos_symbols::proofs::Keeping::after_more))]
-pub(crate) fn note_claims(found: &mut Option<Breach>, env: &Env<'_>) -> Result<(), NoMemory>
+pub(crate) fn note_claims(
+    alloc: Global,
+    found: &mut Option<Breach>,
+    env: &Env<'_>,
+) -> Result<(), NoMemory>
     ensures { OnOk result (found.new ≡ first_after found.old
         (flat_map (judge.claim_breaches env.now) env.now.claims)) }
 {
+    let all = env.members(alloc)?;
     for claim in env.claims.as_slice() {
-        note_claim(found, env, *claim)?;
+        note_claim(found, env, &all, *claim)?;
     }
     Ok(())
 }

@@ -462,7 +462,7 @@ pub(crate) fn limits(
     ensures { Tells result found.old found.new (λ _. env.new)
         (judge.limits env.old first decls.now) }
 {
-    note_claims(found, env)?;
+    note_claims(alloc, found, env)?;
     drop_bases(alloc, &mut env.types, env.claims.as_slice());
     cut_off(alloc, found, env, first, decls)
 }

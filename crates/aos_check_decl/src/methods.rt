@@ -6,12 +6,14 @@ ghost use Rattle.aos_types.specs.declared.row.TypeId.{TypeId};
 ghost use Rattle.std.specs.Option.{option_copied};
 ghost use Rattle.aos_symbols.specs.Breaches.{first_after};
 ghost use Rattle.aos_symbols.specs.Declarations.{procedures, seen_types};
+ghost use Rattle.aos_symbols.specs.Env.{IsSoFar};
+ghost use Rattle.aos_symbols.specs.Members.{AreMembers};
 ghost use Rattle.aos_check_decl.specs.Told.{Tells};
 ghost use Rattle.aos_check_decl.specs.Methods as judge;
 
 use aos_base::NoMemory;
 use aos_entries::inner_decls;
-use aos_symbols::{Breach, Env, Lookup, Meaning, WRONG_OVERRIDE, note};
+use aos_symbols::{ANY, Breach, Env, Lookup, Meaning, Members, SoFar, WRONG_OVERRIDE, note};
 use aos_tree::{Decl, Items, Name, TypeDef};
 use aos_types::{Signature, TypeId, Types, may_stand};
 use std::alloc::{AllocError, Global};
@@ -47,17 +49,22 @@ fn may_override(types: &Types, a: Option<&Signature>, b: Option<&Signature>) -> 
     may_stand(types, a, b)
 }
 
-/// Rule 22 at a method's name.
+/// Rule 22 at a method's name, where these are what all types declare.
 fn note_method(
     found: &mut Option<Breach>,
     env: &Env<'_>,
+    all: &Members<'_>,
     of: TypeId,
     name: Name,
 ) -> Result<(), AllocError>
+    requires { AreMembers env.now all.now }
     ensures { OnOk result (found.new ≡ first_after found.old
         (judge.named_breaches env.now of name)) }
 {
-    let (Some(method), Some(upper)) = (env.method(of, name)?, env.upper(of, name)?) else {
+    let (Some(method), Some(upper)) = (
+        env.method_among(all, of, name)?,
+        env.upper_among(all, of, name)?,
+    ) else {
         return Ok(());
     };
     let signature = env.signature(method.home, method.number);
@@ -76,15 +83,17 @@ fn note_method(
 fn note_methods(
     found: &mut Option<Breach>,
     env: &Env<'_>,
+    all: &Members<'_>,
     of: TypeId,
     decls: &[Decl],
 ) -> Result<(), AllocError>
+    requires { AreMembers env.now all.now }
     ensures { OnOk result (found.new ≡ first_after found.old
         (flat_map (judge.method_breaches env.now of) (procedures decls.now))) }
 {
     for decl in decls {
         if let Decl::Proc(proc) = decl {
-            note_method(found, env, of, proc.def.name)?;
+            note_method(found, env, all, of, proc.def.name)?;
         }
     }
     Ok(())
@@ -93,13 +102,15 @@ fn note_methods(
 fn note_definition(
     found: &mut Option<Breach>,
     env: &Env<'_>,
+    all: &Members<'_>,
     def: &TypeDef,
 ) -> Result<(), AllocError>
+    requires { AreMembers env.now all.now }
     ensures { OnOk result (found.new ≡ first_after found.old
         (judge.definition_breaches env.now def.now)) }
 {
     match defined_type(env, def) {
-        Some(of) => note_methods(found, env, of, inner_decls(&def.value)),
+        Some(of) => note_methods(found, env, all, of, inner_decls(&def.value)),
         None => Ok(()),
     }
 }
@@ -107,6 +118,7 @@ fn note_definition(
 /// The same of all definitions of types.
 #[tactic(auto, using(aos_symbols::proofs::Keeping::first_after_more))]
 fn note_definitions(
+    alloc: Global,
     found: &mut Option<Breach>,
     env: &Env<'_>,
     defs: &[&TypeDef],
@@ -114,18 +126,26 @@ fn note_definitions(
     ensures { OnOk result (found.new ≡ first_after found.old
         (flat_map (judge.definition_breaches env.now) (seen_types defs.now))) }
 {
+    let all = env.members(alloc)?;
     for def in defs {
-        note_definition(found, env, def)?;
+        note_definition(found, env, &all, def)?;
     }
     Ok(())
 }
 
-/// The slots of the methods that a type declares.
-fn definition_slots(alloc: Global, env: &Env<'_>, def: &TypeDef) -> Result<Items<u32>, AllocError>
-    ensures { IfOk result (λ ks. ks ≡ judge.definition_slots env.now def.now) }
+/// The slots of the methods that a type declares, where these are the methods that were met last.
+fn definition_slots<'a>(
+    alloc: Global,
+    env: &Env<'a>,
+    so_far: &mut SoFar<'a>,
+    def: &TypeDef,
+) -> Result<Items<u32>, AllocError>
+    requires { IsSoFar env.now so_far.old }
+    ensures slots { IfOk result (λ ks. ks ≡ judge.definition_slots env.now def.now) }
+    ensures so_far { OnOk result (IsSoFar env.now so_far.new) }
 {
     match defined_type(env, def) {
-        Some(of) => env.own_slots(alloc, of),
+        Some(of) => env.own_slots(alloc, so_far, of),
         None => Ok(Items::new(alloc)),
     }
 }
@@ -136,8 +156,9 @@ fn slots_of(alloc: Global, env: &Env<'_>, defs: &[&TypeDef]) -> Result<Vec<Items
         map (judge.definition_slots env.now) (seen_types defs.now)) }
 {
     let mut slots = Vec::new(alloc);
+    let mut so_far = env.methods_so_far(alloc, ANY)?;
     for def in defs {
-        slots.push(definition_slots(alloc, env, def)?)?;
+        slots.push(definition_slots(alloc, env, &mut so_far, def)?)?;
     }
     Ok(slots)
 }
@@ -155,5 +176,5 @@ pub(crate) fn overriding(
     let slots = slots_of(alloc, env, defs)?;
     env.here.set_slots(slots);
     env.self_type = None;
-    Ok(note_definitions(found, env, defs)?)
+    Ok(note_definitions(alloc, found, env, defs)?)
 }

@@ -1,6 +1,6 @@
 // Headings of procedures, and what they declare.
 
-ghost use Rattle.std.specs.Prelude.{◌≡◌, ◌+◌, ◌&&◌, true, false, OnOk, IfOk, length};
+ghost use Rattle.std.specs.Prelude.{◌≡◌, ◌+◌, ◌&&◌, [], true, false, OnOk, IfOk, length};
 ghost use Rattle.std.specs.Option.{is_none};
 ghost use Rattle.aos_symbols.specs.Breaches.{first_after};
 ghost use Rattle.aos_symbols.specs.Declarations.{procedures, seen_types, type_defs};
@@ -235,8 +235,17 @@ fn enter_type(
     }
 }
 
-/// The methods of a type, whose scopes have the numbers from this one on.
-#[tactic(auto, using(aos_symbols::proofs::Keeping::after_more))]
+/// Whether declarations declare a procedure.
+#[tactic(auto, using(crate::proofs::Methodless::nothing))]
+fn has_procedures(decls: &[Decl]) -> Result<bool, NoMemory>
+    ensures { IfOk result (λ b. b ≡ false → procedures decls.now ≡ []) }
+{
+    Ok(behind_procedures(0, decls)? != 0)
+}
+
+/// The methods of a type, whose scopes have the numbers from this one on. A type that declares none isn't entered: the path of its bases
+/// may be long.
+#[tactic(auto, using(aos_symbols::proofs::Keeping::after_more, crate::proofs::Methodless::none_told))]
 fn type_methods(
     alloc: Global,
     found: &mut Option<Breach>,
@@ -247,8 +256,13 @@ fn type_methods(
     ensures { Tells result found.old found.new (λ _. env.new)
         (judge.type_methods env.old scope def.now) }
 {
+    let decls = inner_decls(&def.value);
+    if !has_procedures(decls)? {
+        env.self_type = None;
+        return Ok(());
+    }
     let outer = enter_type(alloc, env, defined_type(env, def))?;
-    procedures_in(alloc, found, env, true, scope, inner_decls(&def.value))?;
+    procedures_in(alloc, found, env, true, scope, decls)?;
     env.leave_object(outer);
     Ok(())
 }

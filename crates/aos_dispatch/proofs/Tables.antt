@@ -1,6 +1,6 @@
 -- The tables of types' methods: a chain of bases, one more method, one more type of a chain, and one more table.
 use Rattle.std.proofs.lemmas.Bool.{ltb-false, true≢false}
-use Rattle.std.proofs.Common.{◌≡◌, ℕ, zero, suc, ◌+◌, ◌-◌, ◌<◌, ◌≤◌, List, [], ◌∷◌, ◌++◌, length, map, take, drop, get_or, Option, Some, None, Bool, true, false, ◌||◌, if◌then◌else◌, refl, sym, ap, ◌∙◌, arith, append_assoc}
+use Rattle.std.proofs.Common.{◌≡◌, ℕ, zero, suc, ◌+◌, ◌-◌, ◌<◌, ◌≤◌, List, [], ◌∷◌, ◌++◌, length, map, take, drop, get_or, Option, Some, None, Bool, true, false, ◌||◌, if◌then◌else◌, refl, sym, ap, subst, ◌∙◌, arith, append_assoc}
 use Rattle.std.specs.Prelude.{nat_lt, slice_get, slice_set, sum_by, option_map, option_and_then}
 use Rattle.std.specs.Option.{unwrap_or}
 use Rattle.std.specs.List.{fold, range_with_len}
@@ -18,7 +18,7 @@ use Rattle.aos_typed.specs.Methods.{base_type, on_base, put_at, slots_by, slots,
 use Rattle.aos_typed.specs.Seen.{seen_method, seen_object, seen_program}
 use Rattle.aos_typed.specs.declared.tree.Program.{Program as TProgram}
 use Rattle.aos_dispatch.specs.Dispatch.{firsts_by, AreFirsts, AreTables}
-use Rattle.aos_dispatch.specs.Tables.{AreMethodFirsts, chain_by, declares_some, put_all}
+use Rattle.aos_dispatch.specs.Tables.{AreFirstTables, AreMethodFirsts, chain_by, declares_some, put_all}
 use Rattle.aos_dispatch.proofs.Lists.{more}
 use Rattle.aos_dispatch.proofs.Firsts.{number_is}
 
@@ -115,10 +115,10 @@ table_more p k ts ts' t is one before =
     ∙ sym (map-range_with_len_more (λ j. slots p (own_numbers p) j) 0 k k (omega arith))
 
 -- what a type has in a slot
-slots_at : (p : Program) (tables : List (Vec ℕ Global)) (t : ℕ) (v : Vec ℕ Global) → AreTables p tables → slice_get tables t ≡ Some v → v.items ≡ slots p (own_numbers p) t
-slots_at p tables t v are at =
+slots_in : (p : Program) (tables : List (Vec ℕ Global)) (n t : ℕ) (v : Vec ℕ Global) → AreFirstTables p n tables → slice_get tables t ≡ Some v →
+    v.items ≡ slots p (own_numbers p) t
+slots_in p tables n t v are at =
     let f : ℕ → List ℕ = λ k. slots p (own_numbers p) k in
-    let n = length p.objects in
     let items = λ (x : Vec ℕ Global). x.items in
     let lt : t < length (map f (range_with_len 0 n)) =
     omega (arith, slice_get_within tables t v at, length-map tables items, ap length are) in
@@ -128,6 +128,37 @@ slots_at p tables t v are at =
     ∙ slice_get-get_or (map f (range_with_len 0 n)) t (f t) lt
     ∙ ap (λ l. Some l) (get_or-map-range_with_len f 0 n t t (f t) (omega (arith, lt, length-map-range_with_len f 0 n)) (omega arith)) in
     ap (λ o. unwrap_or o []) one
+
+slots_at : (p : Program) (tables : List (Vec ℕ Global)) (t : ℕ) (v : Vec ℕ Global) → AreTables p tables → slice_get tables t ≡ Some v → v.items ≡ slots p (own_numbers p) t
+slots_at p tables t v are at = slots_in p tables (length p.objects) t v are at
+
+module _ (p : Program) where
+  -- A chain that comes to an end within so many types gives the same within one more.
+  settled : (n t : ℕ) → length (chain_by p n t) < n → slots_by p (own_numbers p) n t ≡ slots_by p (own_numbers p) (suc n) t
+  settled zero t short = absurd (omega (arith, short))
+  settled (suc n) t short = ap (λ l. fold put_at l (own_numbers p t)) (by (base_type p t) (settled n) short)
+    where
+      by : (o : Option ℕ) → ((b : ℕ) → length (chain_by p n b) < n → slots_by p (own_numbers p) n b ≡ slots_by p (own_numbers p) (suc n) b) →
+          length (t ∷ on_base (chain_by p n) o) < suc n →
+          on_base (slots_by p (own_numbers p) n) o ≡ on_base (slots_by p (own_numbers p) (suc n)) o
+      by None same short = refl
+      by (Some b) same short = same b (omega (arith, short))
+
+  behind : (n t b : ℕ) → base_type p t ≡ Some b → length (chain_by p n t) < n →
+      fold put_at (slots_by p (own_numbers p) n b) (own_numbers p t) ≡ slots_by p (own_numbers p) n t
+  behind zero t b is short = absurd (omega (arith, short))
+  behind (suc n) t b is short =
+      let less : length (chain_by p n b) < n = omega (arith, short, ap (λ o. length (on_base (chain_by p n) o)) is) in
+      ap (λ l. fold put_at l (own_numbers p t)) (sym (settled n b less))
+      ∙ ap (λ o. fold put_at (on_base (slots_by p (own_numbers p) n) o) (own_numbers p t)) (sym is)
+
+  -- behind the methods of the base
+  pub behind_base : (tables : List (Vec ℕ Global)) (k n t b : ℕ) (v : Vec ℕ Global) (table : List ℕ) → n ≡ length p.objects → AreFirstTables p k tables →
+      base_type p t ≡ Some b → length (chain_by p n t) < n → slice_get tables b ≡ Some v → table ≡ fold put_at v.items (own_numbers p t) →
+      table ≡ slots p (own_numbers p) t
+  behind_base tables k n t b v table many are is short there made =
+      made ∙ ap (λ l. fold put_at l (own_numbers p t)) (slots_in p tables k b v are there)
+      ∙ behind (length p.objects) t b is (subst (λ m. length (chain_by p m t) < m) many short)
 
 pub table_is : (p : Program) (tables : List (Vec ℕ Global)) (t : ℕ) → AreTables p tables → t < length p.objects → unwrap_or (option_map (λ v. v.items) (slice_get tables t)) [] ≡ slots p (own_numbers p) t
 table_is p tables t are lt =

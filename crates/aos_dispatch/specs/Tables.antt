@@ -1,16 +1,22 @@
 -- What the tables of types' methods are made of.
-use Rattle.std.specs.Prelude.{◌≡◌, ℕ, zero, suc, ◌+◌, nat_lt, List, [], ◌∷◌, length, Bool, false, ◌||◌}
+use Rattle.std.specs.Prelude.{◌≡◌, ℕ, zero, suc, ◌+◌, nat_lt, List, [], ◌∷◌, length, map, Bool, false, ◌||◌}
 use Rattle.aos_typed.specs.declared.tree.TObject.{TObject}
-use Rattle.std.specs.List.{fold}
+use Rattle.std.specs.List.{fold, range_with_len}
+use Rattle.std.specs.declared.vec.Vec.{Vec}
+use Rattle.std.specs.declared.alloc.Global.{Global}
 use Rattle.aos_typed.specs.Numbers.{procedures_before}
 use Rattle.aos_typed.specs.Program.{Program}
-use Rattle.aos_typed.specs.Methods.{base_type, on_base, put_at}
+use Rattle.aos_typed.specs.Methods.{base_type, on_base, put_at, slots, own_numbers}
 use Rattle.aos_dispatch.specs.Dispatch.{firsts_by}
 
 -- the numbers of the first methods of types, behind those of all procedures
 abbrev pub AreMethodFirsts : Program → List ℕ → Type 0
 AreMethodFirsts p ns =
     ns ≡ firsts_by (λ o. length o.methods) (suc (length p.modules + length p.objects + procedures_before p (length p.modules))) p.objects
+
+-- the methods of the first types, so many of them
+abbrev pub AreFirstTables : Program → ℕ → List (Vec ℕ Global) → Type 0
+AreFirstTables p k tables = map (λ v. v.items) tables ≡ map (λ j. slots p (own_numbers p) j) (range_with_len 0 k)
 
 -- one of these types declares a method
 abbrev pub declares_some : List TObject → Bool

@@ -6,7 +6,7 @@ ghost use Rattle.aos_typed.specs.Methods.{base_type, put_at, numbered_from, own_
 ghost use Rattle.aos_typed.specs.Numbers.{predeclared_types};
 ghost use Rattle.aos_typed.specs.Seen.{seen_method, seen_program};
 ghost use Rattle.aos_dispatch.specs.Dispatch.{AreTables};
-ghost use Rattle.aos_dispatch.specs.Tables.{AreMethodFirsts, chain_by, declares_some};
+ghost use Rattle.aos_dispatch.specs.Tables.{AreFirstTables, AreMethodFirsts, chain_by, declares_some};
 
 use crate::numbers::after;
 use crate::types::{PREDECLARED_TYPES, type_in};
@@ -135,6 +135,60 @@ fn table_of(
     Ok(table)
 }
 
+// How many methods a type itself declares.
+fn own_count(program: &Program, t: u32) -> usize {
+    match program.objects.get(t as usize) {
+        Some(object) => object.methods.len(),
+        None => 0,
+    }
+}
+
+// What stands in the slots of a type whose base has these.
+fn table_behind(
+    alloc: Global,
+    program: &Program,
+    firsts: &[u32],
+    base: &[u32],
+    t: u32,
+) -> Result<Vec<u32>, AllocError>
+    requires { AreMethodFirsts (seen_program program.now) firsts.now }
+    ensures { IfOk result (λ table. table.items ≡
+        fold put_at base.now (own_numbers (seen_program program.now) t)) }
+{
+    let count = base.len().saturating_add(own_count(program, t));
+    let mut table = Vec::with_capacity(alloc, count)?;
+    table.extend_from_slice(base)?;
+    put_own(&mut table, program, firsts, t)?;
+    Ok(table)
+}
+
+// The methods of a type by their slots. Where its base's are among those that are there, and the chain of bases comes to an end, only its
+// own are put, behind a copy of them.
+fn table_by(
+    alloc: Global,
+    program: &Program,
+    firsts: &[u32],
+    tables: &[Vec<u32>],
+    t: u32,
+) -> Result<Vec<u32>, AllocError>
+    requires few { length program.now.types ≤ 2 ^ 32 }
+    requires firsts { AreMethodFirsts (seen_program program.now) firsts.now }
+    requires tables { AreFirstTables (seen_program program.now) t tables.now }
+    ensures { IfOk result (λ table. table.items ≡
+        slots (seen_program program.now) (own_numbers (seen_program program.now)) t) }
+{
+    let chain = chain_of(alloc, program, t)?;
+    if chain.len() < program.objects.len() {
+        if let Some(base) = base_of(program, t) {
+            if let Some(table) = tables.get(base as usize) {
+                let all = table_behind(alloc, program, firsts, table.as_slice(), t)?;
+                return Ok(all);
+            }
+        }
+    }
+    table_of(alloc, program, firsts, t)
+}
+
 // One more table.
 fn put_table(tables: &mut Vec<Vec<u32>>, table: Vec<u32>) -> Result<(), AllocError>
     ensures { OnOk result (tables.new.items ≡ tables.old.items ++ table ∷ []) }
@@ -149,17 +203,19 @@ fn table_if(
     alloc: Global,
     program: &Program,
     firsts: &[u32],
+    tables: &[Vec<u32>],
     t: u32,
     any: bool,
 ) -> Result<Vec<u32>, AllocError>
     requires few { length program.now.types ≤ 2 ^ 32 }
     requires firsts { AreMethodFirsts (seen_program program.now) firsts.now }
+    requires tables { AreFirstTables (seen_program program.now) t tables.now }
     requires any { any ≡ declares_some program.now.objects.items }
     ensures { IfOk result (λ table. table.items ≡
         slots (seen_program program.now) (own_numbers (seen_program program.now)) t) }
 {
     if any {
-        table_of(alloc, program, firsts, t)
+        table_by(alloc, program, firsts, tables, t)
     } else {
         Ok(Vec::new(alloc))
     }
@@ -179,7 +235,7 @@ pub fn tables_of(
     let any = has_methods(&program.objects);
     let mut tables = Vec::new(alloc);
     for number in 0..program.objects.len() {
-        let table = table_if(alloc, program, firsts, number as u32, any)?;
+        let table = table_if(alloc, program, firsts, &tables, number as u32, any)?;
         put_table(&mut tables, table)?;
     }
     Ok(tables)

@@ -1,9 +1,12 @@
 -- A chain of types goes on with the base of the last one, where that has a base.
-use Rattle.std.proofs.Common.{◌≡◌, ◌<◌, ◌≤◌, ℕ, zero, suc, ◌-◌, List, [], ◌∷◌, ◌++◌, length, get_or, drop, drop-cons, Bool, true, false, if◌then◌else◌, Option, Some, None, refl, ap, sym, ◌∙◌, arith, append_assoc}
+use Rattle.std.proofs.Common.{◌≡◌, ◌<◌, ◌≤◌, ℕ, zero, suc, ◌+◌, ◌-◌, List, [], ◌∷◌, ◌++◌, length, get_or, drop, drop-cons, Bool, true, false, if◌then◌else◌, Option, Some, None, refl, ap, sym, ◌∙◌, arith, append_assoc}
+use Rattle.std.specs.Option.{option_or}
 use Rattle.aos_types.specs.declared.row.TypeId.{TypeId}
 use Rattle.aos_types.specs.declared.row.TypeRow.{TypeRow}
 use Rattle.aos_types.specs.Table.{row_of, base_of}
-use Rattle.aos_symbols.specs.Env.{chain_by, chain_behind, first_along, own_methods, methods_along}
+use Rattle.aos_symbols.specs.declared.objects.SoFar.{SoFar}
+use Rattle.aos_symbols.specs.declared.env.Method.{Method}
+use Rattle.aos_symbols.specs.Env.{chain, chain_by, chain_behind, first_along, own_method, own_methods, method_along, methods_along, IsSoFar}
 use Rattle.aos_symbols.specs.Scope.{with_names}
 use Rattle.aos_symbols.specs.declared.env.Env.{Env}
 
@@ -27,6 +30,22 @@ module _ (rows : List TypeRow) (t : TypeId) where
       met ++ chain_by n rows t ≡ whole → (met ++ t ∷ []) ++ chain_by (n - 1) rows b ≡ whole
   chain_step met whole n b is some all =
       append_assoc met (t ∷ []) (chain_by (n - 1) rows b) ∙ ap (λ z. met ++ z) (sym (chain_base n b is some)) ∙ all
+
+  -- A chain that comes to an end within so many types is the same within one more.
+  settled : (n : ℕ) (u : TypeId) → length (chain_by (suc n) rows u) ≤ n → chain_by n rows u ≡ chain_by (suc n) rows u
+  settled zero u short = absurd (omega (arith, short))
+  settled (suc n) u short = by (base_of (row_of rows u)) (settled n) short
+    where
+      by : (o : Option TypeId) → ((b : TypeId) → length (chain_by (suc n) rows b) ≤ n → chain_by n rows b ≡ chain_by (suc n) rows b) →
+          length (u ∷ chain_behind (λ b. chain_by (suc n) rows b) o) ≤ suc n →
+          u ∷ chain_behind (λ b. chain_by n rows b) o ≡ u ∷ chain_behind (λ b. chain_by (suc n) rows b) o
+      by None same short = refl
+      by (Some b) same short = ap (λ l. u ∷ l) (same b (omega (arith, short)))
+
+  chain_next : (n : ℕ) (b : TypeId) → base_of (row_of rows t) ≡ Some b → length (chain_by n rows b) < n → chain_by n rows t ≡ t ∷ chain_by n rows b
+  chain_next zero b is short = absurd (omega (arith, short))
+  chain_next (suc n) b is short =
+      ap (λ o. t ∷ chain_behind (λ u. chain_by n rows u) o) is ∙ ap (λ l. t ∷ l) (settled n b (omega (arith, short)))
 
 -- the first type of a chain for which something is so
 module _ (rows : List TypeRow) (test : TypeId → Bool) (t : TypeId) where
@@ -55,3 +74,22 @@ methods_step e ts i d some within =
     let more : suc (i - 1) ≡ i = omega arith in
     ap (λ l. methods_along e l) (drop-cons ts (i - 1) d (omega arith))
     ∙ ap (λ j. with_names (methods_along e (drop j ts)) (own_methods e (get_or ts (i - 1) d))) more
+
+-- the methods of a type, behind those of its base
+pub next_so_far : (e : Env) (s n : SoFar) (t : TypeId) → IsSoFar e s → base_of (row_of e.types t) ≡ Some s.of → s.count < length e.types →
+    n.of ≡ t → n.count ≡ s.count + 1 → n.all ≡ with_names s.all (own_methods e t) → IsSoFar e n
+next_so_far e s n t is base ends of count all =
+    let next : chain e.types t ≡ t ∷ chain e.types s.of = chain_next e.types t (length e.types) s.of base (omega (arith, ends, is.count)) in
+    let long : length (chain e.types t) ≡ suc (length (chain e.types s.of)) = ap length next in
+    let same : chain e.types n.of ≡ chain e.types t = ap (λ u. chain e.types u) of in
+    record {
+      count = omega (arith, count, is.count, long, ap length same);
+      all = all ∙ ap (λ a. with_names a (own_methods e t)) is.all ∙ sym (ap (λ l. methods_along e l) (same ∙ next));
+    }
+
+-- the method that the first type of a chain itself declares
+pub found_here : (e : Env) (w : List ℕ) (t : TypeId) (n : ℕ) (m : Method) (all : Option Method) → own_method e t w ≡ Some m →
+    method_along e w (chain_by n e.types t) ≡ all → Some m ≡ all
+found_here e w t zero m all is before = sym (ap (λ o. option_or o None) is) ∙ before
+found_here e w t (suc n) m all is before =
+    sym (ap (λ o. option_or o (method_along e w (chain_behind (λ u. chain_by n e.types u) (base_of (row_of e.types t))))) is) ∙ before

@@ -12,3 +12,5 @@ pub mod Records
 pub mod Bases
 pub mod Chains
 pub mod Methods
+pub mod Fields
+pub mod Numbered

@@ -1,7 +1,7 @@
 -- What a name stands for at a place of a module (Active Oberon Language Report, Reali 2002, section on declarations and scope
 -- rules): the scopes of the place's path are searched, the innermost first, then what is predeclared. A name of another module
 -- is seen where it has an export mark.
-use Rattle.std.specs.Prelude.{ℕ, zero, suc, ◌+◌, List, [], ◌∷◌, ◌++◌, length, Bool, true, false, ◌==◌, ◌||◌, ◌&&◌, nat_lt, codes, Option, Some, None, is_some, option_map, option_and_then, if◌then◌else◌, slice_get}
+use Rattle.std.specs.Prelude.{◌≡◌, ℕ, zero, suc, ◌+◌, List, [], ◌∷◌, ◌++◌, length, Bool, true, false, ◌==◌, ◌||◌, ◌&&◌, nat_lt, codes, Option, Some, None, is_some, option_map, option_and_then, if◌then◌else◌, slice_get}
 use Rattle.std.specs.List.{flat_map}
 use Rattle.std.specs.Option.{option_or}
 use Rattle.std.specs.Str.{bytes_eq}
@@ -30,6 +30,7 @@ use Rattle.aos_symbols.specs.declared.env.Narrowed.{Narrowed}
 use Rattle.aos_symbols.specs.declared.env.Lookup.{Lookup}
 use Rattle.aos_symbols.specs.declared.env.Lookup.TheVariants.{Unknown, NotExported, Found}
 use Rattle.aos_symbols.specs.declared.env.Env.{Env}
+use Rattle.aos_symbols.specs.declared.objects.SoFar.{SoFar}
 use Rattle.aos_symbols.specs.Spelling.{word}
 use Rattle.aos_symbols.specs.Scope.{Named, Scope, empty, find, with_names, methods_of, places_in}
 use Rattle.aos_types.specs.declared.signature.Signature.{Signature}
@@ -363,6 +364,11 @@ all_methods e t = methods_along e (chain e.types t)
 -- the slots of the methods that an object type itself declares
 abbrev pub own_slots : Env → TypeId → List ℕ
 own_slots e t = places_in (all_methods e t) (own_methods e t)
+
+-- the methods of a type and its bases, and how many types these are
+pub record IsSoFar (e : Env) (s : SoFar) : Type 0 where
+  pub count : s.count ≡ length (chain e.types s.of)
+  pub all : s.all ≡ all_methods e s.of
 
 -- a place of a text is before another
 abbrev pub precedes : Pos → Pos → Bool

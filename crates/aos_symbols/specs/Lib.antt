@@ -6,4 +6,5 @@ pub mod Declarations
 pub mod Scope
 pub mod Home
 pub mod Env
+pub mod Members
 pub mod Laws

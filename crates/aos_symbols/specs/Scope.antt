@@ -64,6 +64,18 @@ if_method (Some n) = if is_procedure n.1.means then Some n else None
 abbrev pub methods_of : Scope → List Named
 methods_of s = filter (λ n. is_procedure n.1.means) s.entries
 
+-- the variables of a scope: the fields, where it is that of a type
+abbrev pub is_variable : Meaning → Bool
+is_variable (means.Variable k) = true
+is_variable m = false
+
+abbrev pub if_field : Option Named → Option Named
+if_field None = None
+if_field (Some n) = if is_variable n.1.means then Some n else None
+
+abbrev pub fields_of : Scope → List Named
+fields_of s = filter (λ n. is_variable n.1.means) s.entries
+
 -- where a word stands among the names
 abbrev pub place_of : Scope → List ℕ → ℕ
 place_of s w = unwrap_or (position (λ k. bytes_eq w k) (map (λ n. n.0) s.entries)) 0

@@ -402,14 +402,14 @@ impl<'a> Env<'a> {
         }
     }
 
-    fn is_object(&self, of: TypeId) -> bool
+    pub(crate) fn is_object(&self, of: TypeId) -> bool
         ensures { result ≡ is_object (row_in self.now.types of) }
     {
         matches!(self.row(Some(of)), Some(TypeRow::Object(_, _)))
     }
 
     /// The own field of a type that has a name; none where it hasn't one.
-    fn own_field(&self, of: TypeId, name: Name) -> Option<Field>
+    pub(crate) fn own_field(&self, of: TypeId, name: Name) -> Option<Field>
         ensures { result ≡ env.own_field self.now of name }
     {
         let word = word(self.here.text(), name);
@@ -463,7 +463,7 @@ impl<'a> Env<'a> {
     }
 
     /// An own field of a type, with its number counted on from the fields of the type's bases.
-    fn counted_on(&self, of: TypeId, field: Field) -> Result<Option<Field>, AllocError>
+    pub(crate) fn counted_on(&self, of: TypeId, field: Field) -> Result<Option<Field>, AllocError>
         ensures { IfOk result (λ f. f ≡ Some (env.counted_on self.now.types of field)) }
     {
         match self.fields_before(of)?.checked_add(field.number) {

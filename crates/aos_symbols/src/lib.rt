@@ -6,7 +6,8 @@ mod chain;
 pub mod env;
 pub mod home;
 mod laws;
-mod objects;
+pub mod members;
+pub mod objects;
 pub mod scope;
 mod spelling;
 
@@ -24,5 +25,7 @@ pub use env::{
 };
 pub use home::{Home, ObjectScope};
 pub use laws::law_of_first;
+pub use members::Members;
+pub use objects::SoFar;
 pub use scope::{Constant, Entry, Function, Meaning, Routine, Scope};
 pub use spelling::{are_same, is_active, is_priority, is_procedure_of_out, is_word, word};

@@ -1,7 +1,8 @@
 // Object types: their scopes, and their methods with their slots.
 
-ghost use Rattle.std.specs.Prelude.{◌≡◌, OnOk, IfOk, OnErr};
+ghost use Rattle.std.specs.Prelude.{◌≡◌, ◌+◌, ◌<◌, ◌^◌, Some, length, IsTrue, OnOk, IfOk, OnErr};
 ghost use Rattle.std.specs.Option.{option_copied};
+ghost use Rattle.aos_types.specs.Table.{base_of, row_of as row_in};
 ghost use Rattle.aos_symbols.specs.Scope as names;
 ghost use Rattle.aos_symbols.specs.Env as env;
 
@@ -13,6 +14,25 @@ use aos_tree::{Export, Items, Name};
 use aos_types::TypeId;
 use std::alloc::{AllocError, Global};
 use std::mem;
+
+/// The methods of a type and its bases, and how many types these are.
+pub struct SoFar<'a> {
+    pub of: TypeId,
+    pub count: usize,
+    pub all: Scope<'a>,
+}
+
+// Crates above drop it by this one call.
+impl<'a> Drop for SoFar<'a> {
+    fn drop(self) {
+        let SoFar {
+            of: _,
+            count: _,
+            all,
+        } = self;
+        drop(all);
+    }
+}
 
 /// Where the names of an object type stand.
 fn object_place(object: ObjectScope) -> Open
@@ -139,7 +159,7 @@ impl<'a> Env<'a> {
     }
 
     /// The method with this word that an object type itself declares.
-    fn own_method(&self, of: TypeId, word: &[u8]) -> Result<Option<Method>, AllocError>
+    pub(crate) fn own_method(&self, of: TypeId, word: &[u8]) -> Result<Option<Method>, AllocError>
         ensures { IfOk result (λ m. m ≡ env.own_method self.now of word.now) }
     {
         let Some(object) = self.object(of) else {
@@ -222,14 +242,14 @@ impl<'a> Env<'a> {
     }
 
     /// The scope in which the names of an object type stand.
-    fn object_scope(&self, of: TypeId) -> Option<&Scope<'a>>
+    pub(crate) fn object_scope(&self, of: TypeId) -> Option<&Scope<'a>>
         ensures { option_copied result ≡ env.object_scope self.now of }
     {
         self.scope(object_place(self.object(of)?))
     }
 
     /// Declares the methods that an object type itself declares in a scope.
-    fn add_methods(&self, all: &mut Scope<'a>, of: TypeId) -> Result<(), AllocError>
+    pub(crate) fn add_methods(&self, all: &mut Scope<'a>, of: TypeId) -> Result<(), AllocError>
         ensures { OnOk result
             (all.new ≡ names.with_names all.old (env.own_methods self.now of)) }
     {
@@ -253,16 +273,67 @@ impl<'a> Env<'a> {
         Ok(all)
     }
 
-    /// The slots of the methods that an object type itself declares.
-    pub fn own_slots(&self, alloc: Global, of: TypeId) -> Result<Items<u32>, AllocError>
-        ensures { IfOk result (λ ks. ks ≡ env.own_slots self.now of) }
+    /// The methods of an object type and its bases.
+    pub fn methods_so_far(&self, alloc: Global, of: TypeId) -> Result<SoFar<'a>, AllocError>
+        ensures so_far { IfOk result (λ s. env.IsSoFar self.now s) }
+        ensures of { IfOk result (λ s. s.of ≡ of) }
+    {
+        let types = self.chain(alloc, of)?;
+        let all = self.methods_along(alloc, &types)?;
+        let count = types.len();
+        Ok(SoFar { of, count, all })
+    }
+
+    /// Whether the type whose methods these are is the base of another, and its chain of bases comes to an end.
+    fn is_behind(&self, so_far: &SoFar<'_>, of: TypeId) -> bool
+        ensures base { IsTrue result → base_of (row_in self.now.types of) ≡ Some so_far.now.of }
+        ensures ends { IsTrue result → so_far.now.count < length self.now.types }
+        ensures fits { IsTrue result → so_far.now.count + 1 < 2 ^ 64 }
+    {
+        match self.base(of) {
+            Some(base) => base.0 == so_far.of.0 && so_far.count < self.types.len(),
+            None => false,
+        }
+    }
+
+    /// Goes on to the methods of another type, whose base's are not met again where they are these.
+    fn go_on(&self, alloc: Global, so_far: &mut SoFar<'a>, of: TypeId) -> Result<(), AllocError>
+        requires { env.IsSoFar self.now so_far.old }
+        ensures so_far { OnOk result (env.IsSoFar self.now so_far.new) }
+        ensures of { OnOk result (so_far.new.of ≡ of) }
+    {
+        if self.is_behind(so_far, of) {
+            self.add_methods(&mut so_far.all, of)?;
+            so_far.of = of;
+            so_far.count += 1;
+        } else {
+            *so_far = self.methods_so_far(alloc, of)?;
+        }
+        Ok(())
+    }
+
+    /// The slots of the methods that an object type itself declares. Where it declares none, those of its bases aren't met, and those
+    /// that were met last aren't met again where they are its base's.
+    #[tactic(auto, using(crate::proofs::Methods::no_slots))]
+    pub fn own_slots(
+        &self,
+        alloc: Global,
+        so_far: &mut SoFar<'a>,
+        of: TypeId,
+    ) -> Result<Items<u32>, AllocError>
+        requires { env.IsSoFar self.now so_far.old }
+        ensures slots { IfOk result (λ ks. ks ≡ env.own_slots self.now of) }
+        ensures so_far { OnOk result (env.IsSoFar self.now so_far.new) }
     {
         let Some(scope) = self.object_scope(of) else {
             return Ok(Items::new(alloc));
         };
-        let types = self.chain(alloc, of)?;
-        let all = self.methods_along(alloc, &types)?;
-        scope.places_in(alloc, &all)
+        let none = scope.places_in(alloc, &Scope::new(alloc))?;
+        if none.as_slice().is_empty() {
+            return Ok(none);
+        }
+        self.go_on(alloc, so_far, of)?;
+        scope.places_in(alloc, &so_far.all)
     }
 
     /// Goes into the methods or the body of an object type of this module, and gives the path of the place where it was. Without

@@ -149,7 +149,7 @@ impl<'a> Scope<'a> {
     }
 
     /// Where a word stands among the names. A place of 2^32 and more is want of memory.
-    fn place_of(&self, word: &[u8]) -> Result<u32, AllocError>
+    pub(crate) fn place_of(&self, word: &[u8]) -> Result<u32, AllocError>
         ensures { IfOk result (λ k. k ≡ names.place_of self.now word.now) }
     {
         let Some(place) = self.table.get_index_of(word) else {
@@ -213,6 +213,48 @@ impl<'a> Scope<'a> {
         let mut places = Items::new(alloc);
         for place in 0..self.name_count() {
             if let Some((word, _)) = self.method_at(place) {
+                places.push(all.place_of(word)?)?;
+            }
+        }
+        Ok(places)
+    }
+
+    /// The name with this place, where it is that of a field.
+    fn field_at(&self, place: usize) -> Option<(&'a [u8], Entry)>
+        ensures { option_map names.named result ≡
+            names.if_field (slice_get self.now.entries place) }
+    {
+        match self.name_at(place) {
+            Some((word, entry)) => match entry.means {
+                Meaning::Variable(_) => Some((word, entry)),
+                _ => None,
+            },
+            None => None,
+        }
+    }
+
+    /// Declares the fields of this scope in another one, too.
+    pub(crate) fn add_fields(&self, all: &mut Scope<'a>) -> Result<(), AllocError> {
+        for place in 0..self.name_count() {
+            if let Some((word, entry)) = self.field_at(place) {
+                all.declare(word, entry)?;
+            }
+        }
+        Ok(())
+    }
+
+    /// Where the fields of this scope stand among the names of another one.
+    #[tactic(auto, using(crate::proofs::Fields::placed_more, crate::proofs::Fields::placed_none, crate::proofs::Fields::placed_end))]
+    pub(crate) fn field_places_in(
+        &self,
+        alloc: Global,
+        all: &Scope<'_>,
+    ) -> Result<Items<u32>, AllocError>
+        ensures { IfOk result (λ ks. ks ≡ names.places_in all.now (names.fields_of self.now)) }
+    {
+        let mut places = Items::new(alloc);
+        for place in 0..self.name_count() {
+            if let Some((word, _)) = self.field_at(place) {
                 places.push(all.place_of(word)?)?;
             }
         }
