@@ -2,6 +2,8 @@
 
 ghost use Rattle.std.specs.Prelude.{[], IfOk};
 ghost use Rattle.aos_report.specs.Texts.{refusal_text};
+ghost use Rattle.aos_words.specs.Words.{borrowed};
+ghost use Rattle.aos.specs.Wanted.{name_of};
 ghost use Rattle.aos.specs.Shown.{IsAnswer};
 
 use aos_base::{NoMemory, Refusal};
@@ -38,10 +40,10 @@ pub fn telling(alloc: Global, out: Vec<u8>) -> Answer
     }
 }
 
-/// The refusal of a file by a rule.
-pub fn refuse(alloc: Global, file: &str, r: &Refusal) -> Result<Answer, NoMemory>
-    ensures { IfOk result (λ a.
-        IsAnswer a 1 [] (refusal_text file.now r.now.rule r.now.pos)) }
+/// The refusal of one of these files by a rule: its line names the file.
+pub fn refuse(alloc: Global, files: &[&str], r: &Refusal) -> Result<Answer, NoMemory>
+    ensures { IfOk result (λ a. IsAnswer a 1 []
+        (refusal_text (name_of (borrowed files.now) r.now.file) r.now.rule r.now.pos)) }
 {
-    Ok(message(alloc, 1, refusal(alloc, r, file)?))
+    Ok(message(alloc, 1, refusal(alloc, r, files)?))
 }

@@ -52,7 +52,7 @@ pub fn fetch_file<F: Shelf>(
                 file: 0,
                 pos: Pos { line: 0, col: 0 },
             };
-            Ok(FetchedFile::Stopped(refuse(alloc, file, &absent)?))
+            Ok(FetchedFile::Stopped(refuse(alloc, &[file], &absent)?))
         }
         Got::TooLong => Ok(FetchedFile::Stopped(message(alloc, 6, too_long(alloc, file, most)?))),
         Got::Failed => Ok(FetchedFile::Stopped(message(alloc, 6, unread(alloc, file)?))),

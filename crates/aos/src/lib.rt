@@ -6,6 +6,7 @@ mod command;
 mod compiled;
 mod fetch;
 mod law;
+mod names;
 mod run;
 mod telling;
 pub mod top;

@@ -14,6 +14,7 @@ ghost use Rattle.aos.specs.Shown.{script_in, IsSet, IsReady};
 ghost use Rattle.aos.specs.Shown.{TellsOf, TellsLog, ShowsRun, ShowsReplayOf};
 
 use crate::answer::Answer;
+use crate::names::names_of;
 use aos_base::{NoMemory, Outcome};
 use aos_code::{Image, ModuleDesc, TrapRec, WaitRec};
 use aos_gate::Gate;
@@ -40,9 +41,10 @@ fn trap_lines(alloc: Global, traps: &[TrapRec], modules: &[ModuleDesc]) -> Resul
     ensures { IfOk result (λ lines.
         lines.items ≡ rows_text (module_names modules.now) (map row_of traps.now)) }
 {
+    let names = names_of(alloc, modules)?;
     let mut lines = Vec::new(alloc);
     for trap in traps {
-        lines.extend_from_slice(&trap_line(alloc, trap, modules)?)?;
+        lines.extend_from_slice(&trap_line(alloc, trap, &names)?)?;
     }
     Ok(lines)
 }
@@ -52,9 +54,10 @@ fn wait_lines(alloc: Global, waits: &[WaitRec], modules: &[ModuleDesc]) -> Resul
     ensures { IfOk result (λ lines.
         lines.items ≡ waits_text (module_names modules.now) (map wait_row_of waits.now)) }
 {
+    let names = names_of(alloc, modules)?;
     let mut lines = Vec::new(alloc);
     for wait in waits {
-        lines.extend_from_slice(&wait_line(alloc, wait, modules)?)?;
+        lines.extend_from_slice(&wait_line(alloc, wait, &names)?)?;
     }
     Ok(lines)
 }

@@ -8,6 +8,7 @@ ghost use Rattle.aos.specs.Told.{IsCheckOf, IsLayoutOf};
 ghost use Rattle.aos.specs.Shown.{names_in, IsSmall, TellsText, TellsOfProgram};
 
 use crate::answer::{Answer, telling};
+use crate::names::names_of;
 use aos_base::NoMemory;
 use aos_code::Image;
 use aos_guard::locals;
@@ -33,7 +34,8 @@ fn tell_locals(alloc: Global, program: &Program, image: &Image) -> Result<Answer
     ensures { IfOk result (TellsText (λ text. IsCheckOf (seen_program program.now) text)) }
 {
     let awaits = locals(alloc, program)?;
-    let text = check_text(alloc, &awaits, image.modules.as_slice())?;
+    let names = names_of(alloc, image.modules.as_slice())?;
+    let text = check_text(alloc, &awaits, &names)?;
     Ok(telling(alloc, text))
 }
 

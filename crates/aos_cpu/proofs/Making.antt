@@ -263,18 +263,22 @@ module _ (ns : List ℕ) (desc : TypeDesc) (t : ℕ) (mem : Memory) (elements si
   abbrev below : Bool
   below = nat_le (max 1 size + sum_by counted mem.objects) 16777216
 
+  pub fits_is : nat_le (counted its_cells + sum_by counted mem.objects) 16777216 ≡ below
+  fits_is =
+      ap (λ n. nat_le (max 1 n + sum_by counted mem.objects) 16777216) (rows_length ns desc.kinds.items)
+      ∙ sym (room_cut (cells_of ns 1) elements (length desc.kinds.items) size (sum_by counted mem.objects) elements_are size_is)
+
   room_is : list_all (λ n. nat_le n 16777216) ns ≡ true → has_room as_made its_cells mem ≡ below
   room_is few =
       ap (λ b. b && nat_le (counted its_cells + sum_by counted mem.objects) 16777216) few
-      ∙ ap (λ n. nat_le (max 1 n + sum_by counted mem.objects) 16777216) (rows_length ns desc.kinds.items)
-      ∙ sym (room_cut (cells_of ns 1) elements (length desc.kinds.items) size (sum_by counted mem.objects) elements_are size_is)
+      ∙ fits_is
 
   pub no_room : (old : KeptFrames) (count at : ℕ) (out : List ℕ) → below ≡ false → IsMadeWith ns desc t count at old old mem mem (Trapped 12 0) out
   no_room old count at out full few f fs is =
       subst (λ b. HasMade (makes (reverse old.following.items) b as_made its_cells at f.keeps (drop count f.stack) f fs mem) false (Trapped 12 0) (frames_in old) mem out out) (sym (room_is few ∙ full)) (lost_made old f fs mem 12 0 out is)
 
   -- the cells that were made, where elements that were cut have none
-  cells_made : (cells : List Cell) → below ≡ true → cells ≡ times [] elements (map first_cell desc.kinds.items) → cells ≡ its_cells
+  pub cells_made : (cells : List Cell) → below ≡ true → cells ≡ times [] elements (map first_cell desc.kinds.items) → cells ≡ its_cells
   cells_made cells room e = e ∙ by desc.kinds.items refl ∙ sym (rows_times ns (map first_cell desc.kinds.items))
     where
       within : (k : ℕ) → length desc.kinds.items ≡ suc k → elements ≡ cells_of ns 1

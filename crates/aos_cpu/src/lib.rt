@@ -12,6 +12,7 @@ pub mod texts;
 pub mod turn;
 
 pub use alone::{PrivateStop, private};
+pub use aos_base::{Did, LockName};
 pub use aos_silent::{code_of, home_of, numbered};
 pub use condition::verdict;
 pub use turn::{begin_body, open, pass, position, shared};

@@ -12,8 +12,8 @@ use aos_tree::{Block, Boxed, Items, Module};
 use aos_typed::TStat;
 use std::alloc::{AllocError, Global};
 
-// The types that stand first in each table.
-const BASIC: &str = "\
+/// The types that stand first in each table.
+pub const BASIC: &str = "\
 short
 integer
 long
@@ -50,8 +50,8 @@ fn form_of(statement: &TStat) -> (&'static str, Pos) {
     }
 }
 
-// The forms of statements with their columns, each behind a blank.
-fn tell_forms(out: &mut String, statements: &[TStat]) -> Result<(), AllocError> {
+/// The forms of statements with their columns, each behind a blank.
+pub fn tell_forms(out: &mut String, statements: &[TStat]) -> Result<(), AllocError> {
     out.push(':')?;
     for statement in statements {
         let (form, pos) = form_of(statement);

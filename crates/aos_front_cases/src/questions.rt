@@ -1,5 +1,6 @@
 // What a case asks, and what is told of it.
 
+use crate::checks::told_checks;
 use crate::conditions::{Style, told_conditions};
 use crate::orders::told_order;
 use crate::parts::{told_block, told_expression, told_module, told_name, told_shape};
@@ -27,6 +28,7 @@ fn is_question_of_text(name: &str) -> bool {
             | "block"
             | "module"
             | "passes"
+            | "checks"
             | "trees"
             | "order"
             | "words"
@@ -88,6 +90,7 @@ fn told_of_text(alloc: Global, sections: &[Section], question: &Section) -> Resu
         "block" => told_block(alloc, text, nested),
         "module" => told_module(alloc, text),
         "passes" => told_passes(alloc, text),
+        "checks" => told_checks(alloc, text),
         "order" => told_order(alloc, text),
         "words" => told_words(alloc, text),
         _ => told_trees(alloc, text, text_or(sections, "other", "")),

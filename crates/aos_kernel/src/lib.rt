@@ -14,6 +14,7 @@ mod traps;
 mod turns;
 mod waits;
 
+pub use aos_base::{Outcome, Sched};
 pub use kernel::{Kernel, MAX_BUDGET, MAX_WORKERS};
 pub use laws::test_judges_waiters;
 pub use log::Stepped;

@@ -3,6 +3,7 @@
 use crate::frames::locks;
 use crate::loans::differences_of_loan;
 use crate::numbers::{arithmetic, has, span};
+use crate::objects::objects;
 use crate::passes::differences_of_passes;
 use crate::replays::differences_of_replay;
 use crate::runs::{differences_of_meeting, differences_of_run};
@@ -21,6 +22,7 @@ fn answer(alloc: Global, image: &Image, name: &str, text: &str) -> Result<String
     match name {
         "sound" => Ok(String::from_str(alloc, soundness(alloc, image, text)?)?),
         "frames" => locks(alloc, image, text),
+        "objects" => objects(alloc, image, text),
         "script" => script(alloc, text),
         "print" => print(alloc, text),
         "arithmetic" => Ok(arithmetic(alloc, text)?),

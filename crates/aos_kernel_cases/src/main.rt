@@ -29,6 +29,8 @@
 //! - `sound PROCEDURE CODE`: `told` is as what the code is sound in that procedure.
 //! - `script TEXT`: `told` is what the text says as a script, or why it is refused; `print TEXT`: what that script is printed as.
 //! - `frames FRAMES`: `told` are the locks of their open regions.
+//! - `objects OBJECTS` makes objects, each said by the number of its type and its lengths: `told` are their numbers, with how many
+//!   cells they have and their lengths, and `full` for each that the heap has no room for.
 //! - `arithmetic WIDTH A B`: `told` are the results of the eight operators.
 //! - `span A B`: `told` is the set of the elements from A to B; `has SET X`: whether the set has the element.
 #![tactic(auto)]
@@ -40,6 +42,7 @@ mod frames;
 mod image;
 mod loans;
 mod numbers;
+mod objects;
 mod operators;
 mod passes;
 mod replays;

@@ -33,6 +33,7 @@ pub fn role_of(name: &str) -> Role {
         "meet" => Role::Command,
         "sound" => Role::Command,
         "frames" => Role::Command,
+        "objects" => Role::Command,
         "script" => Role::Command,
         "print" => Role::Command,
         "arithmetic" => Role::Command,

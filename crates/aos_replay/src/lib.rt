@@ -4,4 +4,5 @@
 mod entry;
 mod whole;
 
+pub use aos_script::{Runs, Script, ScriptErr, print_script, read_script};
 pub use whole::{one_execution, replay};

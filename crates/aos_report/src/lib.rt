@@ -3,13 +3,12 @@
 #![tactic(auto)]
 
 ghost use Rattle.std.specs.Prelude.{◌≡◌, ◌==◌, ◌++◌, IfOk, OnOk, map, codes, decimal, slice_get, unwrap_or};
-ghost use Rattle.std.specs.String.{string_bytes};
 ghost use Rattle.aos_report.specs.Texts.{name_of, rule_text, place_text, refusal_text, usage_text, unread_text, too_long_text, trap_text, lock_text, wait_text, budget_text, script_ended_text, script_refused_text, no_worker_text};
 ghost use Rattle.aos_report.specs.Texts as report;
 ghost use Rattle.aos_code.specs.Lines.{seen_line};
 
 use aos_base::{LockName, NoMemory, Pos, Refusal};
-use aos_code::{AwaitRec, LayoutLine, ModuleDesc, TrapRec, WaitRec};
+use aos_code::{AwaitRec, LayoutLine, TrapRec, WaitRec};
 use itoa::Buffer;
 use std::alloc::Global;
 
@@ -104,12 +103,20 @@ fn rule_name(rule: u16) -> &'static str
     text_at(&RULES, rule, "not built yet")
 }
 
-/// The line of a refusal, with the file's name: `FILE:LINE:COL: rule N: TEXT`.
-pub fn refusal(alloc: Global, r: &Refusal, file: &str) -> Result<Vec<u8>, NoMemory>
-    ensures { IfOk result (λ line. line.items ≡ refusal_text file.now r.now.rule r.now.pos) }
+// The name with this number among these, nothing where there is none.
+fn name_at<'a>(names: &[&'a str], number: u32) -> &'a str
+    ensures { result.now ≡ name_of (map (λ n. n.now) names.now) number }
+{
+    names.get(number as usize).copied().unwrap_or("")
+}
+
+/// The line of a refusal, with the name of its file among these: `FILE:LINE:COL: rule N: TEXT`.
+pub fn refusal(alloc: Global, r: &Refusal, files: &[&str]) -> Result<Vec<u8>, NoMemory>
+    ensures { IfOk result (λ line. line.items ≡
+        refusal_text (name_of (map (λ n. n.now) files.now) r.now.file) r.now.rule r.now.pos) }
 {
     let mut line = Vec::new(alloc);
-    put_place(&mut line, file, r.pos)?;
+    put_place(&mut line, name_at(files, r.file), r.pos)?;
     put(&mut line, ": rule ")?;
     put_number(&mut line, u64::from(r.rule))?;
     put(&mut line, ": ")?;
@@ -149,20 +156,11 @@ pub fn too_long(alloc: Global, file: &str, limit: u64) -> Result<Vec<u8>, NoMemo
     Ok(line)
 }
 
-fn name_in(modules: &[ModuleDesc], number: u32) -> &str
-    ensures { result.now ≡ name_of (map (λ m. string_bytes m.name) modules.now) number }
-{
-    match modules.get(number as usize) {
-        Some(module) => module.name.as_str(),
-        None => "",
-    }
-}
-
 /// The line of a trap: `trap N CODE activity A at MODULE:LINE:COL`, with the name of its module among these.
-pub fn trap_line(alloc: Global, t: &TrapRec, modules: &[ModuleDesc]) -> Result<Vec<u8>, NoMemory>
+pub fn trap_line(alloc: Global, t: &TrapRec, names: &[&str]) -> Result<Vec<u8>, NoMemory>
     ensures { IfOk result
         (λ line. line.items ≡
-        trap_text (map (λ m. string_bytes m.name) modules.now) t.now.number t.now.code
+        trap_text (map (λ n. n.now) names.now) t.now.number t.now.code
         t.now.activity (record { module_ = t.now.module; pos = t.now.pos })) }
 {
     let mut line = Vec::new(alloc);
@@ -173,14 +171,14 @@ pub fn trap_line(alloc: Global, t: &TrapRec, modules: &[ModuleDesc]) -> Result<V
     put(&mut line, " activity ")?;
     put_number(&mut line, u64::from(t.activity))?;
     put(&mut line, " at ")?;
-    put_place(&mut line, name_in(modules, t.module), t.pos)?;
+    put_place(&mut line, name_at(names, t.module), t.pos)?;
     put(&mut line, "\n")?;
     Ok(line)
 }
 
 // object N, or module NAME
-fn put_lock(line: &mut Vec<u8>, lock: LockName, modules: &[ModuleDesc]) -> Result<(), NoMemory>
-    ensures { OnOk result (line.new.items ≡ line.old.items ++ lock_text (map (λ m. string_bytes m.name) modules.now) lock) }
+fn put_lock(line: &mut Vec<u8>, lock: LockName, names: &[&str]) -> Result<(), NoMemory>
+    ensures { OnOk result (line.new.items ≡ line.old.items ++ lock_text (map (λ n. n.now) names.now) lock) }
 {
     match lock {
         LockName::Object(number) => {
@@ -189,17 +187,17 @@ fn put_lock(line: &mut Vec<u8>, lock: LockName, modules: &[ModuleDesc]) -> Resul
         },
         LockName::Module(number) => {
             put(line, "module ")?;
-            put(line, name_in(modules, number))
+            put(line, name_at(names, number))
         },
     }
 }
 
 /// The line of an activity that waits for a lock: `waiting A enter LOCK at MODULE:LINE:COL`, or `await` where it waits for a condition;
 /// the lock is `object N`, or `module NAME` with its name among these.
-pub fn wait_line(alloc: Global, w: &WaitRec, modules: &[ModuleDesc]) -> Result<Vec<u8>, NoMemory>
+pub fn wait_line(alloc: Global, w: &WaitRec, names: &[&str]) -> Result<Vec<u8>, NoMemory>
     ensures { IfOk result
         (λ line. line.items ≡
-        wait_text (map (λ m. string_bytes m.name) modules.now)
+        wait_text (map (λ n. n.now) names.now)
         (record { activity = w.now.activity; lock = w.now.lock; awaits = w.now.awaits; at = record { module_ = w.now.module; pos = w.now.pos } })) }
 {
     let mut line = Vec::new(alloc);
@@ -207,9 +205,9 @@ pub fn wait_line(alloc: Global, w: &WaitRec, modules: &[ModuleDesc]) -> Result<V
     put_number(&mut line, u64::from(w.activity))?;
     put(&mut line, " ")?;
     put(&mut line, if w.awaits { "await " } else { "enter " })?;
-    put_lock(&mut line, w.lock, modules)?;
+    put_lock(&mut line, w.lock, names)?;
     put(&mut line, " at ")?;
-    put_place(&mut line, name_in(modules, w.module), w.pos)?;
+    put_place(&mut line, name_at(names, w.module), w.pos)?;
     put(&mut line, "\n")?;
     Ok(line)
 }
@@ -360,29 +358,25 @@ pub fn layout_text(alloc: Global, lines: &[LayoutLine]) -> Result<Vec<u8>, NoMem
     Ok(text)
 }
 
-fn put_await(text: &mut Vec<u8>, one: AwaitRec, modules: &[ModuleDesc]) -> Result<(), NoMemory>
+fn put_await(text: &mut Vec<u8>, one: AwaitRec, names: &[&str]) -> Result<(), NoMemory>
     ensures { OnOk result (text.new.items ≡ text.old.items
-        ++ report.await_text (map (λ m. string_bytes m.name) modules.now) one) }
+        ++ report.await_text (map (λ n. n.now) names.now) one) }
 {
     put(text, "await ")?;
-    put_place(text, name_in(modules, one.module), one.pos)?;
+    put_place(text, name_at(names, one.module), one.pos)?;
     put(text, if one.is_local { " local" } else { " not local" })?;
     put(text, "\n")
 }
 
 /// The lines of `check`: `await MODULE:LINE:COL local` for each of these AWAITs, or `not local` where its condition isn't, with the
 /// names of their modules among these.
-pub fn check_text(
-    alloc: Global,
-    awaits: &[AwaitRec],
-    modules: &[ModuleDesc],
-) -> Result<Vec<u8>, NoMemory>
+pub fn check_text(alloc: Global, awaits: &[AwaitRec], names: &[&str]) -> Result<Vec<u8>, NoMemory>
     ensures { IfOk result (λ text. text.items ≡
-        report.awaits_text (map (λ m. string_bytes m.name) modules.now) awaits.now) }
+        report.awaits_text (map (λ n. n.now) names.now) awaits.now) }
 {
     let mut text = Vec::new(alloc);
     for one in awaits {
-        put_await(&mut text, *one, modules)?;
+        put_await(&mut text, *one, names)?;
     }
     Ok(text)
 }

@@ -16,10 +16,10 @@ returns-in-Ok c =
       record { modules = e.few; objects = e.few_types },
     )
 
-pub returns-in_ok-refuse_texts-in-Err-Refused : goal.returns-in_ok-refuse_texts-in-Err-Refused
-returns-in_ok-refuse_texts-in-Err-Refused c =
+pub returns-in_ok-refuse-in-Err-Refused : goal.returns-in_ok-refuse-in-Err-Refused
+returns-in_ok-refuse-in-Err-Refused c =
     record {
       refusal = c.in-Err-Refused.r;
       comes = subst (λ e. OnRefused e (λ x. ComesTo (texts_of c.args.texts.now) (refused x))) c.in-Err-Refused.field-0-is c.in-Err-Refused.ensures.refused;
-      is = c.in_ok-refuse_texts-in-Err-Refused.ensures;
+      is = c.in_ok-refuse-in-Err-Refused.ensures;
     }

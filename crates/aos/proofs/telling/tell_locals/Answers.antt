@@ -1,4 +1,5 @@
 use Rattle.std.proofs.Common.{ap, ◌∙◌}
+use Rattle.aos_words.specs.Words.{borrowed}
 use Rattle.aos_report.specs.Texts.{awaits_text}
 use Rattle.aos.specs.Shown.{module_names}
 use Rattle.aos.proofs.telling.tell_locals.Goals as goal
@@ -13,8 +14,8 @@ returns c =
         each = c.in_ok-awaits.ensures.each;
         order = c.in_ok-awaits.ensures.order;
         is =
-            c.in_ok-text.ensures ∙ (λ i. awaits_text (module_names (c.as_slice.ensures.value i)) (c.deref.ensures.value i))
-            ∙ ap (λ names. awaits_text names awaits) c.requires.names;
+            c.in_ok-text.ensures ∙ (λ i. awaits_text (borrowed (c.deref-2.ensures.value i)) (c.deref.ensures.value i))
+            ∙ ap (λ names. awaits_text names awaits) (c.in_ok-names.ensures ∙ ap module_names c.as_slice.ensures.value ∙ c.requires.names);
       };
       is = c.telling.ensures;
     }
