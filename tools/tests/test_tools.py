@@ -1,4 +1,4 @@
-"""Tests of the scripts under tools/, and of what README.md and docs/SCRIPTS.md show of them.
+"""Tests of the scripts under tools/, and of what the documents show of them and of the program.
 
 They need a built program: the variable AOS, or crates/aos_main/out/aos_main. Run them at the top of the repository:
 python3 -m unittest discover -s tools/tests
@@ -58,11 +58,9 @@ class Transcripts(unittest.TestCase):
                 self.assertEqual(said(line)[1], text)
         self.assertGreater(count, 0)
 
-    def test_readme(self):
-        self.compare("README.md", ("tools/",))
-
-    def test_scripts(self):
-        self.compare("docs/SCRIPTS.md", ("tools/", "./aos "))
+    def test_documents(self):
+        for document in ("README.md", "docs/EXAMPLES.md", "docs/COMMANDS.md", "docs/SCRIPTS.md"):
+            self.compare(document, ("tools/", "./aos "))
 
 
 class Why(unittest.TestCase):
