@@ -196,6 +196,14 @@ class Names(unittest.TestCase):
         self.assertFalse(self.names.is_there("aos_base/src/text.rt", "Gone"))
         self.assertFalse(self.names.is_there("aos_base/src/text.rt", "Po"))
 
+    def test_moved_places_are_mended(self):
+        for old, new in (("`aos_gone/src/awaits.rt`: `await_of`", "`aos_check_stat/src/awaits.rt`: `await_of`"),
+                         ("`aos_base/src/text.rt`: `Pos`, `NowhereAtAll`", "`aos_base/src/text.rt`: `Pos`, `NowhereAtAll`")):
+            self.assertEqual(self.names.CITED.sub(self.names.mended, "| %s | x |" % old), "| %s | x |" % new)
+
+    def test_each_crate_has_a_layer(self):
+        self.assertEqual(list(self.names.layers()), [])
+
 
 class Scripts(unittest.TestCase):
     """The scripts that all of them write."""
