@@ -7,6 +7,8 @@ import importlib.machinery
 import importlib.util
 import os
 import re
+import shlex
+import shutil
 import subprocess
 import sys
 import tempfile
@@ -203,6 +205,83 @@ class Names(unittest.TestCase):
 
     def test_each_crate_has_a_layer(self):
         self.assertEqual(list(self.names.layers()), [])
+
+
+class Editors(unittest.TestCase):
+    """The completion of words for bash, the syntax file for Vim and the page of the manual."""
+
+    def offered(self, *words):
+        """What bash offers for the last word."""
+        quoted = " ".join(shlex.quote(word) for word in words)
+        done = said("source tools/aos.bash; COMP_WORDS=(%s); COMP_CWORD=%d; _aos; printf '%%s\n' \"${COMPREPLY[@]}\"" %
+                    (quoted, len(words) - 1))
+        return done[1].split()
+
+    def test_completion(self):
+        self.assertEqual(self.offered("aos", "r"), ["run", "replay"])
+        self.assertEqual(self.offered("aos", "replay", "--"), ["--script", "--watch"])
+        self.assertEqual(self.offered("aos", "run", "--workers", "=", "1"), ["1", "16"])
+        self.assertEqual(self.offered("aos", "run", "examples/Los"), ["examples/Lost.Mod"])
+        self.assertEqual(self.offered("aos", "gen", ""), [])
+
+    def test_syntax_has_all_words(self):
+        text = aos_tools.read_text(os.path.join(TOP, "docs", "LANGUAGE.md"))
+        listed = re.findall(r"^- (?:Reserved words are no names: `|types: |values: |functions: |procedures: )([A-Z ,]+)", text, re.M)
+        self.assertEqual(len(listed), 5)
+        words = sorted(re.findall(r"[A-Z]+", " ".join(listed)))
+        syntax = aos_tools.read_text(os.path.join(TOP, "tools", "aos.vim"))
+        known = " ".join(re.findall(r"^syntax keyword aos(?!Todo)\w+ (.*)$", syntax, re.M))
+        self.assertEqual(sorted(known.split()), words)
+
+    def test_page_has_all_commands_and_options(self):
+        page = aos_tools.read_text(os.path.join(TOP, "docs", "aos.1")).replace("\\-", "-")
+        table = aos_tools.read_text(os.path.join(TOP, "docs", "COMMANDS.md")).split("\n## Statuses")[0]
+        for word in re.findall(r"^\| `aos (\w+)", table, re.M) + re.findall(r"\[(--\w+)", table):
+            self.assertIn(word, page)
+
+
+class Launcher(unittest.TestCase):
+    """./aos, in a repository of two crates beside a command rt that proves nothing."""
+
+    def called(self, rt):
+        """The status, out and err of ./aos with this text of a command rt, or with none."""
+        with tempfile.TemporaryDirectory() as top:
+            shutil.copy(os.path.join(TOP, "aos"), top)
+            for name in ("aos_base", "aos_main", "aos_other"):
+                os.makedirs(os.path.join(top, "crates", name, "src"))
+            self.write(os.path.join(top, "HANDLES"), "")
+            self.write(os.path.join(top, "crates.txt"), "aos_base:\naos_main: aos_base\naos_other: aos_base\n")
+            if rt:
+                self.write(os.path.join(top, "bin", "rt"), "#!/bin/bash\n" + rt)
+            path = os.path.join(top, "bin") + ":/usr/bin:/bin"
+            done = subprocess.run([os.path.join(top, "aos"), "run", "a b"], env={"PATH": path}, cwd=top,
+                                  stdout=subprocess.PIPE, stderr=subprocess.PIPE, stdin=subprocess.DEVNULL)
+        return done.returncode, done.stdout.decode(), re.sub(r"\d+:\d\d min", "TIME", done.stderr.decode())
+
+    def write(self, path, text):
+        os.makedirs(os.path.dirname(path), exist_ok=True)
+        with open(path, "w") as file:
+            file.write(text)
+        os.chmod(path, 0o755)
+
+    def test_progress_and_the_program(self):
+        status, out, err = self.called('cat crates.txt >&2; echo "rt: aos_base proved"; echo "rt: aos_main is kept: x"\n'
+                                       "mkdir crates/aos_main/out; printf '#!/bin/bash\necho \"$@\"; exit 3' >crates/aos_main/out/aos_main\n"
+                                       "chmod +x crates/aos_main/out/aos_main\n")
+        self.assertEqual((status, out), (3, "run a b\n"))
+        self.assertIn("aos: proving and building 2 crates first", err)
+        self.assertIn("\naos: 1 of 2 after TIME: aos_base\naos: 2 of 2 after TIME: aos_main\naos: built after TIME\n", err)
+
+    def test_the_last_line_says_why(self):
+        status, out, err = self.called('echo "rt: aos_base proved"; echo "rt: aos_main FAILED: no room"; echo end; exit 1\n')
+        self.assertEqual((status, out), (70, ""))
+        self.assertIn("rt: aos_main FAILED: no room", err.splitlines()[-1])
+
+    def test_no_rt(self):
+        if not os.path.exists("/usr/bin/rt") and not os.path.exists("/bin/rt"):
+            status, _, err = self.called("")
+            self.assertEqual(status, 70)
+            self.assertIn("the command rt isn't on the PATH", err.splitlines()[-1])
 
 
 class Scripts(unittest.TestCase):
