@@ -186,9 +186,7 @@ class Shuffle(unittest.TestCase):
 class Names(unittest.TestCase):
     """The names that documents cite."""
 
-    loader = importlib.machinery.SourceFileLoader("names", os.path.join(TOP, ".ci", "names"))
-    names = importlib.util.module_from_spec(importlib.util.spec_from_loader("names", loader))
-    loader.exec_module(names)
+    names = script_module("../.ci/names")
 
     def test_citations(self):
         text = "one\n| `aos_base/src/text.rt`: `Pos`, `Gone`; `aos_base/src/set.rt` | `x` |\n"
@@ -205,6 +203,15 @@ class Names(unittest.TestCase):
 
     def test_each_crate_has_a_layer(self):
         self.assertEqual(list(self.names.layers()), [])
+
+
+class Sentences(unittest.TestCase):
+    """The lengths of sentences."""
+
+    def test_long_ones(self):
+        sentences = script_module("../.ci/sentences")
+        text = "One. %s `a b. C` d.\n```\n%s\n```\n| `x` | Two. %s |\n" % ("W " * 24, "W " * 30, "W " * 26)
+        self.assertEqual([(line, count) for line, count, _ in sentences.long_ones(text)], [(1, 26), (5, 26)])
 
 
 class Editors(unittest.TestCase):
