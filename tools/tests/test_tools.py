@@ -201,6 +201,10 @@ class Names(unittest.TestCase):
                          ("`aos_base/src/text.rt`: `Pos`, `NowhereAtAll`", "`aos_base/src/text.rt`: `Pos`, `NowhereAtAll`")):
             self.assertEqual(self.names.CITED.sub(self.names.mended, "| %s | x |" % old), "| %s | x |" % new)
 
+    def test_numbers_are_written(self):
+        text = self.names.read("docs", "PROVED.md")
+        self.assertEqual(self.names.counted(re.sub(r"^[\d,]+ cases", "1 cases", text, flags=re.M)), self.names.counted(text))
+
     def test_each_crate_has_a_layer(self):
         self.assertEqual(list(self.names.layers()), [])
 
