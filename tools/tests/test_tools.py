@@ -205,6 +205,11 @@ class Names(unittest.TestCase):
         text = self.names.read("docs", "PROVED.md")
         self.assertEqual(self.names.counted(re.sub(r"^[\d,]+ cases", "1 cases", text, flags=re.M)), self.names.counted(text))
 
+    def test_names_in_files(self):
+        text = "(`%s` in `crates/%s/src/awaits.rt`)"
+        self.assertEqual(self.names.NAMED.sub(self.names.renamed, text % ("await_of", "aos_gone")), text % ("await_of", "aos_check_stat"))
+        self.assertEqual(self.names.NAMED.sub(self.names.renamed, text % ("nothing_so", "aos_gone")), text % ("nothing_so", "aos_gone"))
+
     def test_each_crate_has_a_layer(self):
         self.assertEqual(list(self.names.layers()), [])
 
