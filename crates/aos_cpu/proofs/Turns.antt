@@ -25,7 +25,7 @@ use Rattle.aos_store.specs.declared.frames.Frame.{Frame as KeptFrame}
 use Rattle.aos_store.specs.declared.frames.Frames.{Frames as KeptFrames}
 use Rattle.aos_store.specs.Store.{frame_in, list_in, frames_in}
 use Rattle.aos_silent.specs.declared.act.Question.{Question as KeptQuestion}
-use Rattle.aos_silent.specs.declared.act.Question.TheVariants.{Ends as AsksEnd, Starts as AsksStart, Enters as AsksEnter, Leaves as AsksLeave, Awaits as AsksAwait}
+use Rattle.aos_silent.specs.declared.act.Question.TheVariants.{Starts as AsksStart, Enters as AsksEnter, Leaves as AsksLeave, Awaits as AsksAwait}
 use Rattle.aos_silent.specs.declared.silent.Stop.{Stop as KeptStop}
 use Rattle.aos_silent.specs.declared.silent.Stop.TheVariants.{Work as AtWork, Begins as AtBegin}
 use Rattle.aos_silent.specs.Acts.{question_in, operands_of}
@@ -392,15 +392,6 @@ worked image q at old new mem mem' did before after stands found answered e = by
         (subst (λ (y : Stop). Shown image (goes following image.shapes.items image.types.items y f fs mem) did old new mem' before after) (sym x.0)
         (subst (λ b. Shown image (works following image.shapes.items image.types.items b (question_in q f.stack) at f.keeps (drop (operands_of q) f.stack) f fs mem) did old new mem' before after) (sym (found f fs is))
         (shown_made image _ false did old new mem' before after (answered f fs is) e)))
-
--- any other question's work needs nothing
-pub others_find : (types : List TypeDesc) (q : KeptQuestion) (f : Frame) (mem : Memory) → ((v : Option Cell) → q ≡ AsksEnd v → ⊥) → ((o : ℕ) → q ≡ AsksStart o → ⊥) → (q ≡ AsksLeave → ⊥) → ((c : ℕ) → q ≡ AsksAwait c → ⊥) →
-    finds types (question_in q f.stack) f mem ≡ true
-others_find types (AsksEnd v) f mem not_end not_start not_leave not_await = absurd (not_end v refl)
-others_find types (AsksStart o) f mem not_end not_start not_leave not_await = absurd (not_start o refl)
-others_find types AsksLeave f mem not_end not_start not_leave not_await = absurd (not_leave refl)
-others_find types (AsksAwait c) f mem not_end not_start not_leave not_await = absurd (not_await c refl)
-others_find types q f mem not_end not_start not_leave not_await = refl
 
 -- what the code keeps of a question has as many operands
 taken_start : (q : KeptQuestion) (s : Stack) (o : ℕ) → question_in q s ≡ Starts (Ref o) → operands_of q ≡ 1

@@ -5,7 +5,6 @@ pub mod alone;
 pub mod answers;
 pub mod calls;
 pub mod condition;
-pub mod found;
 pub mod in_place;
 pub mod makes;
 pub mod texts;

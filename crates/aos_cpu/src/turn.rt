@@ -12,10 +12,10 @@ ghost use Rattle.aos_cpu.specs.Turns.{where_in, counted, beginning as beginning_
 
 use crate::answers::answer;
 use crate::calls::depth_of;
-use crate::found::finds;
 use crate::in_place::{count, turn_in_place};
 use aos_base::{Did, NoMemory, Pos};
 use aos_code::Image;
+use aos_found::finds;
 use aos_silent::{Question, Stop, home_of, keeps_of, silent_from, take};
 use aos_store::{Frame, Frames, Heap, Store};
 use std::alloc::Global;

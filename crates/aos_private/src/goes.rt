@@ -10,8 +10,8 @@ ghost use Rattle.aos_private.specs.Goes.{holds as holds_kind, stored_len as stor
 
 use aos_code::{Cell, Image, Kind, ProcShape};
 use aos_cpu::calls::{arguments, arguments_of, behind_value, count_copied, count_with};
-use aos_cpu::found::is_top_open;
 use aos_cpu::texts::{array_at, code, compare_at, length_of};
+use aos_found::is_top_open;
 use aos_silent::{Question, Spot, Way, is_of, numbered};
 use aos_store::{Frames, Store, has_cells_at, load_at};
 

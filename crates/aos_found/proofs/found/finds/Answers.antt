@@ -3,8 +3,8 @@ use Rattle.std.specs.Prelude.{not}
 use Rattle.aos_code.specs.Machine.{finds}
 use Rattle.aos_store.specs.Store.{memory_in}
 use Rattle.aos_silent.specs.Acts.{question_in}
-use Rattle.aos_cpu.proofs.Turns.{others_find}
-use Rattle.aos_cpu.proofs.found.finds.Goals as goal
+use Rattle.aos_found.proofs.Others.{others_find}
+use Rattle.aos_found.proofs.found.finds.Goals as goal
 
 pub returns-in-Ends : goal.returns-in-Ends
 returns-in-Ends c f fs is =
