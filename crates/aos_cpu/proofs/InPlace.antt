@@ -36,15 +36,19 @@ use Rattle.aos_store.proofs.Rooms.{roomy_set}
 use Rattle.aos_silent.specs.declared.act.Act.{Act as KeptAct}
 use Rattle.aos_silent.specs.declared.act.Act.TheVariants.{Goes as GoesOn, Sees as Asks, Begins as BeginsAt, Fails as FailsWith, Decides as DecidesWith}
 use Rattle.aos_silent.specs.declared.act.Spot.{Spot}
-use Rattle.aos_silent.specs.Acts.{spot_in, kind_in, addr_in, WhereStays}
+use Rattle.aos_silent.specs.declared.act.Question.{Question}
+use Rattle.aos_silent.specs.declared.silent.Stop.TheVariants.{Work as AtWork}
+use Rattle.aos_silent.specs.Acts.{spot_in, kind_in, addr_in, question_in, operands_of, WhereStays}
 use Rattle.aos_silent.specs.Known.{Knows}
 use Rattle.aos_silent.specs.Steps.{IsStepOf, after}
 use Rattle.aos_silent.specs.Silent.{Seen, here_at, silent_at, seen_at, seen_with}
 use Rattle.aos_silent.specs.Room.{keeps_for, FitInRoom}
 use Rattle.aos_silent.proofs.Walks.{acts, seen_on}
-use Rattle.aos_cpu.specs.Turns.{SeenFrames, Alike, seen_frames, counted, Shown, IsTurned, Rests, WhereLeft}
+use Rattle.aos_cpu.specs.Turns.{SeenFrames, Alike, seen_frames, counted, StandsAtStop, Shown, IsTurned, Rests, WhereLeft}
 use Rattle.aos_cpu.specs.Private.{no_memory, made_by, is_of_frame, is_own_stop, alone, IsPrivate, after_turns, begun_after, IsMadePrivately, turns_since}
-use Rattle.aos_cpu.specs.InPlace.{on_top, FitsSo, IsSet, HasSet, TurnsTo, HasTurnedTop, HasWorked, HasRunTop, HasTriedTop, HasTriedInPlace}
+use Rattle.aos_cpu.specs.InPlace.{on_top, FitsSo, IsSet, HasSet, TurnsTo, HasTurnedTop, HasWorked, HasRunTop, StopsAsking, HasTriedTop, IsAlikeStill, HasTriedInPlace}
+use Rattle.aos_cpu.specs.declared.in_place.Tried.{Tried}
+use Rattle.aos_cpu.specs.declared.in_place.Tried.TheVariants.{Turned as MadeTurn, Asks as AsksAt, Nothing as MadeNone}
 use Rattle.aos_cpu.proofs.Turns.{itself, after_turn, alike_both, some_same, list_top, list_set, all_but_top, rest_length, turn_alike}
 use Rattle.aos_cpu.proofs.Own.{none_here, no_number, nothing_made, own_turned, own_store, at_or_below, told, AllTold}
 
@@ -297,14 +301,32 @@ module _ (image : Image) (here : ℕ) (mem : Memory) (f g : Frame) (code : List 
             (subst (λ n. m ≡ min (n + 1 + over) (2 ^ 64 - 1)) at_is is) small;
       }
 
+  -- where its silent work has come to
+  comes_to : silent_at image (made_in image mem) here f ≡ after did (walk image.shapes.items image.types.items (made_in image mem) f.procedure (here_at here f) f.cells code (drop (at + 1) code)) at g.keeps g.stack
+  comes_to =
+      let made = made_in image mem in
+      let next = walk image.shapes.items image.types.items made f.procedure (here_at here f) f.cells code (drop (at + 1) code) in
+      (λ j. silent image.shapes.items image.types.items made f.procedure (here_at here f) f.cells (sym code_is j) (sym at_is j) f.keeps f.stack)
+      ∙ acts image.shapes.items image.types.items made f.procedure (here_at here f) f.cells code at (get_or code at (Num (pos 0))) f.keeps f.stack (slice_get-get_or code at (Num (pos 0)) within)
+      ∙ step.goes next at
+
+  pub asks_top : (q : Question) → did ≡ Asks q → g ≡ f → length code < 2 ^ 64 → HasWorked image here mem mem f g × StopsAsking image here q g.next mem g
+  asks_top q e same small =
+      let next = walk image.shapes.items image.types.items (made_in image mem) f.procedure (here_at here f) f.cells code (drop (at + 1) code) in
+      let there : at ≡ g.next = at_is ∙ ap (λ (x : Frame). x.next) (sym same) in (
+        worked_same image here mem mem f g same refl,
+        (
+          ap (silent_at image (made_in image mem) here) same ∙ comes_to ∙ ap (λ d. after d next at g.keeps g.stack) e
+              ∙ ap (λ n. Work (question_in q g.stack) n g.keeps (drop (operands_of q) g.stack)) there,
+          (refl, omega (arith, within, small, there)),
+        ),
+      )
+
   pub begun_top : (to : ℕ) (p : Pos) → did ≡ BeginsAt to p → HasTurnedTop image here true mem mem f (record g { next = to + 1; at = Some p })
   begun_top to p e =
       let made = made_in image mem in
       let next = walk image.shapes.items image.types.items made f.procedure (here_at here f) f.cells code (drop (at + 1) code) in
-      let stop : silent_at image made here f ≡ Ended (Begins to p g.stack) g.keeps =
-      (λ j. silent image.shapes.items image.types.items made f.procedure (here_at here f) f.cells (sym code_is j) (sym at_is j) f.keeps f.stack)
-      ∙ acts image.shapes.items image.types.items made f.procedure (here_at here f) f.cells code at (get_or code at (Num (pos 0))) f.keeps f.stack (slice_get-get_or code at (Num (pos 0)) within)
-      ∙ step.goes next at ∙ ap (λ d. after d next at g.keeps g.stack) e in
+      let stop : silent_at image made here f ≡ Ended (Begins to p g.stack) g.keeps = comes_to ∙ ap (λ d. after d next at g.keeps g.stack) e in
       turned_top image here mem mem f (record g { next = to + 1; at = Some p }) true (Ended (Begins to p g.stack) g.keeps) (ap (λ (x : Frame). x.procedure) step.same) stop
       (λ rest len none. refl)
       (λ following rest len. ap (λ (x : Frame). (let t : Turned = record { store = mem; frames = on_top following (record x { next = to + 1; at = Some p }) rest; output = []; begun = true; left = Went } in t)) (sym step.same))
@@ -328,7 +350,7 @@ run_none image here budget begun f = (
 )
 
 -- silent work of a frame where there is no memory
-pub run_still : (image : Image) (here budget many begun now : ℕ) (f mid g : Frame) → HasRunTop image here budget many begun now f mid → ((all : ℕ → Option MadeAs) → seen_at image all here g ≡ seen_at image all here mid) →
+run_still : (image : Image) (here budget many begun now : ℕ) (f mid g : Frame) → HasRunTop image here budget many begun now f mid → ((all : ℕ → Option MadeAs) → seen_at image all here g ≡ seen_at image all here mid) →
     FitsSo image here mid g → HasRunTop image here budget many begun now f g
 run_still image here budget many begun now f mid g before e fits = (
   ap (λ (x : Seen). x.procedure) (e (made_by [])) ∙ before.0,
@@ -342,6 +364,11 @@ run_still image here budget many begun now f mid g before e fits = (
       },
   λ whole following rest len fit. fits whole following rest len (before.2 whole following rest len fit),
 )
+
+pub run_worked : (image : Image) (here budget many begun now : ℕ) (mem was : Memory) (f mid g : Frame) → mem ≡ no_memory → HasRunTop image here budget many begun now f mid → HasWorked image here mem was mid g →
+    HasRunTop image here budget many begun now f g
+run_worked image here budget many begun now mem was f mid g none before worked =
+    run_still image here budget many begun now f mid g before (λ all. worked.seen all (subst (λ (m : Memory). Knows all (made_in image m)) (sym none) (nothing_made all))) worked.fits
 
 pub run_more : (image : Image) (here budget many begun now now' : ℕ) (begins : Bool) (mem was : Memory) (f mid g : Frame) → mem ≡ no_memory → HasRunTop image here budget many begun now f mid → now < budget →
     HasTurnedTop image here begins mem was mid g → now' ≡ counted begins now → HasRunTop image here budget (many + 1) begun now' f g
@@ -365,9 +392,18 @@ run_more image here budget many begun now now' begins mem was f mid g none befor
       λ whole following rest len fit. turned.fits whole following rest len (before.2 whole following rest len fit),
     )
 
-pub tried_fits : (image : Image) (here : ℕ) (r : Option Bool) (mem now : Memory) (f g : Frame) → HasTriedTop image here r mem now f g → FitsSo image here f g
-tried_fits image here None mem now f g tried = tried.fits
-tried_fits image here (Some begins) mem now f g tried = tried.fits
+-- silent work, and then a question
+pub asks_behind : (image : Image) (here at : ℕ) (q : Question) (mem was now : Memory) (f mid g : Frame) → HasWorked image here mem was f mid →
+    HasWorked image here was now mid g × StopsAsking image here q at was g → HasWorked image here mem now f g × StopsAsking image here q at mem g
+asks_behind image here at q mem was now f mid g first next = (
+  worked_both image here mem was now f mid g first next.0,
+  subst (λ m. StopsAsking image here q at m g) first.memory next.1,
+)
+
+pub tried_fits : (image : Image) (here : ℕ) (r : Tried) (mem now : Memory) (f g : Frame) → HasTriedTop image here r mem now f g → FitsSo image here f g
+tried_fits image here (MadeTurn begins) mem now f g tried = tried.fits
+tried_fits image here (AsksAt q at) mem now f g tried = tried.0.fits
+tried_fits image here MadeNone mem now f g tried = tried.fits
 
 -- The frames that are kept.
 
@@ -417,9 +453,14 @@ module _ (old : KeptFrames) (n here : ℕ) (f g : KeptFrame) (len : n ≡ length
     roomy_set (depth_of image) (keeps_for image) old.list.items (n - 1) f g e more fit.1,
   )
 
-  pub kept_tried : (image : Image) (r : Option Bool) (mem now : Memory) → HasTriedTop image here r mem now (frame_in f) (frame_in g) → HasTriedInPlace image r mem now (frames_in old) now_frames
-  kept_tried image None mem now tried = kept_worked image mem now tried
-  kept_tried image (Some begins) mem now tried =
+  kept_asking : (image : Image) (q : Question) (at : ℕ) (mem : Memory) → StopsAsking image here q at mem (frame_in g) → StandsAtStop image (made_in image mem) (AtWork q at) now_frames.frames
+  kept_asking image q at mem asks =
+      subst (λ (x : Frames). StandsAtStop image (made_in image mem) (AtWork q at) x.frames) (sym new_top) (ap (λ n. silent_at image (made_in image mem) n (frame_in g)) so_many ∙ asks.0, asks.1)
+
+  pub kept_tried : (image : Image) (r : Tried) (mem now : Memory) → HasTriedTop image here r mem now (frame_in f) (frame_in g) → HasTriedInPlace image r mem now (frames_in old) now_frames
+  kept_tried image MadeNone mem now tried = kept_worked image mem now tried
+  kept_tried image (AsksAt q at) mem now tried = (kept_worked image mem now tried.0, kept_asking image q at mem tried.1, tried.1.1.1)
+  kept_tried image (MadeTurn begins) mem now tried =
       λ fs h. subst (TurnsTo image begins mem now fs) (sym new_top) (tried.turns following rest fs so_many (subst (Alike image (made_in image mem) fs) old_top h))
 
 pub kept_none : (image : Image) (budget : ℕ) (old : KeptFrames) → old.turns < 2 ^ 64 → IsMadePrivately image budget 0 old old
@@ -470,7 +511,7 @@ told_both image budget m k old mid new lt small before e next =
 -- A turn that is made in place, or by what its silent work comes to.
 
 -- what is told of a turn
-pub went_in_place : (image : Image) (begins : Bool) (mem now : Memory) (old new : KeptFrames) (out : List ℕ) → HasTriedInPlace image (Some begins) mem now (frames_in old) (frames_in new) → new.begun ≡ counted begins old.begun →
+pub went_in_place : (image : Image) (begins : Bool) (mem now : Memory) (old new : KeptFrames) (out : List ℕ) → HasTriedInPlace image (MadeTurn begins) mem now (frames_in old) (frames_in new) → new.begun ≡ counted begins old.begun →
     IsTurned image Went old new mem now out out
 went_in_place image begins mem now old new out tried counts fs h =
     let t = tried fs h in
@@ -483,14 +524,14 @@ went_in_place image begins mem now old new out tried counts fs h =
     }
 
 -- silent work before it
-pub turned_behind : (image : Image) (did : Did) (old mid new : KeptFrames) (mem was now : Memory) (before after : List ℕ) → HasTriedInPlace image None mem was (frames_in old) (frames_in mid) → mid.begun ≡ old.begun →
+pub turned_behind : (image : Image) (did : Did) (old mid new : KeptFrames) (mem was now : Memory) (before after : List ℕ) → IsAlikeStill image mem was (frames_in old) (frames_in mid) → mid.begun ≡ old.begun →
     IsTurned image did mid new was now before after → IsTurned image did old new mem now before after
 turned_behind image did old mid new mem was now before after tried counts turned fs h =
     let alike = alike_both image (made_in image mem) fs (frames_in old) (frames_in mid) h tried.0 in
     let t = subst (λ m. Shown image (turn image m fs) did mid new now before after) tried.1 (turned fs (subst (λ (m : Memory). Alike image (made_in image m) fs (frames_in mid)) (sym tried.1) alike)) in
     record { store = t.store; alike = t.alike; output = t.output; begun = t.begun ∙ ap (counted (turn image mem fs).begun) counts; left = t.left }
 
-pub rests_behind : (image : Image) (old mid new : KeptFrames) (mem was now : Memory) (before after : List ℕ) → HasTriedInPlace image None mem was (frames_in old) (frames_in mid) → mid.begun ≡ old.begun →
+pub rests_behind : (image : Image) (old mid new : KeptFrames) (mem was now : Memory) (before after : List ℕ) → IsAlikeStill image mem was (frames_in old) (frames_in mid) → mid.begun ≡ old.begun →
     Rests image mid new was now before after → Rests image old new mem now before after
 rests_behind image old mid new mem was now before after tried counts r =
     record {

@@ -1,5 +1,5 @@
 -- What is done to the topmost frame in place, without the frames below.
-use Rattle.std.specs.Prelude.{◌≡◌, ◌<◌, ℕ, List, [], ◌∷◌, length, Bool, true, false, Option, Some, None, is_some}
+use Rattle.std.specs.Prelude.{◌≡◌, ◌<◌, ◌+◌, ◌^◌, ℕ, List, [], ◌∷◌, length, Bool, true, false, Option, is_some}
 use Rattle.aos_base.specs.declared.kernel.Did.TheVariants.{Went}
 use Rattle.aos_base.specs.declared.place.Root.{Root}
 use Rattle.aos_base.specs.Rooted.{Made, load, spliced}
@@ -10,10 +10,14 @@ use Rattle.aos_code.specs.Silent.{Stack}
 use Rattle.aos_code.specs.Machine.{Frame, Frames, rooted, frames_with, memory_with, made_in, turn}
 use Rattle.aos_sound.specs.FitFrames.{IsSoundImage, FramesFit}
 use Rattle.aos_silent.specs.Known.{Knows}
-use Rattle.aos_silent.specs.Silent.{seen_at}
+use Rattle.aos_silent.specs.declared.act.Question.{Question}
+use Rattle.aos_silent.specs.declared.silent.Stop.TheVariants.{Work as AtWork}
+use Rattle.aos_silent.specs.Silent.{silent_at, seen_at, stop_in, IsStopOf}
 use Rattle.aos_cpu.specs.declared.in_place.Done.{Done}
-use Rattle.aos_cpu.specs.declared.in_place.Done.TheVariants.{Silent, Turned, Begun, Nothing}
-use Rattle.aos_cpu.specs.Turns.{Alike}
+use Rattle.aos_cpu.specs.declared.in_place.Done.TheVariants.{Silent, Turned, Begun, Asks, Nothing}
+use Rattle.aos_cpu.specs.declared.in_place.Tried.{Tried}
+use Rattle.aos_cpu.specs.declared.in_place.Tried.TheVariants.{Turned as MadeTurn, Asks as AsksAt, Nothing as MadeNone}
+use Rattle.aos_cpu.specs.Turns.{Alike, StandsAtStop}
 use Rattle.aos_cpu.specs.Private.{no_memory, made_by, is_own_turn, IsPrivate, after_turns, begun_after}
 
 -- a frame above others
@@ -25,6 +29,7 @@ abbrev pub IsAhead : Done → (old new : ℕ) → Type 0
 IsAhead Silent old new = old < new
 IsAhead Turned old new = Unit {0}
 IsAhead Begun old new = Unit {0}
+IsAhead (Asks q) old new = Unit {0}
 IsAhead Nothing old new = Unit {0}
 
 module _ (here : ℕ) where
@@ -83,19 +88,29 @@ module _ (image : Image) where
         × ((following : List ℕ) (rest : List Frame) (made : List Made) (fs : Frames) → length rest ≡ here → Alike image (made_by made) fs (on_top following f rest) → Runs made budget many begun now fs (on_top following g rest))
         × FitsSo f g
 
+    -- its silent work ends at this place with this question
+    abbrev pub StopsAsking : Question → (at : ℕ) → Memory → Frame → Type 0
+    StopsAsking q at mem f = (silent_at image (made_in image mem) here f ≡ stop_in (AtWork q at) f) × IsStopOf (AtWork q at) f
+
     -- what an instruction has done
     abbrev pub IsDone : Done → (mem now : Memory) → (f g : Frame) → Type 0
     IsDone Silent mem now f g = HasWorked mem now f g
     IsDone Turned mem now f g = HasTurnedTop false mem now f g
     IsDone Begun mem now f g = HasTurnedTop true mem now f g
+    IsDone (Asks q) mem now f g = HasWorked mem now f g × StopsAsking q g.next mem g
     IsDone Nothing mem now f g = HasWorked mem now f g
 
-    -- one turn, in which a statement has begun or not, or else silent work
-    abbrev pub HasTriedTop : Option Bool → (mem now : Memory) → (f g : Frame) → Type 0
-    HasTriedTop None mem now f g = HasWorked mem now f g
-    HasTriedTop (Some begins) mem now f g = HasTurnedTop begins mem now f g
+    -- one turn, in which a statement has begun or not, or else silent work, up to a question or not
+    abbrev pub HasTriedTop : Tried → (mem now : Memory) → (f g : Frame) → Type 0
+    HasTriedTop (MadeTurn begins) mem now f g = HasTurnedTop begins mem now f g
+    HasTriedTop (AsksAt q at) mem now f g = HasWorked mem now f g × StopsAsking q at mem g
+    HasTriedTop MadeNone mem now f g = HasWorked mem now f g
 
   -- the same of the frames as they are kept
-  abbrev pub HasTriedInPlace : Option Bool → (mem now : Memory) → (old new : Frames) → Type 0
-  HasTriedInPlace None mem now old new = Alike image (made_in image mem) old new × (now ≡ mem)
-  HasTriedInPlace (Some begins) mem now old new = (fs : Frames) → Alike image (made_in image mem) fs old → TurnsTo begins mem now fs new
+  abbrev pub IsAlikeStill : (mem now : Memory) → (old new : Frames) → Type 0
+  IsAlikeStill mem now old new = Alike image (made_in image mem) old new × (now ≡ mem)
+
+  abbrev pub HasTriedInPlace : Tried → (mem now : Memory) → (old new : Frames) → Type 0
+  HasTriedInPlace (MadeTurn begins) mem now old new = (fs : Frames) → Alike image (made_in image mem) fs old → TurnsTo begins mem now fs new
+  HasTriedInPlace (AsksAt q at) mem now old new = IsAlikeStill mem now old new × StandsAtStop image (made_in image mem) (AtWork q at) new.frames × (at + 1 < 2 ^ 64)
+  HasTriedInPlace MadeNone mem now old new = IsAlikeStill mem now old new

@@ -23,16 +23,26 @@ use aos_silent::instruction::do_one;
 use aos_silent::operands::{is_of, numbers, of_kind, spot};
 use aos_silent::step::give_value;
 use aos_silent::values::{jump, jump_on_false};
-use aos_silent::{Spot, code_of, keeps_of, replace, take};
+use aos_silent::{Question, Spot, code_of, keeps_of, replace, take};
 use aos_store::{Change, Frame, Frames, Store};
 
 /// What an instruction has done to the topmost frame: silent work; a turn, in which no statement has begun, or one has; or nothing,
-/// where it needs more than this frame and the memory.
+/// where it asks this, or needs more than this frame and the memory.
 #[derive(Clone, Copy)]
 pub enum Done {
     Silent,
     Turned,
     Begun,
+    Asks(Question),
+    Nothing,
+}
+
+/// What the topmost frame has come to in place: a turn, in which a statement has begun or not; or else silent work alone, which ends at
+/// this place with this question, or which goes on by more than this frame and the memory.
+#[derive(Clone, Copy)]
+pub enum Tried {
+    Turned(bool),
+    Asks(Question, usize),
     Nothing,
 }
 
@@ -56,7 +66,7 @@ fn go_after(code: &[Instr], at: usize, frame: &mut Frame, did: Act) -> Done
             frame.at = Some(pos);
             Done::Begun
         }
-        Act::Sees(_) => Done::Nothing,
+        Act::Sees(question) => Done::Asks(question),
         Act::Fails(_, _) => Done::Nothing,
         Act::Decides(_) => Done::Nothing,
     }
@@ -236,7 +246,7 @@ fn do_top(
     }
 }
 
-/// A turn of a frame, where its silent work comes to one that is made in place: whether a statement has begun in it.
+/// A turn of a frame, where its silent work comes to one that is made in place.
 fn turn_top(
     image: &Image,
     code: &[Instr],
@@ -244,7 +254,7 @@ fn turn_top(
     here: u32,
     frame: &mut Frame,
     store: &mut Store,
-) -> Option<bool>
+) -> Tried
     requires code { code.now ≡ code_at image.now frame.old.procedure }
     requires keeps { keeps ≡ keeps_in (numbered_of image.now.shapes.items frame.old.procedure) }
     ensures tried { HasTriedTop image.now here result (memory_in store.old) (memory_in store.new) (frame_in frame.old) (frame_in frame.new) }
@@ -253,12 +263,13 @@ fn turn_top(
     while frame.next < code.len() {
         match do_top(image, code, keeps, here, frame, store) {
             Done::Silent => {}
-            Done::Turned => return Some(false),
-            Done::Begun => return Some(true),
-            Done::Nothing => return None,
+            Done::Turned => return Tried::Turned(false),
+            Done::Begun => return Tried::Turned(true),
+            Done::Asks(question) => return Tried::Asks(question, frame.next),
+            Done::Nothing => return Tried::Nothing,
         }
     }
-    None
+    Tried::Nothing
 }
 
 /// How many statements have begun, with one more or not.
@@ -294,10 +305,11 @@ fn run_top(
         if budget <= now {
             return (made, now);
         }
-        let Some(begins) = turn_top(image, code, keeps, here, frame, store) else {
-            return (made, now);
-        };
-        now = count(begins, now);
+        match turn_top(image, code, keeps, here, frame, store) {
+            Tried::Turned(begins) => now = count(begins, now),
+            Tried::Asks(_, _) => return (made, now),
+            Tried::Nothing => return (made, now),
+        }
     }
     (most, now)
 }
@@ -333,18 +345,18 @@ pub(crate) fn make_in_place(
     made
 }
 
-/// A turn of the topmost frame, where its silent work comes to one that is made in place: whether a statement has begun in it, which
-/// isn't counted yet. Else some silent work is done.
-pub(crate) fn turn_in_place(image: &Image, frames: &mut Frames, store: &mut Store) -> Option<bool>
+/// A turn of the topmost frame, where its silent work comes to one that is made in place; a statement that has begun in it isn't
+/// counted yet. Else some silent work is done.
+pub(crate) fn turn_in_place(image: &Image, frames: &mut Frames, store: &mut Store) -> Tried
     ensures tried { HasTriedInPlace image.now result (memory_in store.old) (memory_in store.new) (frames_in frames.old) (frames_in frames.new) }
     ensures counts { SameCounts frames.old frames.new }
     ensures fit { StayFit image.now frames.old frames.new }
 {
     let Ok(here) = u32::try_from(frames.count().saturating_sub(1)) else {
-        return None;
+        return Tried::Nothing;
     };
     let Some(frame) = frames.list.last_mut() else {
-        return None;
+        return Tried::Nothing;
     };
     let code = code_of(image, frame.procedure);
     let keeps = keeps_of(&image.shapes, frame.procedure);

@@ -12,7 +12,7 @@ ghost use Rattle.aos_cpu.specs.Turns.{where_in, counted, beginning as beginning_
 
 use crate::answers::answer;
 use crate::calls::depth_of;
-use crate::in_place::{count, turn_in_place};
+use crate::in_place::{Tried, count, turn_in_place};
 use aos_base::{Did, NoMemory, Pos};
 use aos_code::Image;
 use aos_found::finds;
@@ -192,8 +192,9 @@ pub fn shared(
     ensures fit { StayFit image.now frames.old frames.new }
 {
     match turn_in_place(image, frames, store) {
-        None => by_stop(alloc, image, frames, store, output),
-        Some(begins) => {
+        Tried::Nothing => by_stop(alloc, image, frames, store, output),
+        Tried::Asks(question, at) => work(alloc, image, question, at, frames, store, output),
+        Tried::Turned(begins) => {
             frames.begun = count(begins, frames.begun);
             Ok(Did::Went)
         }

@@ -7,7 +7,7 @@ use Rattle.aos_store.specs.Store.{frame_in, memory_in}
 use Rattle.aos_silent.specs.Silent.{Seen}
 use Rattle.aos_cpu.proofs.Turns.{itself}
 use Rattle.aos_store.proofs.Rooms.{more_room}
-use Rattle.aos_cpu.proofs.InPlace.{turned_after, worked_none, worked_both}
+use Rattle.aos_cpu.proofs.InPlace.{turned_after, worked_none, worked_both, asks_behind}
 use Rattle.aos_cpu.proofs.in_place.turn_top.Goals as goal
 
 pub returns-in-Turned-clause-tried : goal.returns-in-Turned-clause-tried
@@ -60,3 +60,11 @@ returns-in-Nothing-clause-tried c =
 
 pub returns-in-Nothing-clause-room : goal.returns-in-Nothing-clause-room
 returns-in-Nothing-clause-room c = more_room c.args.frame.now c.loop-frame.frame c.do_top.new.frame c.loop-frame.invariant.room c.do_top.ensures.room
+
+pub returns-in-Asks-clause-tried : goal.returns-in-Asks-clause-tried
+returns-in-Asks-clause-tried c =
+    asks_behind c.args.image.now c.args.here c.do_top.new.frame.next c.in-Asks.question (memory_in c.args.store.now) (memory_in c.loop-frame.store) (memory_in c.do_top.new.store)
+    (frame_in c.args.frame.now) (frame_in c.loop-frame.frame) (frame_in c.do_top.new.frame) c.loop-frame.invariant.worked c.in-Asks.ensures.done
+
+pub returns-in-Asks-clause-room : goal.returns-in-Asks-clause-room
+returns-in-Asks-clause-room c = more_room c.args.frame.now c.loop-frame.frame c.do_top.new.frame c.loop-frame.invariant.room c.do_top.ensures.room
