@@ -19,7 +19,7 @@ use Rattle.aos_code.specs.declared.instr.Instr.{Instr}
 use Rattle.aos_code.specs.declared.instr.Instr.TheVariants.{Num, Load, Store}
 use Rattle.aos_code.specs.declared.image.Image.{Image}
 use Rattle.aos_code.specs.Memory.{Memory}
-use Rattle.aos_code.specs.Silent.{Stack, Stop, Work, Ended, Begins, Sees, Stops, lost, is_of, on_place, on_numbers, Goes, on_act, stores, act, walk, silent}
+use Rattle.aos_code.specs.Silent.{Stack, Stop, Work, Ended, Begins, Sees, Stops, lost, gives, gives_self, is_of, on_place, on_numbers, Goes, on_act, stores, act, walk, silent}
 use Rattle.aos_code.specs.Machine.{Frame, Frames, Turned, rooted, frames_with, memory_with, turn, code_of, made_in, stop_of, goes, reads, writes, goes_on, leaves, behind, opened}
 use Rattle.aos_code.specs.Numbered.{numbered}
 use Rattle.aos_sound.specs.Fits.{KeepsToPaths, StandsOn, StandsStopped, result_of}
@@ -138,6 +138,11 @@ store_by w v s p false e f = absurd (cc e)
 store_asks : (kind : Kind) (s : Stack) (v : Cell) (p : Spot) → kind_in kind (slice_get s 0) ≡ Some v → spot_in (slice_get s 1) ≡ Some p → stores kind s ≡ Sees (Stores (addr_in p) v) (drop 2 s)
 store_asks kind [] v p e f = absurd (cc e)
 store_asks kind (w ∷ s) v p e f = store_by w v s p (is_of kind w) e f
+
+-- the frame's own object
+pub own_given : (o : ℕ) (s : Stack) → (o ≡ 0 → ⊥) → gives_self o s ≡ gives (Ref o) s
+own_given zero s some = absurd (some refl)
+own_given (suc o) s some = refl
 
 -- there are two numbers
 pub not_empty : (s t : Stack) → on_numbers (λ a b u. Goes 0 u) s ≡ Goes 0 t → 0 < length s

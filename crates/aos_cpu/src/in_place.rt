@@ -1,7 +1,7 @@
 // Turns that are made in place, on the topmost frame: no question is asked, and no frame is found by its number.
 ghost use Rattle.std.specs.Prelude.{◌≡◌, ◌<◌, ◌≤◌, ◌+◌, ◌^◌, ℕ, pos, List, ◌∷◌, Some, IfSome, length, slice_get, get_or};
 ghost use Rattle.aos_base.specs.Rooted.{load};
-ghost use Rattle.aos_code.specs.declared.instr.Instr.TheVariants.{Num, Load, Store as StoreInstr, Binary as BinaryInstr};
+ghost use Rattle.aos_code.specs.declared.instr.Instr.TheVariants.{Num, Load, Store as StoreInstr, Binary as BinaryInstr, SelfRef, Deref};
 ghost use Rattle.aos_code.specs.Numbered.{numbered as numbered_of};
 ghost use Rattle.aos_code.specs.Memory.{Memory};
 ghost use Rattle.aos_code.specs.Silent.{act, gives, keeps_in};
@@ -20,6 +20,7 @@ use aos_base::{Binary, Given, Pos, Root, apply_binary};
 use aos_code::{Cell, Image, Instr, Kind};
 use aos_silent::act::Act;
 use aos_silent::instruction::do_one;
+use aos_silent::objects::tell_cell;
 use aos_silent::operands::{is_of, numbers, of_kind, spot};
 use aos_silent::step::give_value;
 use aos_silent::values::{jump, jump_on_false};
@@ -185,6 +186,33 @@ fn operate_top(code: &[Instr], at: usize, operator: Binary, frame: &mut Frame) -
     Done::Silent
 }
 
+/// The frame gets the object on which its procedure is called.
+fn self_top(code: &[Instr], at: usize, frame: &mut Frame) -> Done
+    requires within { at < length code.now }
+    ensures done { (image : Image) (here : ℕ) (mem : Memory) → code.now ≡ code_at image frame.old.procedure → at ≡ frame.old.next → get_or code.now at (Num (pos 0)) ≡ SelfRef →
+        IsDone image here result mem mem (frame_in frame.old) (frame_in frame.new) }
+    ensures ahead { IsAhead result at frame.new.next }
+    ensures room { HasMoreRoom frame.old frame.new }
+{
+    let object = frame.object;
+    if object == 0 {
+        return Done::Nothing;
+    }
+    give_top(code, at, frame, Cell::Ref(object))
+}
+
+/// The frame gets the place of a cell of its topmost object.
+fn deref_top(code: &[Instr], at: usize, cell: u32, frame: &mut Frame, store: &Store) -> Done
+    requires within { at < length code.now }
+    ensures done { (image : Image) (here : ℕ) → code.now ≡ code_at image frame.old.procedure → at ≡ frame.old.next → get_or code.now at (Num (pos 0)) ≡ Deref cell →
+        IsDone image here result (memory_in store.now) (memory_in store.now) (frame_in frame.old) (frame_in frame.new) }
+    ensures ahead { IsAhead result at frame.new.next }
+    ensures room { HasMoreRoom frame.old frame.new }
+{
+    let did = tell_cell(&mut frame.operands, &store.objects, cell);
+    go_after(code, at, frame, did)
+}
+
 /// Any other instruction.
 fn rest_top(
     instr: Instr,
@@ -242,6 +270,8 @@ fn do_top(
             go_after(code, at, frame, did)
         }
         Instr::Binary(operator) => operate_top(code, at, operator, frame),
+        Instr::SelfRef => self_top(code, at, frame),
+        Instr::Deref(cell) => deref_top(code, at, cell, frame, store),
         instr => rest_top(instr, image, code, keeps, here, at, frame, store),
     }
 }
