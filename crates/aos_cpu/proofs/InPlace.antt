@@ -49,6 +49,7 @@ use Rattle.aos_cpu.specs.Private.{no_memory, made_by, is_of_frame, is_own_stop, 
 use Rattle.aos_cpu.specs.InPlace.{on_top, FitsSo, IsSet, HasSet, TurnsTo, HasTurnedTop, HasWorked, HasRunTop, StopsAsking, HasTriedTop, IsAlikeStill, HasTriedInPlace}
 use Rattle.aos_cpu.specs.declared.in_place.Tried.{Tried}
 use Rattle.aos_cpu.specs.declared.in_place.Tried.TheVariants.{Turned as MadeTurn, Asks as AsksAt, Nothing as MadeNone}
+use Rattle.aos_cpu.specs.Many.{Reached, after_many, RunsOn, HasRunOn, HasRunMany}
 use Rattle.aos_cpu.proofs.Turns.{itself, after_turn, alike_both, some_same, list_top, list_set, all_but_top, rest_length, turn_alike}
 use Rattle.aos_cpu.proofs.Own.{none_here, no_number, nothing_made, own_turned, own_store, at_or_below, told, AllTold}
 
@@ -152,7 +153,7 @@ not_empty (v ∷ s) t e = omega arith
 -- A turn of the topmost frame.
 
 -- frames with a topmost one that is seen the same are alike
-alike_top : (image : Image) (made : ℕ → Option MadeAs) (here : ℕ) (f g : Frame) (following : List ℕ) (rest : List Frame) (fs : Frames) → length rest ≡ here →
+pub alike_top : (image : Image) (made : ℕ → Option MadeAs) (here : ℕ) (f g : Frame) (following : List ℕ) (rest : List Frame) (fs : Frames) → length rest ≡ here →
     ((all : ℕ → Option MadeAs) → Knows all made → seen_at image all here f ≡ seen_at image all here g) → Alike image made fs (on_top following f rest) → Alike image made fs (on_top following g rest)
 alike_top image made here f g following rest fs len e h all knows =
     h all knows
@@ -443,6 +444,19 @@ module _ (old : KeptFrames) (n here : ℕ) (f g : KeptFrame) (len : n ≡ length
         turns = turns;
       }
 
+  pub kept_ran : (gs : Frames) (image : Image) (budget many now count : ℕ) (mem was : Memory) (fs : Frames) → gs ≡ now_frames → HasRunOn image here budget many old.begun now mem was (frame_in f) (frame_in g) → count ≡ now →
+      Alike image (made_in image mem) fs (frames_in old) → RunsOn image budget many (record { store = mem; frames = fs; begun = old.begun }) was gs count
+  kept_ran gs image budget many now count mem was fs frames run counts h =
+      let start : Reached = record { store = mem; frames = fs; begun = old.begun } in
+      let r = run.runs following rest fs so_many (subst (Alike image (made_in image mem) fs) old_top h) in
+      record {
+        goes = r.goes;
+        below = r.below;
+        store = r.store;
+        alike = subst (Alike image (made_in image was) (after_many image many start).frames) (sym (frames ∙ new_top)) r.alike;
+        begun = r.begun ∙ sym counts;
+      }
+
   kept_worked : (image : Image) (mem now : Memory) → HasWorked image here mem now (frame_in f) (frame_in g) → Alike image (made_in image mem) (frames_in old) now_frames × (now ≡ mem)
   kept_worked image mem now worked = (
     subst (Alike image (made_in image mem) (frames_in old)) (sym new_top)
@@ -467,6 +481,9 @@ module _ (old : KeptFrames) (n here : ℕ) (f g : KeptFrame) (len : n ≡ length
   kept_tried image (AsksAt q at) mem now tried = (kept_worked image mem now tried.0, kept_asking image q at mem tried.1, tried.1.1.1)
   kept_tried image (MadeTurn begins) mem now tried =
       λ fs h. subst (TurnsTo image begins mem now fs) (sym new_top) (tried.turns following rest fs so_many (subst (Alike image (made_in image mem) fs) old_top h))
+
+pub no_turns : (image : Image) (budget : ℕ) (mem : Memory) (old : KeptFrames) → HasRunMany image budget 0 mem mem old old
+no_turns image budget mem old fs h = record { goes = λ i lt. absurd (omega arith); below = λ i lt. absurd (omega arith); store = refl; alike = h; begun = refl }
 
 pub kept_none : (image : Image) (budget : ℕ) (old : KeptFrames) → old.turns < 2 ^ 64 → IsMadePrivately image budget 0 old old
 kept_none image budget old lt made fs h =

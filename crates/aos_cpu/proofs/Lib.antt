@@ -2,6 +2,7 @@ pub mod Behind
 pub mod Asking
 pub mod Own
 pub mod InPlace
+pub mod Running
 pub mod Turns
 pub mod Verdicts
 pub mod Judging

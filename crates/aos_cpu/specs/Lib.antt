@@ -4,4 +4,5 @@ pub mod Calls
 pub mod Makes
 pub mod Private
 pub mod InPlace
+pub mod Many
 pub mod Verdicts

@@ -14,6 +14,7 @@ ghost use Rattle.aos_silent.specs.Steps.{IsStepOf};
 ghost use Rattle.aos_silent.specs.Room.{StayFit};
 ghost use Rattle.aos_cpu.specs.Turns.{counted};
 ghost use Rattle.aos_cpu.specs.Private.{no_memory, IsMadePrivately};
+ghost use Rattle.aos_cpu.specs.Many.{HasRunOn};
 ghost use Rattle.aos_cpu.specs.InPlace.{IsAhead, HasSet, IsDone, HasRunTop, HasTriedTop, HasTriedInPlace};
 
 use aos_base::{Binary, Given, Pos, Root, apply_binary};
@@ -309,9 +310,9 @@ pub(crate) fn count(begins: bool, begun: u64) -> u64
     if begins { begun.wrapping_add(1) } else { begun }
 }
 
-/// Private turns of a frame, so many at most, as long as they can be made in place and fewer statements have begun than the budget:
-/// how many have been made, and how many statements have begun by then. There is no memory.
-fn run_top(
+/// Turns of a frame, so many at most, as long as they can be made in place and fewer statements have begun than the budget: how many
+/// have been made, and how many statements have begun by then. Where there is no memory they are private.
+pub(crate) fn run_top(
     image: &Image,
     code: &[Instr],
     keeps: u32,
@@ -324,10 +325,10 @@ fn run_top(
 ) -> (u32, u64)
     requires code { code.now ≡ code_at image.now frame.old.procedure }
     requires keeps { keeps ≡ keeps_in (numbered_of image.now.shapes.items frame.old.procedure) }
-    requires memory { memory_in store.old ≡ no_memory }
-    ensures made { HasRunTop image.now here budget result.0 begun result.1 (frame_in frame.old) (frame_in frame.new) }
+    ensures made { HasRunOn image.now here budget result.0 begun result.1 (memory_in store.old) (memory_in store.new) (frame_in frame.old) (frame_in frame.new) }
+    ensures alone { memory_in store.old ≡ no_memory →
+        (memory_in store.new ≡ no_memory) × HasRunTop image.now here budget result.0 begun result.1 (frame_in frame.old) (frame_in frame.new) }
     ensures most { result.0 ≤ most }
-    ensures none { memory_in store.new ≡ no_memory }
     ensures room { HasMoreRoom frame.old frame.new }
 {
     let mut now = begun;

@@ -7,6 +7,7 @@ pub mod calls;
 pub mod condition;
 pub mod in_place;
 pub mod makes;
+pub mod runs;
 pub mod texts;
 pub mod turn;
 
@@ -14,4 +15,5 @@ pub use alone::{PrivateStop, private};
 pub use aos_base::{Did, LockName};
 pub use aos_silent::{code_of, home_of, numbered};
 pub use condition::verdict;
+pub use runs::many;
 pub use turn::{begin_body, open, pass, position, shared};

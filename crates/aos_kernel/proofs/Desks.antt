@@ -282,18 +282,18 @@ module _ (image : Image) (earlier : List Event) (d : Desk) (st : State Memory Fr
         unspent = h.unspent;
       }
 
-  -- frames have come back, and statements are counted
-  pub shows_put : (activities : Vec Activity Global) (frames : Kept) (old : Activity) (spent : Option ℕ) (fs : Frames) (now : book.Book) → slice_get d.activities.items a ≡ Some old → activities.items ≡ slice_set d.activities.items a (record old { next = Runs; frames = frames }) →
-      st.book.spent ≡ None → (st.book.activity a).next ≡ book.Runs → Alike image (made_in image st.store) fs (frames_in frames) → IsTallied a frames.begun st.book now → (IsSoundImage image → FitInRoom image frames) →
+  -- turns have come to these frames over this store, and statements are counted
+  pub shows_ran : (store : Store) (activities : Vec Activity Global) (frames : Kept) (old : Activity) (spent : Option ℕ) (fs : Frames) (now : book.Book) → slice_get d.activities.items a ≡ Some old → activities.items ≡ slice_set d.activities.items a (record old { next = Runs; frames = frames }) →
+      st.book.spent ≡ None → (st.book.activity a).next ≡ book.Runs → Knows (made_in image (memory_in store)) made → Alike image (made_in image (memory_in store)) fs (frames_in frames) → IsTallied a frames.begun st.book now → (IsSoundImage image → FitInRoom image frames) →
       spent ≡ spent_by (nat_lt old.frames.begun frames.begun) d.budget frames.begun a d.spent →
-      Shows image earlier (record d { activities = activities; spent = spent }) (record { store = st.store; frames = put nat_eq st.frames a fs; book = now })
-  shows_put activities frames old spent fs now was set none runs alike t fits when =
+      Shows image earlier (record d { store = store; activities = activities; spent = spent }) (record { store = memory_in store; frames = put nat_eq st.frames a fs; book = now })
+  shows_ran store activities frames old spent fs now was set none runs knows alike t fits when =
       let s = h.activities a old was in
       let new : Activity = record old { next = Runs; frames = frames } in
       let n = frames.begun in
-      let shown : Alike image made fs (frames_in frames) = subst (λ (m : Memory). Alike image (made_in image m) fs (frames_in frames)) h.store alike in
+      let all = made_in image (memory_in store) in
       record {
-        store = h.store;
+        store = refl;
         stands = subst (λ (p : List book.Stand × (LockName → Option ℕ)). Stands d.line p.0 p.1) (λ i. (sym t.line i, sym t.owner i)) h.stands;
         output = t.output ∙ h.output;
         traps = ap (map rec_of) t.traps ∙ h.traps;
@@ -303,10 +303,10 @@ module _ (image : Image) (earlier : List Event) (d : Desk) (st : State Memory Fr
         started = t.started ∙ started_after activities new set;
         few = subst (λ k. k ≤ 65536) (sym t.started) h.few;
         counted = counted_after d.line activities new refl set;
-        activities = each_after image made d.activities.items activities.items st.book.activity now.activity st.frames (put nat_eq st.frames a fs) a old new was set
-            (subst (λ x. ShowsActivity image made new (now.activity a) x) (sym (put_same st.frames a fs))
-            (record { priority = t.priority ∙ s.priority; begun = t.begun; next = t.next ∙ runs; frames = shown; fits = fits }))
-            (λ x ne. t.others x ne) (λ x ne. put_other st.frames a fs x ne) h.activities;
+        activities = each_after image all d.activities.items activities.items st.book.activity now.activity st.frames (put nat_eq st.frames a fs) a old new was set
+            (subst (λ x. ShowsActivity image all new (now.activity a) x) (sym (put_same st.frames a fs))
+            (record { priority = t.priority ∙ s.priority; begun = t.begun; next = t.next ∙ runs; frames = alike; fits = fits }))
+            (λ x ne. t.others x ne) (λ x ne. put_other st.frames a fs x ne) (each_grown image made all d.activities.items st.book.activity st.frames knows h.activities);
         room = h.room;
         waiting = subst (λ l. EachWaits image activities.items l (put nat_eq st.frames a fs)) (sym t.line)
             (waits_set activities.items new st.book.line (put nat_eq st.frames a fs) set turns_no_wait (λ x ne. refl) (λ x ne. put_other st.frames a fs x ne));
@@ -314,6 +314,16 @@ module _ (image : Image) (earlier : List Event) (d : Desk) (st : State Memory Fr
             (subst (λ k. (now.activity a).begun < k) (sym t.budget) (subst (λ k. k < st.book.budget) (sym t.begun) (below_budget (st.book.activity a).begun n st.book.budget a (h.unspent a none) (ap (spent_by (nat_lt (st.book.activity a).begun n) st.book.budget n a) (sym none) ∙ sym t.spent ∙ spends))))
             (λ y ne. subst (λ k. (now.activity y).begun < k) (sym t.budget) (subst (λ (v : book.Activity). v.begun < st.book.budget) (sym (t.others y ne)) (h.unspent y none))) x;
       }
+
+  -- frames have come back, and statements are counted
+  pub shows_put : (activities : Vec Activity Global) (frames : Kept) (old : Activity) (spent : Option ℕ) (fs : Frames) (now : book.Book) → slice_get d.activities.items a ≡ Some old → activities.items ≡ slice_set d.activities.items a (record old { next = Runs; frames = frames }) →
+      st.book.spent ≡ None → (st.book.activity a).next ≡ book.Runs → Alike image (made_in image st.store) fs (frames_in frames) → IsTallied a frames.begun st.book now → (IsSoundImage image → FitInRoom image frames) →
+      spent ≡ spent_by (nat_lt old.frames.begun frames.begun) d.budget frames.begun a d.spent →
+      Shows image earlier (record d { activities = activities; spent = spent }) (record { store = st.store; frames = put nat_eq st.frames a fs; book = now })
+  shows_put activities frames old spent fs now was set none runs alike t fits when =
+      let shown : Alike image made fs (frames_in frames) = subst (λ (m : Memory). Alike image (made_in image m) fs (frames_in frames)) h.store alike in
+      subst (λ (m : Memory). Shows image earlier (record d { activities = activities; spent = spent }) (record { store = m; frames = put nat_eq st.frames a fs; book = now })) (sym h.store)
+      (shows_ran d.store activities frames old spent fs now was set none runs (λ o m e. e) shown t fits when)
 
   pub shows_turned : (store : Store) (activities : Vec Activity Global) (output : Vec ℕ Global) (spent : Option ℕ) (frames : Kept) (old : Activity) (left : Did) →
       slice_get d.activities.items a ≡ Some old → Runs ≡ old.next → activities.items ≡ slice_set d.activities.items a (record old { frames = frames }) →

@@ -9,3 +9,5 @@ pub mod First
 pub mod Logs
 pub mod Histories
 pub mod Lending
+pub mod Quietly
+pub mod Stepping

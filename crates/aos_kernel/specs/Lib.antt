@@ -5,3 +5,4 @@ pub mod Shows
 pub mod Lends
 pub mod Asked
 pub mod Keeps
+pub mod Steps

@@ -10,6 +10,7 @@ ghost use Rattle.aos_base.specs.Schedule.{IsEntry};
 ghost use Rattle.aos_kernel.specs.Shows.{Shows, HandsOut};
 ghost use Rattle.aos_loan.specs.Loans.{IsLoanOf};
 ghost use Rattle.aos_kernel.specs.Lends.{LendsNone, Lends, after_lend, settles_to, after_settle};
+ghost use Rattle.aos_kernel.specs.Steps.{AreQuietSteps};
 ghost use Rattle.aos_kernel.specs.Run.{among, state_of, events_of, traps_of, waits_of, spent_of, comes_to, after_step, ticks, after_tick};
 
 use crate::activity::{Activity, Next, next_of};
@@ -17,6 +18,7 @@ use crate::conditions::stack_for;
 use crate::desk::Desk;
 use crate::loans::{is_among, take_out};
 use crate::log::{Stepped, add_step};
+use crate::runs::{add_steps, in_entry};
 use aos_base::{Event, NoMemory, Outcome, Priority, Sched};
 use aos_code::{Image, TrapRec, WaitRec};
 use aos_line::Line;
@@ -152,6 +154,13 @@ fn hand_out(events: &mut Vec<Event>, desk: &mut Desk)
 {
     mem::swap(events, &mut desk.events);
     desk.events.clear();
+}
+
+/// No event is handed out, in place of the earlier ones.
+fn tell_nothing(events: &mut Vec<Event>)
+    ensures { events.new.items ≡ [] }
+{
+    events.clear();
 }
 
 impl Kernel {
@@ -308,6 +317,32 @@ impl Kernel {
         }
     }
 
+    /// Turns in place of a worker's activity, so many at most, one behind another: how many have been made. No event happens in
+    /// them. NoMemory where memory runs out, and then the kernel is as it was.
+    pub(crate) fn run_in_place(&mut self, w: u32, most: u32) -> Result<u32, NoMemory>
+        requires worker { w < self.old.workers }
+        requires lent { among w self.old.lent ≡ false }
+        ensures most { IfOk result (λ made. made ≤ most) }
+        ensures run { IfOk result (λ made. AreQuietSteps made w self.old self.new) }
+        ensures same { self.new ≡ record self.old { log = self.new.log } }
+        ensures err { OnErr result (self.new ≡ self.old) }
+    {
+        let Outcome::Going = self.desk.outcome() else {
+            return Ok(0);
+        };
+        let Some(activity) = self.desk.on(w) else {
+            return Ok(0);
+        };
+        self.log.reserve(1 + self.lent.len())?;
+        let made = self.desk.run_on(&self.image, activity, in_entry(most));
+        if made == 0 {
+            return Ok(0);
+        }
+        add_steps(&mut self.log, w, made);
+        tell_nothing(&mut self.events);
+        Ok(made)
+    }
+
     /// A tick of a worker, below the number of workers: its activity becomes ready, behind those of its priority. False
     /// where it has none or the outcome isn't Going, and then nothing changes. NoMemory where memory runs out, and then
     /// the kernel is as it was.
@@ -377,7 +412,9 @@ impl Kernel {
         let Some(activity) = self.desk.on(w) else {
             return Ok(None);
         };
-        self.log.reserve(1 + self.lent.len())?;
+        let many = self.lent.len();
+        let room = 1 + many;
+        self.log.reserve(room)?;
         self.lent.reserve(1)?;
         let image = self.image.clone()?;
         match next_of(&self.desk.activities, activity) {

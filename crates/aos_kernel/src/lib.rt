@@ -10,6 +10,8 @@ mod laws;
 mod loans;
 mod locks;
 pub mod log;
+mod runs;
+mod steps;
 mod traps;
 mod turns;
 mod waits;

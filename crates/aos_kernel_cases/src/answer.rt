@@ -8,6 +8,7 @@ use crate::passes::differences_of_passes;
 use crate::replays::differences_of_replay;
 use crate::runs::{differences_of_meeting, differences_of_run};
 use crate::scripts::{print, script};
+use crate::several::differences_of_steps;
 use crate::soundness::soundness;
 use crate::stop::Stop;
 use crate::wanted::wanted_or_empty;
@@ -49,6 +50,9 @@ pub fn differences<R: AllocGlobal + Threads + Wait + Sync>(
     }
     if name == "loan" {
         return differences_of_loan(alloc, image, text, sections);
+    }
+    if name == "steps" {
+        return differences_of_steps(alloc, image, text, sections);
     }
     if name == "run" {
         return differences_of_run(rt, image, text, sections);

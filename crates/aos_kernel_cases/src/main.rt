@@ -22,8 +22,10 @@
 //! - `loan WORKER MOST OTHERS SCRIPT` replays a script, lends the worker's activity for at most so many private turns, and settles
 //!   them behind a step of each of the other workers, which have `,` between them, `-` for none; then the worker makes a step.
 //!   Wanted are the `state`, the `log`, and `told`: how many turns there were and what settling them came to, or `none`.
+//! - `steps WORKER MOST SCRIPT` replays a script, and then makes at most so many steps of the worker in one call. Wanted are the
+//!   `state`, the `log`, and `told`: how many there were.
 //! - `run SCRIPT` replays a script, and then runs the kernel by its workers, each in a thread of its own. Wanted are the `state`
-//!   and, where there is one worker, the `log`.
+//!   and, where there is one worker, the `log`; and, where the case says it, `lent`: `some` where turns were made by loans, else `none`.
 //! - `meet SCRIPT` does so behind a gate at which workers 0 and 1 wait for each other before each of their first three rounds;
 //!   `told` is whether they met there.
 //! - `sound PROCEDURE CODE`: `told` is as what the code is sound in that procedure.
@@ -49,6 +51,7 @@ mod replays;
 mod run;
 mod runs;
 mod scripts;
+mod several;
 mod shape;
 mod soundness;
 mod state;

@@ -29,6 +29,7 @@ pub fn role_of(name: &str) -> Role {
         "replay" => Role::Command,
         "passes" => Role::Command,
         "loan" => Role::Command,
+        "steps" => Role::Command,
         "run" => Role::Command,
         "meet" => Role::Command,
         "sound" => Role::Command,
@@ -42,6 +43,7 @@ pub fn role_of(name: &str) -> Role {
         "state" => Role::Wanted,
         "events" => Role::Wanted,
         "log" => Role::Wanted,
+        "lent" => Role::Wanted,
         "told" => Role::Wanted,
         _ => Role::Unknown,
     }

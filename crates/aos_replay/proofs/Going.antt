@@ -8,11 +8,10 @@ use Rattle.aos_base.specs.Machine.{Choice, Step, Tick, State, Machine, happens, 
 use Rattle.aos_base.specs.Schedule.{choices, entry_choices}
 use Rattle.aos_concurrency.proofs.Executions.{execution-append}
 use Rattle.aos_code.specs.Machine.{machine, first_state}
-use Rattle.aos_kernel.specs.declared.log.Stepped.{Stepped}
-use Rattle.aos_kernel.specs.declared.log.Stepped.TheVariants.{Turned, Dispatched, Idle, Over}
-use Rattle.aos_kernel.specs.Run.{Run, after, state_of, after_step, after_tick}
+use Rattle.aos_kernel.specs.Run.{Run, after, state_of, after_tick}
+use Rattle.aos_kernel.specs.Steps.{AreSteps}
 use Rattle.aos_kernel.proofs.Histories.{is_over}
-use Rattle.aos_kernel.proofs.Logs.{choices-append, choices-with_step, choices-with_tick}
+use Rattle.aos_kernel.proofs.Logs.{choices-append, choices-with_tick}
 use Rattle.aos_replay.specs.Continues.{IsSome, none, kept, left_out, Continues, ContinuesPart}
 
 module _ {S F : Type 0} (m : Machine S F) where
@@ -68,13 +67,14 @@ goes_then cs ds a b c h k =
       log = k.log ∙ ap (λ l. l ++ k.made) h.log ∙ append_assoc (choices a.log) h.made k.made;
     }
 
-module _ (w : ℕ) (old new : Run) where
-  pub goes_step : (stepped : Stepped) → new ≡ after_step stepped w old → new ≡ record old { log = new.log } → state_of new ≡ happens (machine old.image) (Step w) (state_of old) → Continues (Step w ∷ []) old new
-  goes_step Turned is same state = record { same = same; state = state; made = Step w ∷ []; some = kept none; log = ap (λ r. choices r.log) is ∙ choices-with_step w old.log }
-  goes_step Dispatched is same state = record { same = same; state = state; made = Step w ∷ []; some = kept none; log = ap (λ r. choices r.log) is ∙ choices-with_step w old.log }
-  goes_step Idle is same state = record { same = same; state = state; made = []; some = left_out none; log = ap (λ r. choices r.log) is ∙ sym (append-nil (choices old.log)) }
-  goes_step Over is same state = record { same = same; state = state; made = []; some = left_out none; log = ap (λ r. choices r.log) is ∙ sym (append-nil (choices old.log)) }
+some_all : (cs : List Choice) → IsSome cs cs
+some_all [] = none
+some_all (c ∷ cs) = kept (some_all cs)
 
+pub goes_many : (w n : ℕ) (old new : Run) → new ≡ record old { log = new.log } → AreSteps n w old new → Continues (replicate n (Step w)) old new
+goes_many w n old new same h = record { same = same; state = h.state; made = replicate n (Step w); some = some_all (replicate n (Step w)); log = h.log }
+
+module _ (w : ℕ) (old new : Run) where
   pub goes_tick : (ticked : Bool) → new ≡ after_tick ticked w old → new ≡ record old { log = new.log } → state_of new ≡ happens (machine old.image) (Tick w) (state_of old) → Continues (Tick w ∷ []) old new
   goes_tick true is same state = record { same = same; state = state; made = Tick w ∷ []; some = kept none; log = ap (λ r. choices r.log) is ∙ choices-with_tick w old.log }
   goes_tick false is same state = record { same = same; state = state; made = []; some = left_out none; log = ap (λ r. choices r.log) is ∙ sym (append-nil (choices old.log)) }
@@ -88,6 +88,13 @@ goes_steps_idly w i n a b c less h same state =
     subst (Continues (replicate n (Step w)) a) (sym same)
     (subst (λ k. Continues (replicate k (Step w)) a b) number
     (subst (λ cs. Continues cs a b) all (goes_idly (replicate i (Step w)) (replicate (n - i) (Step w)) a b h idle)))
+
+-- more steps behind those that were made, where so many are left
+pub goes_more : (w left made n : ℕ) (a b c : Run) → left ≤ n → made ≤ left → Continues (replicate (n - left) (Step w)) a b → Continues (replicate made (Step w)) b c → Continues (replicate (n - (left - made)) (Step w)) a c
+goes_more w left made n a b c few less h k =
+    let all = replicate-append-replicate (n - left) made (Step w) in
+    let number : n - left + made ≡ n - (left - made) = omega (arith, few, less) in
+    subst (λ i. Continues (replicate i (Step w)) a c) number (subst (λ cs. Continues cs a c) all (goes_then (replicate (n - left) (Step w)) (replicate made (Step w)) a b c h k))
 
 -- the first of some steps
 pub part_of_steps : (w i n : ℕ) (a b c : Run) → i ≤ n → Continues (replicate i (Step w)) a b → c ≡ b → ContinuesPart (replicate n (Step w)) a c

@@ -1,16 +1,18 @@
 -- What probes are told while a run goes on: by nothing, by a step or a tick, by one after the other.
-use Rattle.std.proofs.Common.{◌≡◌, ◌∙◌, ℕ, Bool, true, List, [], ◌∷◌, ◌++◌, length, drop, ap, refl, sym, append_assoc}
+use Rattle.std.proofs.Common.{◌≡◌, ◌∙◌, ℕ, zero, suc, Bool, true, List, [], ◌∷◌, ◌++◌, length, drop, replicate, ap, refl, sym, arith, append_assoc}
 use Rattle.std.proofs.lemmas.List.{append-nil, drop_at}
 use Rattle.aos_base.specs.declared.kernel.Event.{Event}
-use Rattle.aos_base.specs.Machine.{Choice, Step, Tick, State}
+use Rattle.aos_base.specs.Machine.{Choice, Step, Tick, State, execution}
 use Rattle.aos_base.specs.Schedule.{choices}
+use Rattle.aos_concurrency.proofs.Executions.{execution-append}
 use Rattle.aos_code.specs.Memory.{Memory}
-use Rattle.aos_code.specs.Machine.{Frames, machine}
-use Rattle.aos_kernel.specs.declared.log.Stepped.{Stepped}
-use Rattle.aos_kernel.specs.declared.log.Stepped.TheVariants.{Turned, Dispatched}
-use Rattle.aos_kernel.specs.Run.{Run, state_of, state_before, events_of, after_step, after_tick}
+use Rattle.aos_code.specs.Machine.{Frames, machine, first_state}
+use Rattle.aos_kernel.specs.Run.{Run, after, state_of, without_last, state_before, events_of, after_tick}
+use Rattle.aos_kernel.specs.Steps.{AreSteps}
 use Rattle.aos_kernel.proofs.Histories.{state_after, state_before_is}
-use Rattle.aos_kernel.proofs.Logs.{choices-with_step, choices-with_tick}
+use Rattle.aos_kernel.proofs.Lending.{less_one}
+use Rattle.aos_kernel.proofs.Quietly.{step_behind}
+use Rattle.aos_kernel.proofs.Logs.{choices-with_tick}
 use Rattle.aos_probe.specs.Meaning.{Seen}
 use Rattle.aos_probe.specs.Told.{after_all}
 use Rattle.aos_probe.proofs.Folds.{after_all-append}
@@ -62,17 +64,31 @@ module _ (old new : Run) (c : Choice) (same : new ≡ record old { log = new.log
     told = told;
   }
 
+-- the events of several steps are those of the last
 module _ (w : ℕ) (old new : Run) (ps qs : List Seen) where
-  pub tells_turned : (stepped : Stepped) → stepped ≡ Turned → new ≡ after_step stepped w old → new ≡ record old { log = new.log } → qs ≡ after_all (events_of new) ps → Told old new ps qs
-  tells_turned stepped turned is same told =
-      let log = ap (λ r. choices r.log) (is ∙ ap (λ s. after_step s w old) turned) ∙ choices-with_step w old.log in
-      tells_choice old new (Step w) same log ps qs told
+  pub tells_many : (n : ℕ) → (n ≡ 0 → ⊥) → new ≡ record old { log = new.log } → AreSteps n w old new → qs ≡ after_all (events_of new) ps → Told old new ps qs
+  tells_many zero some same h told = absurd (some refl)
+  tells_many (suc k) some same h told =
+      let m = machine old.image in
+      let first = (state_of old).book.events in
+      let mid = execution m (replicate k (Step w)) (state_of old) in
+      let quiet : mid.book.events ≡ first = h.quiet k (omega arith) in
+      let grown = events_grow m (Step w) mid in
+      let all : (state_of new).book.events ≡ first ++ grown.more =
+      ap (λ (s : State Memory Frames). s.book.events) (h.state ∙ step_behind old.image w k (state_of old)) ∙ grown.is ∙ ap (λ l. l ++ grown.more) quiet in
+      let before : state_before new ≡ mid =
+      ap state_before same ∙ ap (λ cs. after old.image old.budget (without_last cs)) h.log ∙ ap (λ cs. after old.image old.budget cs) (less_one (choices old.log) w k)
+      ∙ execution-append m (choices old.log) (replicate k (Step w)) (first_state old.image old.budget) in
+      let last : events_of new ≡ grown.more =
+      (λ i. drop (length ((ap (λ (s : State Memory Frames). s.book.events) before ∙ quiet) i)) (all i))
+      ∙ drop_at first grown.more (length first) refl in
+      record {
+        events = events_of new;
+        between = all ∙ ap (λ l. first ++ l) (sym last);
+        told = told;
+      }
 
-  pub tells_dispatched : (stepped : Stepped) → stepped ≡ Dispatched → new ≡ after_step stepped w old → new ≡ record old { log = new.log } → qs ≡ after_all (events_of new) ps → Told old new ps qs
-  tells_dispatched stepped dispatched is same told =
-      let log = ap (λ r. choices r.log) (is ∙ ap (λ s. after_step s w old) dispatched) ∙ choices-with_step w old.log in
-      tells_choice old new (Step w) same log ps qs told
-
+module _ (w : ℕ) (old new : Run) (ps qs : List Seen) where
   pub tells_ticked : (ticked : Bool) → ticked ≡ true → new ≡ after_tick ticked w old → new ≡ record old { log = new.log } → qs ≡ after_all (events_of new) ps → Told old new ps qs
   tells_ticked ticked so is same told =
       let log = ap (λ r. choices r.log) (is ∙ ap (λ t. after_tick t w old) so) ∙ choices-with_tick w old.log in

@@ -2,7 +2,7 @@
 use Rattle.std.specs.Prelude.{◌≡◌, ℕ, List, [], ◌∷◌, ◌++◌}
 use Rattle.aos_base.specs.declared.kernel.Sched.{Sched}
 use Rattle.aos_base.specs.declared.kernel.Sched.TheVariants.{Steps, Tick}
-use Rattle.aos_base.specs.Machine.{Choice, execution}
+use Rattle.aos_base.specs.Machine.{Choice, Step, happens, execution}
 use Rattle.aos_base.specs.Schedule.{choices}
 use Rattle.aos_code.specs.Machine.{machine}
 use Rattle.aos_kernel.specs.Run.{Run, state_of}
@@ -33,3 +33,7 @@ pub record ContinuesPart (cs : List Choice) (old new : Run) : Type 0 where
   pub others : List Choice
   pub whole : cs ≡ first ++ others
   pub continues : Continues first old new
+
+-- it stays as it is, and by a step of the worker nothing would change
+abbrev pub StaysBy : ℕ → Run → Run → Type 0
+StaysBy w old new = (new ≡ old) × (happens (machine old.image) (Step w) (state_of old) ≡ state_of old)

@@ -1,42 +1,40 @@
 // One entry of a script.
 
-ghost use Rattle.std.specs.Prelude.{◌≡◌, ◌<◌, [], ◌∷◌, map, false, IfOk, OnOk, OnErr, replicate};
+ghost use Rattle.std.specs.Prelude.{◌≡◌, ◌<◌, ◌≤◌, [], ◌∷◌, map, IfOk, OnOk, OnErr, replicate};
 ghost use Rattle.aos_base.specs.Machine.{Step, Tick};
 ghost use Rattle.aos_base.specs.Schedule.{entry_choices};
-ghost use Rattle.aos_replay.specs.Continues.{worker_of, Continues, ContinuesPart};
+ghost use Rattle.aos_replay.specs.Continues.{worker_of, Continues, ContinuesPart, StaysBy};
 ghost use Rattle.aos_replay.specs.Told.{Told};
 
 use aos_base::{NoMemory, Sched};
-use aos_kernel::{Kernel, Stepped};
+use aos_kernel::Kernel;
 use aos_probe::{Probe, tell_all};
 
-/// A step of a worker, whose events the probes are told; whether it changed something.
-fn step(
+/// Steps of a worker, so many at most, whose events the probes are told: how many have been made. Where none has been, none would
+/// change anything.
+fn some_steps(
     kernel: &mut Kernel,
     worker: u32,
+    most: u32,
     probes: &mut Vec<Box<dyn Probe>>,
-) -> Result<bool, NoMemory>
+) -> Result<u32, NoMemory>
     requires worker { worker < kernel.old.workers }
     requires lent { kernel.old.lent ≡ [] }
-    ensures done { OnOk result (Continues (Step worker ∷ []) kernel.old kernel.new) }
-    ensures idle { IfOk result (λ made. made ≡ false → kernel.new ≡ kernel.old) }
+    requires some { 1 ≤ most }
+    ensures done { IfOk result
+        (λ made. Continues (replicate made (Step worker)) kernel.old kernel.new) }
+    ensures most { IfOk result (λ made. made ≤ most) }
+    ensures idle { IfOk result (λ made. made ≡ 0 → StaysBy worker kernel.old kernel.new) }
     ensures err { OnErr result (kernel.new ≡ kernel.old) }
     ensures told { Told kernel.old kernel.new
         (map (λ p. seen p) probes.old.items) (map (λ p. seen p) probes.new.items) }
 {
-    match kernel.step(worker) {
-        Ok(Stepped::Turned) => {
-            tell_all(probes, kernel.events());
-            Ok(true)
-        }
-        Ok(Stepped::Dispatched) => {
-            tell_all(probes, kernel.events());
-            Ok(true)
-        }
-        Ok(Stepped::Idle) => Ok(false),
-        Ok(Stepped::Over) => Ok(false),
-        Err(none) => Err(none),
+    let made = kernel.steps(worker, most)?;
+    if made == 0 {
+        return Ok(0);
     }
+    tell_all(probes, kernel.events());
+    Ok(made)
 }
 
 /// So many steps of a worker, each with its events told to the probes. Where one of them is Idle or Over, nothing changes
@@ -55,13 +53,14 @@ fn steps(
     ensures told { Told kernel.old kernel.new
         (map (λ p. seen p) probes.old.items) (map (λ p. seen p) probes.new.items) }
 {
-    for _ in 0..count {
-        match step(kernel, worker, probes) {
-            Ok(true) => {}
-            // It changed nothing, and so wouldn't the others of this worker.
-            Ok(false) => return Ok(()),
-            Err(none) => return Err(none),
+    let mut left = count;
+    while 0 < left {
+        let made = some_steps(kernel, worker, left, probes)?;
+        // They change nothing, and so wouldn't the others of this worker.
+        if made == 0 {
+            return Ok(());
         }
+        left -= made;
     }
     Ok(())
 }

@@ -22,7 +22,7 @@ not_less_same c =
       | inr e ↦ e.0
     ]
 
-one_tallied : (a : ℕ) (x : Bool) (b : Book) → IsTallied a (if x then suc (b.activity a).begun else (b.activity a).begun) b (counted a [] x b)
+pub one_tallied : (a : ℕ) (x : Bool) (b : Book) → IsTallied a (if x then suc (b.activity a).begun else (b.activity a).begun) b (counted a [] x b)
 unfolding counted
 one_tallied a true b =
     let v : Activity = record (b.activity a) { begun = suc (b.activity a).begun } in
@@ -95,7 +95,7 @@ spent_joined c d n budget a s low high is none = by (nat_lt d n) (nat_lt c n) re
         let less : nat_lt c d ≡ true = ap (nat_lt c) same ∙ f in
         is ∙ ap (λ p. spent_by p budget d a None) less ∙ ap (λ k. spent_by true budget k a None) same
 
-both_tallied : (a d n : ℕ) (b k o : Book) → (b.activity a).begun ≤ d → d ≤ n → b.spent ≡ None → k.spent ≡ None → IsTallied a d b k → IsTallied a n k o → IsTallied a n b o
+pub both_tallied : (a d n : ℕ) (b k o : Book) → (b.activity a).begun ≤ d → d ≤ n → b.spent ≡ None → k.spent ≡ None → IsTallied a d b k → IsTallied a n k o → IsTallied a n b o
 both_tallied a d n b k o low high none still one more = record {
   budget = more.budget ∙ one.budget;
   started = more.started ∙ one.started;
@@ -117,7 +117,7 @@ both_tallied a d n b k o low high none still one more = record {
       ∙ sym (ap (spent_by (nat_lt (b.activity a).begun n) b.budget n a) none);
 }
 
-none_tallied : (a : ℕ) (b : Book) → IsTallied a (b.activity a).begun b b
+pub none_tallied : (a : ℕ) (b : Book) → IsTallied a (b.activity a).begun b b
 none_tallied a b = record {
   budget = refl;
   started = refl;

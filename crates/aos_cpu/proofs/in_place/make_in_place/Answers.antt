@@ -10,7 +10,7 @@ returns-clause-made c =
     let above : c.in-Ok.here ≡ list.len - 1 = omega arith in
     let there = last_read list.items list.len c.in-Some.frame.now all c.in-Some.ensures.item.3.0 c.in-Some.ensures.item.1 in
     kept_run c.args.frames.now list.len c.in-Ok.here c.in-Some.frame.now c.run_top-made.new.frame all above there _ c.args.image.now c.args.budget c.run_top-made.result.0 c.run_top-made.result.1 refl
-    c.run_top-made.ensures.made refl refl
+    (c.run_top-made.ensures.alone c.requires.memory).1 refl refl
 
 pub returns-clause-fit : goal.returns-clause-fit
 returns-clause-fit c =
@@ -19,4 +19,7 @@ returns-clause-fit c =
     let all : list.len ≡ length list.items = omega arith in
     let above : c.in-Ok.here ≡ list.len - 1 = omega arith in
     let there = last_read list.items list.len f all c.in-Some.ensures.item.3.0 c.in-Some.ensures.item.1 in
-    kept_fit c.args.frames.now list.len c.in-Ok.here f c.run_top-made.new.frame all above there c.args.image.now c.run_top-made.ensures.made.2 c.run_top-made.ensures.room
+    kept_fit c.args.frames.now list.len c.in-Ok.here f c.run_top-made.new.frame all above there c.args.image.now (c.run_top-made.ensures.made).fits c.run_top-made.ensures.room
+
+pub returns-clause-none : goal.returns-clause-none
+returns-clause-none c = (c.run_top-made.ensures.alone c.requires.memory).0
