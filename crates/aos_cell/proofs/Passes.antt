@@ -12,10 +12,10 @@ use Rattle.aos_cell.specs.declared.rule.View.TheVariants.{Opens, Spent, Of}
 use Rattle.aos_cell.specs.Total.{one_if, times, below}
 use Rattle.aos_cell.specs.Bound.{KeepsBound}
 use Rattle.aos_cell.specs.Rule.{SameProgram, AddsOthers, is_lent, lent_among, LentAre, LendsOwn, workers_of}
-use Rattle.aos_cell.specs.Steps.{first_part, HasWorkers, Finds, Takes, greatest, without, MaySplit, left_part, right_part, split_left, split_right, HasOne, IsFree, both_parts, joined, HasAll}
+use Rattle.aos_cell.specs.Steps.{first_part, HasWorkers, Finds, Takes, given, greatest, without, MaySplit, left_part, right_part, split_left, split_right, HasOne, IsFree, both_parts, joined, HasAll}
 use Rattle.aos_cell.specs.Passes.{gives_for, Starts, MayStart, Ended, HasEnded, RunsOn, NoneLent}
 use Rattle.aos_cell.proofs.Totals.{one_same, times_append, times_without, length_without, greatest_in, below_in, length_below}
-use Rattle.aos_cell.proofs.Steps.{others_fewer}
+use Rattle.aos_cell.proofs.Steps.{others_fewer, lent_are}
 
 -- A kernel whose log alone has changed
 
@@ -30,6 +30,15 @@ program_then a b c x y = (y.0 ∙ x.0, y.1 ∙ x.1, y.2 ∙ x.2)
 pub same_lent : (ws : List ℕ) (a b : Run) → b.lent ≡ a.lent → LendsOwn ws a b
 unfolding is_lent
 same_lent ws a b same w out = ap (among w) same
+
+pub lends_on : (ws : List ℕ) (a b c : Run) → ((w : ℕ) → times w ws ≡ 0 → among w c.lent ≡ among w b.lent) → LendsOwn ws a b → LendsOwn ws a c
+unfolding is_lent
+lends_on ws a b c same own w out = same w out ∙ own w out
+
+-- a pass whose worker was lent as it gave the kernel back finds it so in the one that it takes
+pub lent_still : (w : ℕ) (p : Part) (old new : Run) → 0 < times w p.workers → LentAre p.workers (given p old).lent new → among w new.lent ≡ among w old.lent
+unfolding is_lent
+lent_still w p old new member are = are w member ∙ sym (lent_are p.workers old w member)
 
 -- a pass that has lent nothing finds none of its workers lent
 pub not_lent : (w : ℕ) (ws lent : List ℕ) (r : Run) → 0 < times w ws → lent ≡ [] → LentAre ws lent r → among w r.lent ≡ false

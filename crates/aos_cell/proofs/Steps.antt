@@ -61,7 +61,7 @@ adds_then ws a b c x y = (
 
 -- Lent workers
 
-lent_are : (ws : List ℕ) (r : Run) → LentAre ws (lent_among ws r) r
+pub lent_are : (ws : List ℕ) (r : Run) → LentAre ws (lent_among ws r) r
 lent_are ws r w member =
     let f = times_filter (λ x. is_lent x r) w ws in
     (elim (is_lent w r) as (λ q. times w (lent_among ws r) ≡ (if q then times w ws else 0) → q ≡ nat_lt 0 (times w (lent_among ws r))) [

@@ -81,7 +81,7 @@ state_behind r w k =
     ∙ execution_append (machine r.image) (choices r.log) (replicate k (Step w)) (first_state r.image r.budget)
 
 -- but for the last of its steps
-less_one : (cs : List Choice) (w k : ℕ) → without_last (cs ++ replicate (suc k) (Step w)) ≡ cs ++ replicate k (Step w)
+pub less_one : (cs : List Choice) (w k : ℕ) → without_last (cs ++ replicate (suc k) (Step w)) ≡ cs ++ replicate k (Step w)
 less_one cs w k = last_out cs w k
   where
     last_in : (w k : ℕ) → replicate (suc k) (Step w) ≡ replicate k (Step w) ++ Step w ∷ []

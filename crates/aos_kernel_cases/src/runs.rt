@@ -3,7 +3,7 @@
 use crate::replays::compare;
 use crate::run::{replayed, script_text};
 use crate::stop::Stop;
-use crate::wanted::wanted_or_empty;
+use crate::wanted::{wanted, wanted_or_empty};
 use aos_cases::{Section, tell};
 use aos_code::Image;
 use aos_gate::{Gate, MeetGate, OpenGate};
@@ -33,15 +33,22 @@ fn ran<R: AllocGlobal + Threads + Wait + Sync, G: Gate + Sync>(
     Ok(kernel)
 }
 
-/// Tells what differs behind a run by the workers, before which a script of these lines is replayed.
+/// Tells what differs behind a run by the workers, before which a script of these lines is replayed, and, where the case says it,
+/// whether they made turns by loans.
 pub fn differences_of_run<R: AllocGlobal + Threads + Wait + Sync>(
     rt: &R,
     image: Image,
     lines: &str,
     sections: &[Section],
 ) -> Result<String, Stop> {
+    let alloc = rt.alloc();
     let kernel = ran(rt, image, lines, &OpenGate)?;
-    compare(rt.alloc(), &kernel, sections)
+    let mut told = compare(alloc, &kernel, sections)?;
+    if let Some(wanted) = wanted(sections, "lent") {
+        let lent = if kernel.lent() == 0 { "none" } else { "some" };
+        tell(alloc, &mut told, "lent", lent.as_bytes(), wanted)?;
+    }
+    Ok(told)
 }
 
 /// The same behind a gate at which two workers wait for each other, and whether they met there.

@@ -1,4 +1,5 @@
 pub mod Turns
 pub mod Rounds
 pub mod Held
+pub mod Loaned
 pub mod Runs

@@ -1,13 +1,12 @@
 -- The steps and the tick of a round keep the bound and make a turn.
 use Rattle.std.proofs.Common.{◌≡◌, ◌≢◌, ℕ, ◌+◌, ◌<◌, ◌≤◌, ◌⊎◌, Bool, true, false, List, [], ◌∷◌, ◌++◌, refl, sym, ap, ◌∙◌, subst, arith, inl, inr, append_assoc}
 use Rattle.std.specs.Prelude.{Option, Some, None}
-use Rattle.std.proofs.lemmas.List.{append-nil}
+use Rattle.std.proofs.lemmas.List.{append-nil, append_cancel_left}
 use Rattle.aos_base.specs.declared.kernel.Outcome.{Outcome}
 use Rattle.aos_base.specs.declared.kernel.Outcome.TheVariants.{Going, Ended, Dead, Spent}
 use Rattle.aos_base.specs.Book.{on_worker, first_ready}
 use Rattle.aos_base.specs.Machine.{Choice, Step, Tick, happens, execution}
 use Rattle.aos_base.specs.Schedule.{choices}
-use Rattle.aos_concurrency.specs.Private.{of_worker}
 use Rattle.aos_concurrency.proofs.Executions.{execution-append}
 use Rattle.aos_concurrency.proofs.Places.{on, execution_one, ticked_none, dispatched_some}
 use Rattle.aos_code.specs.Machine.{machine, first_state}
@@ -15,12 +14,12 @@ use Rattle.aos_kernel.specs.declared.log.Stepped.{Stepped}
 use Rattle.aos_kernel.specs.declared.log.Stepped.TheVariants.{Turned, Dispatched, Idle, Over}
 use Rattle.aos_kernel.specs.Run.{Run, state_of, comes_to, stepped_while, stepped_with, after_step, after_tick, ticks, ticks_while, has_activity}
 use Rattle.aos_kernel.proofs.Logs.{choices-with_step, choices-with_tick}
-use Rattle.aos_cell.specs.Total.{times}
 use Rattle.aos_cell.specs.Bound.{turns_by, turns_since, IsPreempted}
-use Rattle.aos_cell.specs.Rule.{SameProgram}
+use Rattle.aos_cell.specs.Rule.{AreOf, SameProgram, AddsOwn}
 use Rattle.aos_cell.proofs.Schedules.{preempted-append, preempted_end}
 use Rattle.aos_cell.proofs.Passes.{program_same, program_then}
 use Rattle.aos_workers.specs.Round.{outcome_of, activity_of, IsFresh, Works, turn_in, turns_in, turns_made, Answers}
+use Rattle.aos_workers.specs.Holding.{GetsOn, Stepping}
 use Rattle.aos_workers.proofs.Turns.{is_in, own_append, since-append, made-append, turn_counts, dispatch_counts, tick_counts, turn_made, dispatch_made}
 
 -- What the answer of a step tells of the state before it
@@ -106,177 +105,250 @@ one_activity w r = execution_one (machine r.image) w (choices r.log) (first_stat
 
 -- After some steps of a round
 
--- with i steps made, n turns since the last tick or dispatch are few enough
-abbrev pub MayStep : ℕ → ℕ → Run → ℕ → Type 0
-MayStep w i now n = (n ≤ i) ⊎ ((activity_of w now ≡ None) ⊎ (outcome_of now ≢ Going))
-
-pub record Stepping (w i : ℕ) (old now : Run) : Type 0 where
-  pub works : Works w old now
-  pub few : (n : ℕ) → n ≤ 256 → IsFresh w n old → MayStep w i now (turns_since (machine old.image) w works.own n (state_of old))
-  pub more : turns_made w old ≤ turns_made w now
-  pub gets_on : (turns_made w old < turns_made w now) ⊎ ((i ≡ 0) ⊎ ((i ≡ 1) × ((a : ℕ) × (activity_of w now ≡ Some a))))
-
-pub begins : (w : ℕ) (r : Run) → Stepping w 0 r r
-begins w r =
-    record {
-      works = record { own = []; added = sym (append-nil (choices r.log)); all = tt; program = (refl, refl, refl); lent = refl; preempted = λ n le _. le };
-      few = λ n le fresh. elim fresh [
-        | inl e ↦ let none : n ≤ 0 = omega arith in inl none
-        | inr e ↦ inr e
-      ];
-      more = omega arith;
-      gets_on = inr (inl refl);
-    }
-
 -- one entry more of the worker
-module _ (w i : ℕ) (old now new : Run) (c : Choice) (s : Stepping w i old now) (of_w : of_worker c ≡ w) (added : choices new.log ≡ choices now.log ++ c ∷ []) (same : new ≡ record now { log = new.log }) where
-  state_now : state_of now ≡ execution (machine old.image) s.works.own (state_of old)
-  state_now = state_grows old now s.works.own s.works.program s.works.added
+module _ (w i : ℕ) (Had : ℕ → Type 0) (first last now new : Run) (c : Choice) (s : Stepping w i Had first last now) (added : choices new.log ≡ choices now.log ++ c ∷ []) (same : new ≡ record now { log = new.log }) where
+  abbrev since : ℕ → ℕ
+  since n = turns_since (machine first.image) w s.own n (state_of first)
 
-  more_since : (n : ℕ) → turns_since (machine old.image) w (s.works.own ++ c ∷ []) n (state_of old) ≡ turns_by (machine old.image) w c (turns_since (machine old.image) w s.works.own n (state_of old)) (state_of now)
-  more_since n =
-      since-append (machine old.image) w s.works.own (c ∷ []) n (state_of old)
-      ∙ ap (λ st. turns_by (machine old.image) w c (turns_since (machine old.image) w s.works.own n (state_of old)) st) (sym state_now)
+  state_now : state_of now ≡ execution (machine first.image) s.own (state_of first)
+  state_now = state_grows first now s.own s.program s.added
+
+  more_since : (n : ℕ) → turns_since (machine first.image) w (s.own ++ c ∷ []) n (state_of first) ≡ turns_by (machine first.image) w c (since n) (state_of now)
+  more_since n = since-append (machine first.image) w s.own (c ∷ []) n (state_of first) ∙ ap (λ st. turns_by (machine first.image) w c (since n) st) (sym state_now)
 
   more_made : turns_made w new ≡ turns_made w now + turn_in (machine now.image) w c (state_of now)
   more_made =
       made_grows w now new (c ∷ []) (program_same now new same) added
       ∙ (let a : turn_in (machine now.image) w c (state_of now) + 0 ≡ turn_in (machine now.image) w c (state_of now) = omega arith in ap (λ k. turns_made w now + k) a)
 
-  -- where the new count is small enough
-  more_preempted : (n : ℕ) → n ≤ 256 → IsFresh w n old → turns_by (machine old.image) w c (turns_since (machine old.image) w s.works.own n (state_of old)) (state_of now) ≤ 256
-      → IsPreempted (machine old.image) w (s.works.own ++ c ∷ []) n (state_of old)
-  more_preempted n le fresh small =
-      let kept = s.works.preempted n le fresh in
-      preempted-append (machine old.image) w s.works.own (c ∷ []) n (state_of old) kept
-      (preempted_end (machine old.image) w s.works.own n (state_of old) kept, subst (λ st. turns_by (machine old.image) w c (turns_since (machine old.image) w s.works.own n (state_of old)) st ≤ 256) state_now small)
-
-  abbrev more_works : ((n : ℕ) → n ≤ 256 → IsFresh w n old → turns_by (machine old.image) w c (turns_since (machine old.image) w s.works.own n (state_of old)) (state_of now) ≤ 256) → Works w old new
-  more_works small =
+  -- where the new count is small enough, so many steps are made
+  more_steps : (j : ℕ) → ((n : ℕ) → Had n → (turns_by (machine first.image) w c (since n) (state_of now) ≤ j) × (turns_by (machine first.image) w c (since n) (state_of now) ≤ 256)) → GetsOn w j last new → Stepping w j Had first last new
+  more_steps j small on =
       record {
-        own = s.works.own ++ c ∷ [];
-        added = added ∙ ap (λ l. l ++ c ∷ []) s.works.added ∙ append_assoc (choices old.log) s.works.own (c ∷ []);
-        all = own_append (w ∷ []) s.works.own (c ∷ []) s.works.all (subst (λ v. 0 < times v (w ∷ [])) (sym of_w) (is_in w), tt);
-        program = program_then old now new s.works.program (program_same now new same);
-        lent = ap (λ (r : Run). r.lent) same ∙ s.works.lent;
-        preempted = λ n le fresh. more_preempted n le fresh (small n le fresh);
+        own = s.own ++ c ∷ [];
+        added = added ∙ ap (λ l. l ++ c ∷ []) s.added ∙ append_assoc (choices first.log) s.own (c ∷ []);
+        program = program_then first now new s.program (program_same now new same);
+        preempted = λ n had.
+            let kept = s.preempted n had in
+            preempted-append (machine first.image) w s.own (c ∷ []) n (state_of first) kept
+            (preempted_end (machine first.image) w s.own n (state_of first) kept, subst (λ st. turns_by (machine first.image) w c (since n) st ≤ 256) state_now (small n had).1);
+        few = λ n had. let a = (small n had).0 in let d = more_since n in let less : turns_since (machine first.image) w (s.own ++ c ∷ []) n (state_of first) ≤ j = omega arith in inl less;
+        more = (let a = s.more in let b = more_made in omega arith);
+        gets_on = on;
       }
 
--- a step that is a turn
-turned_more : (w i : ℕ) (old now new : Run) → Stepping w i old now → i < 256 → Turned ≡ comes_to w now → new ≡ after_step Turned w now → new ≡ record now { log = new.log } → Stepping w (i + 1) old new
-turned_more w i old now new s less is after_ same =
-    let added : choices new.log ≡ choices now.log ++ Step w ∷ [] = ap (λ (r : Run). choices r.log) after_ ∙ choices-with_step w now.log in
-    let t = turned_is w now is in
-    let has : activity_of w now ≡ Some t.1.0 = t.1.1 in
-    let count = λ (k : ℕ). turn_counts (machine old.image) w t.1.0 k (state_of now) has in
-    let made = more_made w i old now new (Step w) s refl added same in
-    let one = turn_made (machine now.image) w t.1.0 (state_of now) has in
-    let small : (n : ℕ) → n ≤ 256 → IsFresh w n old → turns_since (machine old.image) w s.works.own n (state_of old) ≤ i = λ n le fresh. elim (s.few n le fresh) [
-      | inl k ↦ k
-      | inr f ↦ elim f [
-        | inl none ↦ absurd (let z = sym none ∙ has in cc z)
-        | inr over ↦ absurd (over t.0)
-      ]
-    ] in
-    record {
-      works = more_works w i old now new (Step w) s refl added same (λ n le fresh. let a = small n le fresh in let b = count (turns_since (machine old.image) w s.works.own n (state_of old)) in omega arith);
-      few = λ n le fresh.
-          let a = small n le fresh in
-          let b = count (turns_since (machine old.image) w s.works.own n (state_of old)) in
-          let d = more_since w i old now new (Step w) s refl added same n in
-          let less_still : turns_since (machine old.image) w (s.works.own ++ Step w ∷ []) n (state_of old) ≤ i + 1 = omega arith in
-          inl less_still;
-      more = (let b = s.more in omega arith);
-      gets_on = inl (let b = s.more in omega arith);
-    }
-
--- a step that is a dispatch
-dispatched_more : (w i : ℕ) (old now new : Run) → Stepping w i old now → i < 256 → Dispatched ≡ comes_to w now → new ≡ after_step Dispatched w now → new ≡ record now { log = new.log }
-    → state_of new ≡ happens (machine now.image) (Step w) (state_of now) → Stepping w (i + 1) old new
-dispatched_more w i old now new s less is after_ same state =
-    let added : choices new.log ≡ choices now.log ++ Step w ∷ [] = ap (λ (r : Run). choices r.log) after_ ∙ choices-with_step w now.log in
-    let t = dispatched_is w now is in
-    let none : activity_of w now ≡ None = t.1.0 in
-    let count = λ (k : ℕ). dispatch_counts (machine old.image) w k (state_of now) none in
-    let made = more_made w i old now new (Step w) s refl added same in
-    let same_made : turns_made w new ≡ turns_made w now = (let a = dispatch_made (machine now.image) w (state_of now) none in omega arith) in
-    let some_ = dispatched_some (machine now.image) w t.1.1.0 (state_of now) t.0 none t.1.1.1 in
-    record {
-      works = more_works w i old now new (Step w) s refl added same (λ n le fresh. let b = count (turns_since (machine old.image) w s.works.own n (state_of old)) in omega arith);
-      few = λ n le fresh.
-          let b = count (turns_since (machine old.image) w s.works.own n (state_of old)) in
-          let d = more_since w i old now new (Step w) s refl added same n in
-          let none_yet : turns_since (machine old.image) w (s.works.own ++ Step w ∷ []) n (state_of old) ≤ i + 1 = omega arith in
-          inl none_yet;
-      more = (let b = s.more in omega arith);
-      gets_on = elim s.gets_on [
-        | inl a ↦ inl (omega arith)
-        | inr a ↦ elim a [
-          | inl zero_ ↦ inr (inr ((let one : i + 1 ≡ 1 = omega arith in one), (some_.0, ap (λ st. on_worker w st.book.line) state ∙ some_.1)))
-          | inr one ↦ absurd (let z = sym none ∙ one.1.1 in cc z)
+module _ (w i : ℕ) (Had : ℕ → Type 0) (first last now new : Run) (s : Stepping w i Had first last now) (same : new ≡ record now { log = new.log }) where
+  -- a step that is a turn
+  turned_more : i < 256 → Turned ≡ comes_to w now → new ≡ after_step Turned w now → Stepping w (i + 1) Had first last new
+  turned_more less is after_ =
+      let added : choices new.log ≡ choices now.log ++ Step w ∷ [] = ap (λ (r : Run). choices r.log) after_ ∙ choices-with_step w now.log in
+      let t = turned_is w now is in
+      let has : activity_of w now ≡ Some t.1.0 = t.1.1 in
+      let made = more_made w i Had first last now new (Step w) s added same in
+      let one = turn_made (machine now.image) w t.1.0 (state_of now) has in
+      let before = s.more in
+      more_steps w i Had first last now new (Step w) s added same (i + 1)
+      (λ n had.
+      let k = elim (s.few n had) as (λ _. turns_since (machine first.image) w s.own n (state_of first) ≤ i) [
+        | inl k ↦ k
+        | inr f ↦ elim f [
+          | inl none ↦ absurd (let z = sym none ∙ has in cc z)
+          | inr over ↦ absurd (over t.0)
         ]
-      ];
-    }
+      ] in
+      let b = turn_counts (machine first.image) w t.1.0 (turns_since (machine first.image) w s.own n (state_of first)) (state_of now) has in
+      ((omega (arith, k, b)), (omega (arith, k, b, less))))
+      (inl (omega (arith, made, one, before)))
+
+  -- a step that is a dispatch
+  dispatched_more : Dispatched ≡ comes_to w now → new ≡ after_step Dispatched w now → state_of new ≡ happens (machine now.image) (Step w) (state_of now) → Stepping w (i + 1) Had first last new
+  dispatched_more is after_ state =
+      let added : choices new.log ≡ choices now.log ++ Step w ∷ [] = ap (λ (r : Run). choices r.log) after_ ∙ choices-with_step w now.log in
+      let t = dispatched_is w now is in
+      let none : activity_of w now ≡ None = t.1.0 in
+      let made = more_made w i Had first last now new (Step w) s added same in
+      let same_made : turns_made w new ≡ turns_made w now = (let a = dispatch_made (machine now.image) w (state_of now) none in omega (arith, made, a)) in
+      let some_ = dispatched_some (machine now.image) w t.1.1.0 (state_of now) t.0 none t.1.1.1 in
+      more_steps w i Had first last now new (Step w) s added same (i + 1)
+      (λ n had. let b = dispatch_counts (machine first.image) w (turns_since (machine first.image) w s.own n (state_of first)) (state_of now) none in ((omega (arith, b)), (omega (arith, b))))
+      (elim s.gets_on [
+        | inl a ↦ inl (omega (arith, a, same_made))
+        | inr a ↦ elim a [
+          | inl over ↦ absurd (over t.0)
+          | inr b ↦ elim b [
+            | inl zero_ ↦ inr (inr (inr ((let one : i + 1 ≡ 1 = omega (arith, zero_) in one), (some_.0, ap (λ st. on_worker w st.book.line) state ∙ some_.1))))
+            | inr one ↦ absurd (let z = sym none ∙ one.1.1 in cc z)
+          ]
+        ]
+      ])
 
 -- The same by the answer of a step
 
-module _ (w i : ℕ) (old now new : Run) (stepped : Stepped) (is : stepped ≡ comes_to w now) (after_ : new ≡ after_step stepped w now) (same : new ≡ record now { log = new.log }) where
-  pub goes_turned : stepped ≡ Turned → i < 256 → Stepping w i old now → Stepping w (i + 1) old new
-  goes_turned was less s = turned_more w i old now new s less (sym was ∙ is) (after_ ∙ ap (λ x. after_step x w now) was) same
+module _ (w i : ℕ) (last now new : Run) (stepped : Stepped) (is : stepped ≡ comes_to w now) (after_ : new ≡ after_step stepped w now) (same : new ≡ record now { log = new.log }) where
+  pub goes_turned : (Had : ℕ → Type 0) (first : Run) → stepped ≡ Turned → i < 256 → Stepping w i Had first last now → Stepping w (i + 1) Had first last new
+  goes_turned Had first was less s = turned_more w i Had first last now new s same less (sym was ∙ is) (after_ ∙ ap (λ x. after_step x w now) was)
 
-  pub goes_dispatched : state_of new ≡ happens (machine now.image) (Step w) (state_of now) → stepped ≡ Dispatched → i < 256 → Stepping w i old now → Stepping w (i + 1) old new
-  goes_dispatched state was less s = dispatched_more w i old now new s less (sym was ∙ is) (after_ ∙ ap (λ x. after_step x w now) was) same state
+  pub goes_dispatched : (Had : ℕ → Type 0) (first : Run) → state_of new ≡ happens (machine now.image) (Step w) (state_of now) → stepped ≡ Dispatched → Stepping w i Had first last now → Stepping w (i + 1) Had first last new
+  goes_dispatched Had first state was s = dispatched_more w i Had first last now new s same (sym was ∙ is) (after_ ∙ ap (λ x. after_step x w now) was) state
 
-  pub ends_idle : (o : Outcome) → o ≡ outcome_of new → stepped ≡ Idle → Answers w old new o
+  -- its entry is one of the worker's
+  pub entry_of : (stepped ≡ Turned) ⊎ (stepped ≡ Dispatched) → choices new.log ≡ choices now.log ++ Step w ∷ []
+  entry_of (inl was) = ap (λ (r : Run). choices r.log) (after_ ∙ ap (λ x. after_step x w now) was) ∙ choices-with_step w now.log
+  entry_of (inr was) = ap (λ (r : Run). choices r.log) (after_ ∙ ap (λ x. after_step x w now) was) ∙ choices-with_step w now.log
+
+  pub stays_idle : stepped ≡ Idle → new ≡ now
+  stays_idle was = after_ ∙ ap (λ x. after_step x w now) was
+
+  pub stays_over : stepped ≡ Over → new ≡ now
+  stays_over was = after_ ∙ ap (λ x. after_step x w now) was
+
+  pub ends_idle : (o : Outcome) → o ≡ outcome_of new → stepped ≡ Idle → Answers w last new o
   ends_idle o out was =
-      let stays : new ≡ now = after_ ∙ ap (λ x. after_step x w now) was in
+      let stays : new ≡ now = stays_idle was in
       let t = idle_is w now (sym was ∙ is) in
-      subst (λ r. Answers w old r o) (sym stays) (out ∙ ap outcome_of stays, inr (inr t.1), λ _. t.1.0)
+      subst (λ r. Answers w last r o) (sym stays) (out ∙ ap outcome_of stays, inr (inr t.1), λ _. t.1.0)
 
-  pub ends_over : (o : Outcome) → o ≡ outcome_of new → stepped ≡ Over → Answers w old new o
+  pub ends_over : (o : Outcome) → o ≡ outcome_of new → stepped ≡ Over → Answers w last new o
   ends_over o out was =
-      let stays : new ≡ now = after_ ∙ ap (λ x. after_step x w now) was in
+      let stays : new ≡ now = stays_over was in
       let told : o ≡ outcome_of now = out ∙ ap outcome_of stays in
       let over = over_is w now (sym was ∙ is) in
-      subst (λ r. Answers w old r o) (sym stays) (told, inr (inl over), λ e. absurd (over (sym told ∙ e)))
+      subst (λ r. Answers w last r o) (sym stays) (told, inr (inl over), λ e. absurd (over (sym told ∙ e)))
 
 -- After 256 steps
 
-pub full : (w i : ℕ) (old now : Run) → i ≤ 256 → 256 ≤ i → Stepping w i old now → Stepping w 256 old now
-full w i old now le no_less s = let e : i ≡ 256 = omega arith in subst (λ k. Stepping w k old now) e s
-
--- at least one of them was a turn
-advanced : (w : ℕ) (old now : Run) → Stepping w 256 old now → turns_made w old < turns_made w now
-advanced w old now s = elim s.gets_on [
-  | inl a ↦ a
+-- at least one of them was a turn, where anything still happens
+advanced : (w i : ℕ) (last now : Run) → 256 ≤ i → GetsOn w i last now → (turns_made w last < turns_made w now) ⊎ (outcome_of now ≢ Going)
+advanced w i last now all on = elim on [
+  | inl a ↦ inl a
   | inr a ↦ elim a [
-    | inl z ↦ absurd (omega arith)
-    | inr z ↦ let y = z.0 in absurd (omega arith)
+    | inl over ↦ inr over
+    | inr b ↦ elim b [
+      | inl z ↦ absurd (omega (arith, z, all))
+      | inr z ↦ let y = z.0 in absurd (omega (arith, y, all))
+    ]
   ]
 ]
 
-pub ticked_works : (w : ℕ) (old now new : Run) → Stepping w 256 old now → (ticked : Bool) → ticked ≡ ticks w now → new ≡ after_tick ticked w now → new ≡ record now { log = new.log } → Works w old new
-ticked_works w old now new s true is after_ same =
-    let added : choices new.log ≡ choices now.log ++ Tick w ∷ [] = ap (λ (r : Run). choices r.log) after_ ∙ choices-with_tick w now.log in
-    more_works w 256 old now new (Tick w) s refl added same (λ n le fresh. let b = tick_counts (machine old.image) w (turns_since (machine old.image) w s.works.own n (state_of old)) (state_of now) in omega arith)
-ticked_works w old now new s false is after_ same = subst (Works w old) (sym after_) s.works
+module _ (w i : ℕ) (Had : ℕ → Type 0) (first last now new : Run) (all : 256 ≤ i) (s : Stepping w i Had first last now) (same : new ≡ record now { log = new.log }) where
+  -- a tick behind them
+  pub ticked_more : (ticked : Bool) → ticked ≡ ticks w now → new ≡ after_tick ticked w now → Stepping w i Had first last new
+  ticked_more true is after_ =
+      let added : choices new.log ≡ choices now.log ++ Tick w ∷ [] = ap (λ (r : Run). choices r.log) after_ ∙ choices-with_tick w now.log in
+      let t = took_while (outcome_of now) (has_activity (activity_of w now)) (sym is) in
+      let made = more_made w i Had first last now new (Tick w) s added same in
+      more_steps w i Had first last now new (Tick w) s added same i
+      (λ n had. let b = tick_counts (machine first.image) w (turns_since (machine first.image) w s.own n (state_of first)) (state_of now) in ((omega (arith, b)), (omega (arith, b))))
+      (elim (advanced w i last now all s.gets_on) [
+        | inl l ↦ inl (omega (arith, l, made))
+        | inr over ↦ absurd (over t.0)
+      ])
+  ticked_more false is after_ = subst (Stepping w i Had first last) (sym after_) s
 
-pub ticked_answers : (w : ℕ) (old now new : Run) (o : Outcome) → Stepping w 256 old now → (ticked : Bool) → ticked ≡ ticks w now → new ≡ after_tick ticked w now → new ≡ record now { log = new.log }
-    → state_of new ≡ happens (machine now.image) (Tick w) (state_of now) → o ≡ outcome_of new → Answers w old new o
-ticked_answers w old now new o s true is after_ same state out =
-    let added : choices new.log ≡ choices now.log ++ Tick w ∷ [] = ap (λ (r : Run). choices r.log) after_ ∙ choices-with_tick w now.log in
-    let t = took_while (outcome_of now) (has_activity (activity_of w now)) (sym is) in
-    let a = has_some (activity_of w now) t.1 in
-    let none : activity_of w new ≡ None = ap (λ st. on_worker w st.book.line) state ∙ ticked_none (machine now.image) w a.0 (state_of now) t.0 a.1 (one_activity w now) in
-    let made = more_made w 256 old now new (Tick w) s refl added same in
-    (out, inl (let l = advanced w old now s in omega arith), λ _. none)
-ticked_answers w old now new o s false is after_ same state out =
-    let l = advanced w old now s in
-    let e : turns_made w new ≡ turns_made w now = ap (turns_made w) after_ in (
-      out,
-      inl (omega arith),
-      λ going. (elim (ticked_while (outcome_of now) (has_activity (activity_of w now)) (sym is)) [
-        | inl over ↦ absurd (over (ap outcome_of (sym after_) ∙ sym out ∙ going))
-        | inr none ↦ ap (activity_of w) after_ ∙ has_none (activity_of w now) none
-      ]),
-    )
+  pub ticked_answers : (o : Outcome) (ticked : Bool) → ticked ≡ ticks w now → new ≡ after_tick ticked w now → state_of new ≡ happens (machine now.image) (Tick w) (state_of now) → o ≡ outcome_of new → Answers w last new o
+  ticked_answers o true is after_ state out =
+      let added : choices new.log ≡ choices now.log ++ Tick w ∷ [] = ap (λ (r : Run). choices r.log) after_ ∙ choices-with_tick w now.log in
+      let t = took_while (outcome_of now) (has_activity (activity_of w now)) (sym is) in
+      let a = has_some (activity_of w now) t.1 in
+      let none : activity_of w new ≡ None = ap (λ st. on_worker w st.book.line) state ∙ ticked_none (machine now.image) w a.0 (state_of now) t.0 a.1 (one_activity w now) in
+      let made = more_made w i Had first last now new (Tick w) s added same in (
+        out,
+        (elim (advanced w i last now all s.gets_on) [
+          | inl l ↦ inl (omega (arith, l, made))
+          | inr over ↦ absurd (over t.0)
+        ]),
+        λ _. none,
+      )
+  ticked_answers o false is after_ state out =
+      let e : turns_made w new ≡ turns_made w now = ap (turns_made w) after_ in (
+        out,
+        (elim (advanced w i last now all s.gets_on) [
+          | inl l ↦ inl (omega (arith, l, e))
+          | inr over ↦ inr (inl (λ going. over (ap outcome_of (sym after_) ∙ going)))
+        ]),
+        λ going. (elim (ticked_while (outcome_of now) (has_activity (activity_of w now)) (sym is)) [
+          | inl over ↦ absurd (over (ap outcome_of (sym after_) ∙ sym out ∙ going))
+          | inr none ↦ ap (activity_of w) after_ ∙ has_none (activity_of w now) none
+        ]),
+      )
+
+-- what the tick adds
+pub tick_entry : (w : ℕ) (now new : Run) (ticked : Bool) → new ≡ after_tick ticked w now → (cs : List Choice) × (choices new.log ≡ choices now.log ++ cs) × AreOf (w ∷ []) cs
+tick_entry w now new true after_ = (Tick w ∷ [], ap (λ (r : Run). choices r.log) after_ ∙ choices-with_tick w now.log, (is_in w, tt))
+tick_entry w now new false after_ = ([], ap (λ (r : Run). choices r.log) after_ ∙ sym (append-nil (choices now.log)), tt)
+
+-- The work on a kernel that isn't given back between
+
+pub own_more : (ws : List ℕ) (old now new : Run) (cs : List Choice) → AreOf ws cs → choices new.log ≡ choices now.log ++ cs → AddsOwn ws old now → AddsOwn ws old new
+own_more ws old now new cs all added own = (
+  own.0 ++ cs,
+  added ∙ ap (λ l. l ++ cs) own.1 ∙ append_assoc (choices old.log) own.0 cs,
+  own_append ws own.0 cs own.2 all,
+)
+
+pub own_none : (ws : List ℕ) (r : Run) → AddsOwn ws r r
+own_none ws r = ([], sym (append-nil (choices r.log)), tt)
+
+-- fresh counts
+abbrev pub Fresh : ℕ → Run → ℕ → Type 0
+Fresh w old n = (n ≤ 256) × IsFresh w n old
+
+pub record Working (w i : ℕ) (old now : Run) : Type 0 where
+  pub steps : Stepping w i (Fresh w old) old old now
+  pub own : AddsOwn (w ∷ []) old now
+  pub lent : now.lent ≡ old.lent
+
+pub begins : (w : ℕ) (r : Run) → Working w 0 r r
+begins w r =
+    record {
+      steps = record {
+        own = [];
+        added = sym (append-nil (choices r.log));
+        program = (refl, refl, refl);
+        preempted = λ n h. h.0;
+        few = λ n h. elim h.1 [
+          | inl e ↦ let none : n ≤ 0 = omega (arith, e) in inl none
+          | inr e ↦ inr e
+        ];
+        more = omega arith;
+        gets_on = inr (inr (inl refl));
+      };
+      own = own_none (w ∷ []) r;
+      lent = refl;
+    }
+
+pub works_of : (w i : ℕ) (old now : Run) → Working w i old now → Works w old now
+works_of w i old now k =
+    let alike : k.own.0 ≡ k.steps.own = append_cancel_left (choices old.log) k.own.0 k.steps.own (sym k.own.1 ∙ k.steps.added) in
+    record {
+      own = k.steps.own;
+      added = k.steps.added;
+      all = subst (AreOf (w ∷ [])) alike k.own.2;
+      program = k.steps.program;
+      lent = k.lent;
+      preempted = λ n le fresh. k.steps.preempted n (le, fresh);
+    }
+
+-- also behind a step that does nothing
+pub works_stay : (w i : ℕ) (old now new : Run) (stepped none : Stepped) → new ≡ after_step stepped w now → stepped ≡ none → after_step none w now ≡ now → Working w i old now → Works w old new
+works_stay w i old now new stepped none after_ was nothing k = subst (Works w old) (sym (after_ ∙ ap (λ s. after_step s w now) was ∙ nothing)) (works_of w i old now k)
+
+-- goes on by entries of the worker
+pub works_more : (w i j : ℕ) (old now new : Run) (cs : List Choice) → AreOf (w ∷ []) cs → choices new.log ≡ choices now.log ++ cs → new ≡ record now { log = new.log } → Stepping w j (Fresh w old) old old new → Working w i old now → Working w j old new
+works_more w i j old now new cs all added same s k = record { steps = s; own = own_more (w ∷ []) old now new cs all added k.own; lent = ap (λ (r : Run). r.lent) same ∙ k.lent }
+
+module _ (w i : ℕ) (old now new : Run) (stepped : Stepped) (is : stepped ≡ comes_to w now) (after_ : new ≡ after_step stepped w now) (same : new ≡ record now { log = new.log }) where
+  pub works_turned : stepped ≡ Turned → i < 256 → Working w i old now → Working w (i + 1) old new
+  works_turned was less k =
+      works_more w i (i + 1) old now new (Step w ∷ []) (is_in w, tt) (entry_of w i old now new stepped is after_ same (inl was)) same
+      (goes_turned w i old now new stepped is after_ same (Fresh w old) old was less k.steps) k
+
+  pub works_dispatched : state_of new ≡ happens (machine now.image) (Step w) (state_of now) → stepped ≡ Dispatched → Working w i old now → Working w (i + 1) old new
+  works_dispatched state was k =
+      works_more w i (i + 1) old now new (Step w ∷ []) (is_in w, tt) (entry_of w i old now new stepped is after_ same (inr was)) same
+      (goes_dispatched w i old now new stepped is after_ same (Fresh w old) old state was k.steps) k
+
+pub ticked_works : (w i : ℕ) (old now new : Run) → 256 ≤ i → Working w i old now → (ticked : Bool) → ticked ≡ ticks w now → new ≡ after_tick ticked w now → new ≡ record now { log = new.log } → Works w old new
+ticked_works w i old now new all k ticked is after_ same =
+    let t = tick_entry w now new ticked after_ in
+    works_of w i old new (works_more w i i old now new t.0 t.2 t.1 same (ticked_more w i (Fresh w old) old old now new all k.steps same ticked is after_) k)

@@ -19,7 +19,7 @@ use Rattle.aos_workers.specs.Round.{turn_in, turns_in}
 pub is_in : (w : ℕ) → 0 < times w (w ∷ [])
 is_in w = its_worker w (w ∷ []) refl
 
-is_worker : (w v : ℕ) → 0 < times v (w ∷ []) → w ≡ v
+pub is_worker : (w v : ℕ) → 0 < times v (w ∷ []) → w ≡ v
 is_worker w v member = elim (eqb_tells w v) [
   | inl f ↦ f.1
   | inr f ↦ let o : one_if (w == v) ≡ 0 = ap one_if f.0 in absurd (omega arith)

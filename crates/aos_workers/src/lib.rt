@@ -7,6 +7,7 @@
 #![tactic(auto)]
 
 mod alone;
+mod lending;
 mod worker;
 mod workers;
 

@@ -6,6 +6,7 @@ ghost use Rattle.aos_cell.specs.Passes.{HasEnded};
 ghost use Rattle.aos_workers.specs.Round.{Works, Answers, worker_in, IsReady, HasRounded, RoundAnswers};
 ghost use Rattle.aos_workers.specs.Run.{MayBegin};
 
+use crate::lending::{MAX_STEPS, work_by_loans};
 use aos_base::{NoMemory, Outcome};
 use aos_cell::{KPass, KernelCell};
 use aos_gate::Gate;
@@ -13,9 +14,6 @@ use aos_kernel::{Kernel, Stepped};
 use std::sync::Wait;
 use std::sync::atomic::{AtomicBool, Ordering};
 use std::thread;
-
-/// The most steps of a round.
-const MAX_STEPS: u32 = 256;
 
 /// The most rounds of a worker.
 const MAX_ROUNDS: u64 = 1 << 35;
@@ -43,7 +41,8 @@ pub fn work(kernel: &mut Kernel, w: u32) -> Result<Outcome, NoMemory>
 
 /// One round by a pass of this cell. The pass has one worker, neither the kernel nor a loan, and 257 gives left. Its worker
 /// has no activity in the execution of the pass's last log, or has made no entry since the cell was made. The round takes
-/// the kernel, makes at most 256 steps of the worker and a tick, and gives it back. Afterwards the pass has its worker,
+/// the kernel, makes at most 256 steps of the worker and a tick, and gives it back; it gives it back before, too, where it makes
+/// some of these steps by a loan. Afterwards the pass has its worker,
 /// neither the kernel nor a loan, at most 257 gives less, and a last log that goes on from the one before. The answer is the
 /// outcome of the execution of that log, in which the worker has made more turns than before, unless the answer isn't Going,
 /// or the worker has no activity and nothing is ready. Where the answer is Going the worker has no activity. NoMemory where
@@ -73,8 +72,8 @@ fn round_of<R: Wait>(
     ensures view { HasRounded w pass.old.view pass.new.view }
     ensures answer { IfOk result (λ o. RoundAnswers w pass.old.view pass.new.view o) }
 {
-    let mut kernel = cell.take(rt, pass);
-    let answer = work(&mut kernel, w);
+    let kernel = cell.take(rt, pass);
+    let (kernel, answer) = work_by_loans(rt, cell, pass, kernel, w);
     cell.give(rt, pass, kernel);
     answer
 }

@@ -169,7 +169,7 @@ invariant_of-self-in-Some-2 c =
     let n0 = ap length lent in
     let n1 = length-append k.lent.items (w ∷ []) in
     let ok = c.in_ok-reserve.ensures.ok in
-    let many = c.len.ensures in
+    let many = c.len-many.ensures in
     let own = k.lent.ok.0 in
     let K2 : Keeps (record r { lent = k.lent.items ++ w ∷ [] }) c.take_frames.new.self told = record { shows = K.shows; events_are = K.events_are; entries = K.entries; one_worker = K.one_worker; few_workers = K.few_workers; one_statement = K.one_statement; few_statements = K.few_statements } in
     (subst (λ (x : List Sched × List ℕ). Keeps (record r { log = x.0; lent = x.1 }) c.take_frames.new.self told) (λ i. (sym c.reserve.ensures.items i, sym lent i)) K2, omega (arith, ok, many, own, n0, n1))
