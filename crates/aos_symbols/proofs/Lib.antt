@@ -11,6 +11,7 @@ pub mod Steps
 pub mod Records
 pub mod Bases
 pub mod Chains
+pub mod Opened
 pub mod Methods
 pub mod Fields
 pub mod Numbered

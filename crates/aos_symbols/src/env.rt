@@ -627,15 +627,13 @@ impl<'a> Env<'a> {
         ensures path { IfOk result (λ path. path ≡ self.old.path) }
         ensures err { OnErr result (self.new ≡ self.old) }
     {
-        let mut path = Items::new(alloc);
+        let mut path = Vec::with_capacity(alloc, self.path.len().saturating_add(1))?;
         path.push(Open {
             home: self.number,
             scope,
         })?;
-        for open in self.path.as_slice() {
-            path.push(*open)?;
-        }
-        Ok(mem::replace(&mut self.path, path))
+        path.extend_from_slice(self.path.as_slice())?;
+        Ok(mem::replace(&mut self.path, Items::from_vec(path)))
     }
 
     /// Goes into a WITH that narrows a variable, and gives the variables that were narrowed around it. Without memory all stays as

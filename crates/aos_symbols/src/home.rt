@@ -1,6 +1,6 @@
 // What a module has declared.
 
-ghost use Rattle.std.specs.Prelude.{◌≡◌, ◌≤◌, ◌<◌, ◌^◌, [], length, slice_get, is_some, OnErr, OnOk, IfOk};
+ghost use Rattle.std.specs.Prelude.{◌≡◌, ◌≤◌, ◌<◌, ◌^◌, [], Some, length, slice_get, is_some, OnErr, OnOk, IfOk, IfSome};
 ghost use Rattle.std.specs.Option.{option_copied};
 ghost use Rattle.aos_symbols.specs.Home as home;
 
@@ -239,11 +239,25 @@ impl<'a> Home<'a> {
         }
     }
 
-    /// An object type, where this module declares it.
+    /// An object type, where it is as far behind the first one as its number is.
+    fn object_in_turn(&self, of: TypeId) -> Option<ObjectScope>
+        ensures { IfSome result (λ object. home.object_of self.now of ≡ Some object) }
+    {
+        let (first, _) = self.objects.get_index(0)?;
+        let place = of.0.saturating_sub(*first) as usize;
+        let (number, object) = self.objects.get_index(place)?;
+        if *number == of.0 { Some(*object) } else { None }
+    }
+
+    /// An object type, where this module declares it. Most of those that follow one another in the text have numbers in turn, so that
+    /// they are found without a hash.
     pub fn object(&self, of: TypeId) -> Option<ObjectScope>
         ensures { result ≡ home.object_of self.now of }
     {
-        self.objects.get(&of.0).copied()
+        match self.object_in_turn(of) {
+            Some(object) => Some(object),
+            None => self.objects.get(&of.0).copied(),
+        }
     }
 
     /// The scope of an object type.

@@ -1,6 +1,6 @@
 // Object types: their scopes, and their methods with their slots.
 
-ghost use Rattle.std.specs.Prelude.{◌≡◌, ◌+◌, ◌<◌, ◌^◌, Some, length, IsTrue, OnOk, IfOk, OnErr};
+ghost use Rattle.std.specs.Prelude.{◌≡◌, ◌+◌, ◌++◌, ◌<◌, ◌^◌, Some, length, IsTrue, OnOk, IfOk, OnErr};
 ghost use Rattle.std.specs.Option.{option_copied};
 ghost use Rattle.aos_types.specs.Table.{base_of, row_of as row_in};
 ghost use Rattle.aos_symbols.specs.Scope as names;
@@ -97,16 +97,38 @@ impl<'a> Env<'a> {
         Ok(all)
     }
 
-    /// The scopes of object types.
-    fn object_path(&self, alloc: Global, types: &[TypeId]) -> Result<Items<Open>, AllocError>
-        ensures { IfOk result (λ path. path ≡ env.object_path self.now types.now) }
+    /// Puts the scope of an object type behind others.
+    fn put_place(&self, path: &mut Vec<Open>, of: TypeId) -> Result<(), AllocError>
+        ensures { OnOk result (path.new.items ≡
+            path.old.items ++ env.opened self.now (env.object self.now of)) }
     {
-        let mut path = Items::new(alloc);
-        for of in types {
-            if let Some(object) = self.object(*of) {
+        match self.object(of) {
+            Some(object) => {
                 path.push(object_place(object))?;
-            }
+                Ok(())
+            },
+            None => Ok(()),
         }
+    }
+
+    /// The scopes of an object type and its bases, each before its base's.
+    #[tactic(auto, using(crate::proofs::Opened::path_step, crate::proofs::Opened::path_none, crate::proofs::Opened::path_end))]
+    fn object_path(&self, alloc: Global, of: TypeId) -> Result<Vec<Open>, AllocError>
+        ensures { IfOk result (λ path. path.items ≡
+            env.object_path self.now (env.chain self.now.types of)) }
+    {
+        let mut path = Vec::new(alloc);
+        let mut at = of;
+        let mut left = self.types.len();
+        while left > 0 {
+            self.put_place(&mut path, at)?;
+            let Some(base) = self.base(at) else {
+                return Ok(path);
+            };
+            at = base;
+            left -= 1;
+        }
+        self.put_place(&mut path, at)?;
         Ok(path)
     }
 
@@ -343,13 +365,10 @@ impl<'a> Env<'a> {
         ensures path { IfOk result (λ path. path ≡ self.old.path) }
         ensures err { OnErr result (self.new ≡ self.old) }
     {
-        let types = self.chain(alloc, of)?;
-        let mut path = self.object_path(alloc, &types)?;
-        for open in self.path.as_slice() {
-            path.push(*open)?;
-        }
+        let mut path = self.object_path(alloc, of)?;
+        path.extend_from_slice(self.path.as_slice())?;
         self.self_type = Some(of);
-        Ok(mem::replace(&mut self.path, path))
+        Ok(mem::replace(&mut self.path, Items::from_vec(path)))
     }
 
     /// Goes back to a place of the module with this path.
