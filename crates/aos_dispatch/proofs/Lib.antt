@@ -4,6 +4,7 @@ pub mod Sizes
 pub mod Arguments
 pub mod Firsts
 pub mod Tables
+pub mod Upwards
 pub mod Listed
 pub mod Told
 pub mod Bases

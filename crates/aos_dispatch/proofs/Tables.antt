@@ -4,12 +4,10 @@ use Rattle.std.proofs.Common.{◌≡◌, ℕ, zero, suc, ◌+◌, ◌-◌, ◌<�
 use Rattle.std.specs.Prelude.{nat_lt, slice_get, slice_set, sum_by, option_map, option_and_then}
 use Rattle.std.specs.Option.{unwrap_or}
 use Rattle.std.specs.List.{fold, range_with_len}
-use Rattle.std.specs.declared.vec.Vec.{Vec}
-use Rattle.std.specs.declared.alloc.Global.{Global}
 use Rattle.std.proofs.lemmas.List.{drop_more, drop_all, length-map}
 use Rattle.std.proofs.lemmas.List.Sums.{sum_by-cons}
-use Rattle.std.proofs.lemmas.List.FromFn.{map-range_with_len_more, length-map-range_with_len, get_or-map-range_with_len}
-use Rattle.std.proofs.lemmas.Option.{slice_get-map, slice_get_within, slice_get-get_or}
+use Rattle.std.proofs.lemmas.List.FromFn.{length-map-range_with_len, get_or-map-range_with_len}
+use Rattle.std.proofs.lemmas.Option.{slice_get-map, slice_get-get_or}
 use Rattle.aos_typed.specs.declared.tree.TMethod.{TMethod}
 use Rattle.aos_typed.specs.declared.tree.TObject.{TObject}
 use Rattle.aos_typed.specs.Numbers.{procedures_before}
@@ -18,8 +16,8 @@ use Rattle.aos_typed.specs.Methods.{base_type, on_base, put_at, slots_by, slots,
 use Rattle.aos_typed.specs.Seen.{seen_method, seen_object, seen_program}
 use Rattle.aos_typed.specs.declared.tree.Program.{Program as TProgram}
 use Rattle.aos_dispatch.specs.Dispatch.{firsts_by, AreFirsts, AreTables}
-use Rattle.aos_dispatch.specs.Tables.{AreFirstTables, AreMethodFirsts, chain_by, declares_some, put_all}
-use Rattle.aos_dispatch.proofs.Lists.{more}
+use Rattle.aos_dispatch.specs.Tables.{AreFirstTables, AreHeights, AreMethodFirsts, chain_by, declares_some, own_length, put_all}
+use Rattle.aos_dispatch.proofs.Lists.{at_number}
 use Rattle.aos_dispatch.proofs.Firsts.{number_is}
 
 -- the slots of a type are those of its chain
@@ -107,31 +105,6 @@ own_missing p os t seen at =
     let there = ap (λ l. slice_get l t) seen ∙ slice_get-map seen_object os t ∙ ap (option_map seen_object) at in
     ap (λ o. numbered_from (first_method p t) (methods_in o)) there
 
--- one more table
-pub table_more : (p : Program) (k : ℕ) (ts ts' : List (Vec ℕ Global)) (t : Vec ℕ Global) → ts' ≡ ts ++ t ∷ [] → t.items ≡ slots p (own_numbers p) k → map (λ v. v.items) ts ≡ map (λ j. slots p (own_numbers p) j) (range_with_len 0 k) → map (λ v. v.items) ts' ≡ map (λ j. slots p (own_numbers p) j) (range_with_len 0 (k + 1))
-table_more p k ts ts' t is one before =
-    ap (map (λ (v : Vec ℕ Global). v.items)) is
-    ∙ more (λ (v : Vec ℕ Global). v.items) ts _ t (slots p (own_numbers p) k) before one
-    ∙ sym (map-range_with_len_more (λ j. slots p (own_numbers p) j) 0 k k (omega arith))
-
--- what a type has in a slot
-slots_in : (p : Program) (tables : List (Vec ℕ Global)) (n t : ℕ) (v : Vec ℕ Global) → AreFirstTables p n tables → slice_get tables t ≡ Some v →
-    v.items ≡ slots p (own_numbers p) t
-slots_in p tables n t v are at =
-    let f : ℕ → List ℕ = λ k. slots p (own_numbers p) k in
-    let items = λ (x : Vec ℕ Global). x.items in
-    let lt : t < length (map f (range_with_len 0 n)) =
-    omega (arith, slice_get_within tables t v at, length-map tables items, ap length are) in
-    let one : Some v.items ≡ Some (f t) =
-    sym (slice_get-map items tables t ∙ ap (option_map items) at)
-    ∙ ap (λ l. slice_get l t) are
-    ∙ slice_get-get_or (map f (range_with_len 0 n)) t (f t) lt
-    ∙ ap (λ l. Some l) (get_or-map-range_with_len f 0 n t t (f t) (omega (arith, lt, length-map-range_with_len f 0 n)) (omega arith)) in
-    ap (λ o. unwrap_or o []) one
-
-slots_at : (p : Program) (tables : List (Vec ℕ Global)) (t : ℕ) (v : Vec ℕ Global) → AreTables p tables → slice_get tables t ≡ Some v → v.items ≡ slots p (own_numbers p) t
-slots_at p tables t v are at = slots_in p tables (length p.objects) t v are at
-
 module _ (p : Program) where
   -- A chain that comes to an end within so many types gives the same within one more.
   settled : (n t : ℕ) → length (chain_by p n t) < n → slots_by p (own_numbers p) n t ≡ slots_by p (own_numbers p) (suc n) t
@@ -152,29 +125,52 @@ module _ (p : Program) where
       ap (λ l. fold put_at l (own_numbers p t)) (sym (settled n b less))
       ∙ ap (λ o. fold put_at (on_base (slots_by p (own_numbers p) n) o) (own_numbers p t)) (sym is)
 
-  -- behind the methods of the base
-  pub behind_base : (tables : List (Vec ℕ Global)) (k n t b : ℕ) (v : Vec ℕ Global) (table : List ℕ) → n ≡ length p.objects → AreFirstTables p k tables →
-      base_type p t ≡ Some b → length (chain_by p n t) < n → slice_get tables b ≡ Some v → table ≡ fold put_at v.items (own_numbers p t) →
-      table ≡ slots p (own_numbers p) t
-  behind_base tables k n t b v table many are is short there made =
-      made ∙ ap (λ l. fold put_at l (own_numbers p t)) (slots_in p tables k b v are there)
-      ∙ behind (length p.objects) t b is (subst (λ m. length (chain_by p m t) < m) many short)
+-- behind the methods of the base
+pub behind_base : (q : TProgram) (heights : List ℕ) (tables : List (List ℕ)) (t b height : ℕ) (table : List ℕ) →
+    AreHeights (seen_program q) (length q.objects.items) (length q.objects.items) heights → AreFirstTables (seen_program q) t tables →
+    slice_get heights t ≡ Some height → base_type (seen_program q) t ≡ Some b → slice_get tables b ≡ Some table → height < length q.objects.items →
+    fold put_at table (own_numbers (seen_program q) t) ≡ slots (seen_program q) (own_numbers (seen_program q)) t
+behind_base q heights tables t b height table tall are at is there short =
+    let p = seen_program q in
+    let n = length q.objects.items in
+    let many : n ≡ length p.objects = sym (length-map q.objects.items seen_object) in
+    let told : height ≡ length (chain_by p n t) = at_number (λ j. length (chain_by p n j)) n t heights height tall at in
+    let ends : length (chain_by p n t) < n = omega (arith, told, short) in
+    ap (λ l. fold put_at l (own_numbers p t)) (at_number (λ k. slots p (own_numbers p) k) t b tables table are there)
+    ∙ behind p (length p.objects) t b is (subst (λ m. length (chain_by p m t) < m) many ends)
 
-pub table_is : (p : Program) (tables : List (Vec ℕ Global)) (t : ℕ) → AreTables p tables → t < length p.objects → unwrap_or (option_map (λ v. v.items) (slice_get tables t)) [] ≡ slots p (own_numbers p) t
+-- A type that declares no method puts none.
+none_seen : (ms : List TMethod) → length ms ≡ 0 → map seen_method ms ≡ []
+none_seen [] e = refl
+none_seen (m ∷ ms) e = absurd (omega (arith, e))
+
+own_nothing : (q : TProgram) (t : ℕ) (o : Option TObject) → slice_get q.objects.items t ≡ o → own_length o ≡ 0 → own_numbers (seen_program q) t ≡ []
+own_nothing q t None at e = own_missing (seen_program q) q.objects.items t refl at
+own_nothing q t (Some o) at e =
+    let p = seen_program q in
+    sym (own_there p q.objects.items t o (first_method p t) refl at refl) ∙ ap (numbered_from (first_method p t)) (none_seen o.methods.items e)
+
+pub nothing_put : (q : TProgram) (t own : ℕ) (table same : List ℕ) → own ≡ own_length (slice_get q.objects.items t) → own ≡ 0 → same ≡ table →
+    same ≡ fold put_at table (own_numbers (seen_program q) t)
+nothing_put q t own table same counted none is =
+    is ∙ ap (fold put_at table) (sym (own_nothing q t (slice_get q.objects.items t) refl (sym counted ∙ none)))
+
+pub table_is : (p : Program) (tables : List (List ℕ)) (t : ℕ) → AreTables p tables → t < length p.objects → unwrap_or (slice_get tables t) [] ≡ slots p (own_numbers p) t
 table_is p tables t are lt =
     let f : ℕ → List ℕ = λ k. slots p (own_numbers p) k in
     let n = length p.objects in
-    ap (λ o. unwrap_or o []) (sym (slice_get-map (λ (v : Vec ℕ Global). v.items) tables t)
-    ∙ ap (λ l. slice_get l t) are
+    ap (λ o. unwrap_or o []) (ap (λ l. slice_get l t) are
     ∙ slice_get-get_or (map f (range_with_len 0 n)) t (f t) (omega (arith, lt, length-map-range_with_len f 0 n)))
     ∙ get_or-map-range_with_len f 0 n t t (f t) lt (omega arith)
 
-pub method_is : (p : Program) (tables : List (Vec ℕ Global)) (t k n : ℕ) → AreTables p tables → option_and_then (λ v. slice_get v.items k) (slice_get tables t) ≡ Some n → n ≡ method_number p t k
+pub method_is : (p : Program) (tables : List (List ℕ)) (t k n : ℕ) → AreTables p tables → option_and_then (λ v. slice_get v k) (slice_get tables t) ≡ Some n → n ≡ method_number p t k
 method_is p tables t k n are e = at_table (slice_get tables t) refl e
   where
-    at_table : (o : Option (Vec ℕ Global)) → slice_get tables t ≡ o → option_and_then (λ v. slice_get v.items k) o ≡ Some n → n ≡ method_number p t k
+    at_table : (o : Option (List ℕ)) → slice_get tables t ≡ o → option_and_then (λ v. slice_get v k) o ≡ Some n → n ≡ method_number p t k
     at_table None is e = absurd (cc)
-    at_table (Some v) is e = sym (ap (λ o. unwrap_or o 0) (sym (ap (λ l. slice_get l k) (slots_at p tables t v are is)) ∙ e))
+    at_table (Some v) is e =
+        let f : ℕ → List ℕ = λ j. slots p (own_numbers p) j in
+        sym (ap (λ o. unwrap_or o 0) (sym (ap (λ l. slice_get l k) (at_number f (length p.objects) t tables v are is)) ∙ e))
 
 -- Where no type declares a method nothing stands in a slot.
 

@@ -1,8 +1,6 @@
 -- The numbers of a program's procedures, and what its types tell, as they are looked up.
 use Rattle.std.specs.Prelude.{◌≡◌, ◌≤◌, ◌^◌, ℕ, suc, ◌+◌, ◌∷◌, List, [], length, map, Option, Some, None, nat_lt, if◌then◌else◌, Bool, false}
 use Rattle.std.specs.List.{range_with_len}
-use Rattle.std.specs.declared.vec.Vec.{Vec}
-use Rattle.std.specs.declared.alloc.Global.{Global}
 use Rattle.aos_base.specs.declared.priority.Priority.{Priority}
 use Rattle.aos_base.specs.declared.priority.Priority.TheVariants.{Normal}
 use Rattle.aos_types.specs.declared.row.TypeId.{TypeId}
@@ -32,12 +30,12 @@ abbrev pub AreFirsts : Program → List ℕ → Type 0
 AreFirsts p ns = ns ≡ firsts_from (suc (length p.modules + length p.objects)) p.modules
 
 -- the methods of each type by their slots, as numbers of routines
-abbrev pub AreTables : Program → List (Vec ℕ Global) → Type 0
-AreTables p tables = map (λ v. v.items) tables ≡ map (λ k. slots p (own_numbers p) k) (range_with_len 0 (length p.objects))
+abbrev pub AreTables : Program → List (List ℕ) → Type 0
+AreTables p tables = tables ≡ map (λ k. slots p (own_numbers p) k) (range_with_len 0 (length p.objects))
 
 -- these are the numbers of the modules' first procedures, the methods of each type, the type whose body and the slot of the
 -- initializer that each type's objects have, and what runs
-pub record IsDispatch (p : Program) (ns : List ℕ) (ts : List (Vec ℕ Global)) (os is : List (Option ℕ)) (rs : List Routine) : Type 0 where
+pub record IsDispatch (p : Program) (ns : List ℕ) (ts : List (List ℕ)) (os is : List (Option ℕ)) (rs : List Routine) : Type 0 where
   pub few : length p.types ≤ 2 ^ 32
   pub firsts : AreFirsts p ns
   pub tables : AreTables p ts

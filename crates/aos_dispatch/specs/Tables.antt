@@ -1,9 +1,7 @@
 -- What the tables of types' methods are made of.
-use Rattle.std.specs.Prelude.{◌≡◌, ℕ, zero, suc, ◌+◌, nat_lt, List, [], ◌∷◌, length, map, Bool, false, ◌||◌}
+use Rattle.std.specs.Prelude.{◌≡◌, ℕ, zero, suc, ◌+◌, nat_lt, List, [], ◌∷◌, length, map, Option, Some, None, Bool, false, ◌||◌}
 use Rattle.aos_typed.specs.declared.tree.TObject.{TObject}
 use Rattle.std.specs.List.{fold, range_with_len}
-use Rattle.std.specs.declared.vec.Vec.{Vec}
-use Rattle.std.specs.declared.alloc.Global.{Global}
 use Rattle.aos_typed.specs.Numbers.{procedures_before}
 use Rattle.aos_typed.specs.Program.{Program}
 use Rattle.aos_typed.specs.Methods.{base_type, on_base, put_at, slots, own_numbers}
@@ -15,8 +13,13 @@ AreMethodFirsts p ns =
     ns ≡ firsts_by (λ o. length o.methods) (suc (length p.modules + length p.objects + procedures_before p (length p.modules))) p.objects
 
 -- the methods of the first types, so many of them
-abbrev pub AreFirstTables : Program → ℕ → List (Vec ℕ Global) → Type 0
-AreFirstTables p k tables = map (λ v. v.items) tables ≡ map (λ j. slots p (own_numbers p) j) (range_with_len 0 k)
+abbrev pub AreFirstTables : Program → ℕ → List (List ℕ) → Type 0
+AreFirstTables p k tables = tables ≡ map (λ j. slots p (own_numbers p) j) (range_with_len 0 k)
+
+-- how many methods a type itself declares, where it is there
+abbrev pub own_length : Option TObject → ℕ
+own_length None = 0
+own_length (Some o) = length o.methods.items
 
 -- one of these types declares a method
 abbrev pub declares_some : List TObject → Bool
@@ -27,6 +30,10 @@ declares_some (o ∷ os) = nat_lt 0 (length o.methods.items) || declares_some os
 abbrev pub chain_by : Program → ℕ → (type : ℕ) → List ℕ
 chain_by p zero t = []
 chain_by p (suc n) t = t ∷ on_base (chain_by p n) (base_type p t)
+
+-- how many types stand in the chains of the first types, so many of them, where no more are met than a number says
+abbrev pub AreHeights : Program → (most : ℕ) → ℕ → List ℕ → Type 0
+AreHeights p most k heights = heights ≡ map (λ j. length (chain_by p most j)) (range_with_len 0 k)
 
 -- what stands in the slots when each of these types, the last one first, has put its own methods in a table
 abbrev pub put_all : {A : Type 0} → (own : ℕ → List (ℕ × A)) → List A → List ℕ → List A

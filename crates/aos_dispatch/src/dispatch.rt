@@ -1,6 +1,6 @@
 // A program with the numbers of its procedures, the methods of its types by their slots, and all that runs in it.
 
-ghost use Rattle.std.specs.Prelude.{◌≡◌, ◌≤◌, ◌<◌, ◌^◌, [], length, slice_get, option_map, IfOk};
+ghost use Rattle.std.specs.Prelude.{◌≡◌, ◌≤◌, ◌<◌, ◌^◌, [], length, slice_get, IfOk};
 ghost use Rattle.std.specs.Option.{unwrap_or};
 ghost use Rattle.aos_types.specs.Extension as extension;
 ghost use Rattle.aos_types.specs.Table as table;
@@ -20,6 +20,7 @@ use crate::methods::{number_in, tables_of};
 use crate::nearest::{Asked, nearest_of_each, told_in};
 use crate::numbers::{after, first_number, firsts_of, method_firsts, next, number_at};
 use crate::routines::{Routine, routines_of};
+use crate::shared::Shared;
 use crate::types::type_in;
 use aos_base::Priority;
 use aos_typed::{Program, TObject, TType};
@@ -28,8 +29,8 @@ use std::alloc::{AllocError, Global};
 use std::marker::Model;
 
 // What a type has in its slots, by its number.
-fn table_in(tables: &[Vec<u32>], number: u32) -> &[u32]
-    ensures { result.now ≡ unwrap_or (option_map (λ v. v.items) (slice_get tables.now number)) [] }
+fn table_in(tables: &[Shared], number: u32) -> &[u32]
+    ensures { result.now ≡ unwrap_or (slice_get tables.now number) [] }
 {
     match tables.get(number as usize) {
         Some(table) => table.as_slice(),
@@ -38,8 +39,8 @@ fn table_in(tables: &[Vec<u32>], number: u32) -> &[u32]
 }
 
 // What it has in a slot.
-fn entry_in(tables: &[Vec<u32>], number: u32, slot: u32) -> Option<u32>
-    ensures { result ≡ slice_get (unwrap_or (option_map (λ v. v.items) (slice_get tables.now number)) []) slot }
+fn entry_in(tables: &[Shared], number: u32, slot: u32) -> Option<u32>
+    ensures { result ≡ slice_get (unwrap_or (slice_get tables.now number) []) slot }
 {
     let table = table_in(tables, number);
     match table.get(slot as usize) {
@@ -99,7 +100,7 @@ fn priority_in(objects: &[TObject], of: u32) -> Priority
 pub struct Dispatch<'a> {
     program: &'a Program,
     firsts: Vec<u32>,
-    tables: Vec<Vec<u32>>,
+    tables: Vec<Shared>,
     bodies: Vec<Option<u32>>,
     initials: Vec<Option<u32>>,
     routines: Vec<Routine<'a>>,

@@ -11,7 +11,9 @@ mod methods;
 mod nearest;
 mod numbers;
 pub mod routines;
+mod shared;
 mod types;
+mod upward;
 
 pub use awaits::{Await, awaits_of};
 pub use dispatch::Dispatch;

@@ -1,61 +1,18 @@
 // The methods of types by their slots, as numbers of routines: a type has those of its base, and its own in their place or behind.
 
-ghost use Rattle.std.specs.Prelude.{◌≡◌, ◌≤◌, ◌^◌, ◌-◌, ◌++◌, ◌∷◌, [], length, map, slice_get, Some, option_map, option_and_then, IfOk, OnOk};
+ghost use Rattle.std.specs.Prelude.{◌≡◌, ◌≤◌, ◌^◌, ◌++◌, ◌∷◌, [], length, map, slice_get, Some, option_and_then, IfOk, IfSome, OnOk};
 ghost use Rattle.std.specs.List.{fold};
-ghost use Rattle.aos_typed.specs.Methods.{base_type, put_at, numbered_from, own_numbers, slots};
-ghost use Rattle.aos_typed.specs.Numbers.{predeclared_types};
+ghost use Rattle.std.specs.Option.{option_copied};
+ghost use Rattle.aos_typed.specs.Methods.{put_at, numbered_from, own_numbers, slots};
 ghost use Rattle.aos_typed.specs.Seen.{seen_method, seen_program};
 ghost use Rattle.aos_dispatch.specs.Dispatch.{AreTables};
-ghost use Rattle.aos_dispatch.specs.Tables.{AreFirstTables, AreMethodFirsts, chain_by, declares_some};
+ghost use Rattle.aos_dispatch.specs.Tables.{AreFirstTables, AreHeights, AreMethodFirsts, declares_some, own_length};
 
 use crate::numbers::after;
-use crate::types::{PREDECLARED_TYPES, type_in};
-use aos_typed::{Program, TMethod, TObject, TType};
-use aos_types::{TypeId, TypeRow};
+use crate::shared::Shared;
+use crate::upward::{base_of, chain_of, height_in, heights_of};
+use aos_typed::{Program, TMethod, TObject};
 use std::alloc::{AllocError, Global};
-
-// The number in the program of a base that there may be.
-fn own_number(base: Option<TypeId>) -> Option<u32>
-    ensures { result ≡ option_map (λ b. b.0 - predeclared_types) base }
-{
-    match base {
-        Some(base) => Some(base.0.saturating_sub(PREDECLARED_TYPES)),
-        None => None,
-    }
-}
-
-/// The number in the program of the base of a type.
-pub fn base_of(program: &Program, t: u32) -> Option<u32>
-    requires { length program.now.types ≤ 2 ^ 32 }
-    ensures { result ≡ base_type (seen_program program.now) t }
-{
-    let Some(id) = type_in(&program.types, TType::Named(t)) else {
-        return None;
-    };
-    match program.types.row(id) {
-        TypeRow::Record(base, _) => own_number(*base),
-        TypeRow::Object(base, _) => own_number(*base),
-        _ => None,
-    }
-}
-
-// A type and its bases, each behind the one that it is the base of.
-fn chain_of(alloc: Global, program: &Program, t: u32) -> Result<Vec<u32>, AllocError>
-    requires { length program.now.types ≤ 2 ^ 32 }
-    ensures { IfOk result (λ chain. chain.items ≡
-        chain_by (seen_program program.now) (length program.now.objects.items) t) }
-{
-    let mut chain = Vec::new(alloc);
-    let mut rest = Some(t);
-    for _step in 0..program.objects.len() {
-        let Some(of) = rest else {
-            return Ok(chain);
-        };
-        chain.push(of)?;
-        rest = base_of(program, of);
-    }
-    Ok(chain)
-}
 
 // A method's number is put in its slot, or behind all slots.
 fn put_method(table: &mut Vec<u32>, slot: u32, number: u32) -> Result<(), AllocError>
@@ -136,14 +93,16 @@ fn table_of(
 }
 
 // How many methods a type itself declares.
-fn own_count(program: &Program, t: u32) -> usize {
+fn own_count(program: &Program, t: u32) -> usize
+    ensures { result ≡ own_length (slice_get program.now.objects.items t) }
+{
     match program.objects.get(t as usize) {
         Some(object) => object.methods.len(),
         None => 0,
     }
 }
 
-// What stands in the slots of a type whose base has these.
+// What stands in the slots of a type whose base has these: its own methods behind a copy of them.
 fn table_behind(
     alloc: Global,
     program: &Program,
@@ -162,63 +121,150 @@ fn table_behind(
     Ok(table)
 }
 
+// The same, which is what the base has where the type declares no method.
+#[tactic(auto, using(crate::proofs::Tables::nothing_put))]
+fn shared_behind(
+    alloc: Global,
+    program: &Program,
+    firsts: &[u32],
+    base: &Shared,
+    t: u32,
+) -> Result<Shared, AllocError>
+    requires { AreMethodFirsts (seen_program program.now) firsts.now }
+    ensures { IfOk result (λ table. table ≡
+        fold put_at base.now (own_numbers (seen_program program.now) t)) }
+{
+    let own = own_count(program, t);
+    if own == 0 {
+        let same = base.again()?;
+        return Ok(same);
+    }
+    let table = table_behind(alloc, program, firsts, base.as_slice(), t)?;
+    let all = Shared::new(alloc, table)?;
+    Ok(all)
+}
+
+// One of these tables.
+fn table_at(tables: &[Shared], of: u32) -> Option<&Shared>
+    ensures { option_copied result ≡ slice_get tables.now of }
+{
+    tables.get(of as usize)
+}
+
+// What a type's base has in its slots, where it is among these tables and the type's chain of bases comes to an end.
+#[tactic(auto, using(crate::proofs::Tables::behind_base))]
+fn base_table<'b>(
+    program: &Program,
+    heights: &[usize],
+    tables: &'b [Shared],
+    t: u32,
+) -> Option<&'b Shared>
+    requires few { length program.now.types ≤ 2 ^ 32 }
+    requires heights { AreHeights (seen_program program.now)
+        (length program.now.objects.items) (length program.now.objects.items) heights.now }
+    requires tables { AreFirstTables (seen_program program.now) t tables.now }
+    ensures { IfSome result (λ table.
+        fold put_at table.now (own_numbers (seen_program program.now) t) ≡
+        slots (seen_program program.now) (own_numbers (seen_program program.now)) t) }
+{
+    let height = height_in(heights, t)?;
+    let base = base_of(program, t)?;
+    let table = table_at(tables, base)?;
+    if height < program.objects.len() {
+        Some(table)
+    } else {
+        None
+    }
+}
+
 // The methods of a type by their slots. Where its base's are among those that are there, and the chain of bases comes to an end, only its
-// own are put, behind a copy of them.
+// own are put, behind these.
 fn table_by(
     alloc: Global,
     program: &Program,
     firsts: &[u32],
-    tables: &[Vec<u32>],
+    heights: &[usize],
+    tables: &[Shared],
     t: u32,
-) -> Result<Vec<u32>, AllocError>
+) -> Result<Shared, AllocError>
     requires few { length program.now.types ≤ 2 ^ 32 }
     requires firsts { AreMethodFirsts (seen_program program.now) firsts.now }
+    requires heights { AreHeights (seen_program program.now)
+        (length program.now.objects.items) (length program.now.objects.items) heights.now }
     requires tables { AreFirstTables (seen_program program.now) t tables.now }
-    ensures { IfOk result (λ table. table.items ≡
+    ensures { IfOk result (λ table. table ≡
         slots (seen_program program.now) (own_numbers (seen_program program.now)) t) }
 {
-    let chain = chain_of(alloc, program, t)?;
-    if chain.len() < program.objects.len() {
-        if let Some(base) = base_of(program, t) {
-            if let Some(table) = tables.get(base as usize) {
-                let all = table_behind(alloc, program, firsts, table.as_slice(), t)?;
-                return Ok(all);
-            }
-        }
+    match base_table(program, heights, tables, t) {
+        Some(base) => {
+            let all = shared_behind(alloc, program, firsts, base, t)?;
+            Ok(all)
+        },
+        None => {
+            let table = table_of(alloc, program, firsts, t)?;
+            let all = Shared::new(alloc, table)?;
+            Ok(all)
+        },
     }
-    table_of(alloc, program, firsts, t)
 }
 
 // One more table.
-fn put_table(tables: &mut Vec<Vec<u32>>, table: Vec<u32>) -> Result<(), AllocError>
+fn put_table(tables: &mut Vec<Shared>, table: Shared) -> Result<(), AllocError>
     ensures { OnOk result (tables.new.items ≡ tables.old.items ++ table ∷ []) }
 {
     tables.push(table)?;
     Ok(())
 }
 
-// The same, which walks no bases where no type declares a method.
+// The same, which is the empty one where no type declares a method.
 #[tactic(auto, using(crate::proofs::Tables::no_slots))]
 fn table_if(
     alloc: Global,
     program: &Program,
     firsts: &[u32],
-    tables: &[Vec<u32>],
+    heights: &[usize],
+    tables: &[Shared],
     t: u32,
     any: bool,
-) -> Result<Vec<u32>, AllocError>
+) -> Result<Shared, AllocError>
     requires few { length program.now.types ≤ 2 ^ 32 }
     requires firsts { AreMethodFirsts (seen_program program.now) firsts.now }
+    requires heights { AreHeights (seen_program program.now)
+        (length program.now.objects.items) (length program.now.objects.items) heights.now }
     requires tables { AreFirstTables (seen_program program.now) t tables.now }
     requires any { any ≡ declares_some program.now.objects.items }
-    ensures { IfOk result (λ table. table.items ≡
+    ensures { IfOk result (λ table. table ≡
         slots (seen_program program.now) (own_numbers (seen_program program.now)) t) }
 {
     if any {
-        table_by(alloc, program, firsts, tables, t)
+        table_by(alloc, program, firsts, heights, tables, t)
     } else {
-        Ok(Vec::new(alloc))
+        let none = Shared::new(alloc, Vec::new(alloc))?;
+        Ok(none)
     }
+}
+
+// The methods of each type by their slots, where each type has so many bases, itself among them.
+fn tables_by(
+    alloc: Global,
+    program: &Program,
+    firsts: &[u32],
+    heights: &[usize],
+) -> Result<Vec<Shared>, AllocError>
+    requires few { length program.now.types ≤ 2 ^ 32 }
+    requires few_types { length program.now.objects.items ≤ 2 ^ 26 }
+    requires firsts { AreMethodFirsts (seen_program program.now) firsts.now }
+    requires heights { AreHeights (seen_program program.now)
+        (length program.now.objects.items) (length program.now.objects.items) heights.now }
+    ensures { IfOk result (λ tables. AreTables (seen_program program.now) tables.items) }
+{
+    let any = has_methods(&program.objects);
+    let mut tables = Vec::new(alloc);
+    for number in 0..program.objects.len() {
+        let table = table_if(alloc, program, firsts, heights, &tables, number as u32, any)?;
+        put_table(&mut tables, table)?;
+    }
+    Ok(tables)
 }
 
 /// The methods of each type by their slots, where the first method of each has these numbers.
@@ -226,29 +272,25 @@ pub fn tables_of(
     alloc: Global,
     program: &Program,
     firsts: &[u32],
-) -> Result<Vec<Vec<u32>>, AllocError>
+) -> Result<Vec<Shared>, AllocError>
     requires few { length program.now.types ≤ 2 ^ 32 }
     requires few_types { length program.now.objects.items ≤ 2 ^ 26 }
     requires firsts { AreMethodFirsts (seen_program program.now) firsts.now }
     ensures { IfOk result (λ tables. AreTables (seen_program program.now) tables.items) }
 {
-    let any = has_methods(&program.objects);
-    let mut tables = Vec::new(alloc);
-    for number in 0..program.objects.len() {
-        let table = table_if(alloc, program, firsts, &tables, number as u32, any)?;
-        put_table(&mut tables, table)?;
-    }
+    let heights = heights_of(alloc, program)?;
+    let tables = tables_by(alloc, program, firsts, &heights)?;
     Ok(tables)
 }
 
 /// The number of the method that a type has in a slot. One that isn't there is in no well-typed program: there is no memory for it.
-pub fn number_in(tables: &[Vec<u32>], of: u32, slot: u32) -> Result<u32, AllocError>
-    ensures { IfOk result (λ n. option_and_then (λ table. slice_get table.items slot) (slice_get tables.now of) ≡ Some n) }
+pub fn number_in(tables: &[Shared], of: u32, slot: u32) -> Result<u32, AllocError>
+    ensures { IfOk result (λ n. option_and_then (λ table. slice_get table slot) (slice_get tables.now of) ≡ Some n) }
 {
     let Some(table) = tables.get(of as usize) else {
         return Err(AllocError);
     };
-    match table.get(slot as usize) {
+    match table.as_slice().get(slot as usize) {
         Some(number) => Ok(*number),
         None => Err(AllocError),
     }

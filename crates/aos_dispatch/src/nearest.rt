@@ -5,7 +5,7 @@ ghost use Rattle.aos_typed.specs.Methods.{initial_slot, nearest};
 ghost use Rattle.aos_typed.specs.Seen.{seen_method, seen_object, seen_program};
 ghost use Rattle.aos_dispatch.specs.Nearest.{told_at, told_by, tells_some, AreNearest};
 
-use crate::methods::base_of;
+use crate::upward::base_of;
 use aos_typed::{Program, TMethod, TObject};
 use std::alloc::{AllocError, Global};
 

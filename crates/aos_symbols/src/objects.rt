@@ -112,7 +112,7 @@ impl<'a> Env<'a> {
     }
 
     /// The scopes of an object type and its bases, each before its base's.
-    #[tactic(auto, using(crate::proofs::Opened::path_step, crate::proofs::Opened::path_none, crate::proofs::Opened::path_end))]
+    #[tactic(auto, using(crate::proofs::Opened::path_none, crate::proofs::Opened::path_end))]
     fn object_path(&self, alloc: Global, of: TypeId) -> Result<Vec<Open>, AllocError>
         ensures { IfOk result (λ path. path.items ≡
             env.object_path self.now (env.chain self.now.types of)) }

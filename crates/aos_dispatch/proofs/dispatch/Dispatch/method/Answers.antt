@@ -10,5 +10,5 @@ returns c =
     let t = c.args.of in
     let k = c.args.slot in
     method_is (seen_program c.self.inside.program.now) c.self.inside.tables.items t k c.in_ok-number.number c.self.invariant.tables
-    (ap (λ l. option_and_then (λ v. slice_get v.items k) (slice_get l t)) (sym c.deref.ensures.value) ∙ c.in_ok-number.ensures)
+    (ap (λ l. option_and_then (λ v. slice_get v k) (slice_get l t)) (sym c.deref.ensures.value) ∙ c.in_ok-number.ensures)
     ∙ ap (λ p. method_number (seen_program p) t k) c.self.view_is

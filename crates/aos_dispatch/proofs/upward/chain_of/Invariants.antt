@@ -2,7 +2,7 @@ use Rattle.std.proofs.Common.{◌≡◌, ◌-◌, ◌++◌, length}
 use Rattle.aos_typed.specs.Methods.{on_base}
 use Rattle.aos_typed.specs.Seen.{seen_program}
 use Rattle.aos_dispatch.specs.Tables.{chain_by}
-use Rattle.aos_dispatch.proofs.methods.chain_of.Given as goal
+use Rattle.aos_dispatch.proofs.upward.chain_of.Given as goal
 
 -- the chain so far, and what is left of it
 abbrev pub invariant-loop-step : goal.invariant-loop-step

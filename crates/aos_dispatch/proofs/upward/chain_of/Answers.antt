@@ -3,7 +3,7 @@ use Rattle.aos_typed.specs.Methods.{on_base}
 use Rattle.aos_typed.specs.Seen.{seen_program}
 use Rattle.aos_dispatch.specs.Tables.{chain_by}
 use Rattle.aos_dispatch.proofs.Tables.{chain_more}
-use Rattle.aos_dispatch.proofs.methods.chain_of.Goals as goal
+use Rattle.aos_dispatch.proofs.upward.chain_of.Goals as goal
 
 pub loop-step-preserved : goal.loop-step-preserved
 loop-step-preserved c =
