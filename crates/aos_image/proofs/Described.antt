@@ -1,25 +1,31 @@
 -- What describes the modules and the types of a program, one more of them, and all.
-use Rattle.std.proofs.Common.{◌≡◌, ◌<◌, ℕ, zero, suc, ◌+◌, List, [], ◌∷◌, ◌++◌, false, Some, Option, length, map, take, drop, get_or, refl, sym, ap, ◌∙◌, subst, arith}
-use Rattle.std.specs.Prelude.{slice_get}
+use Rattle.std.proofs.Common.{◌≡◌, ◌<◌, ◌≤◌, ℕ, zero, suc, ◌+◌, ◌-◌, List, [], ◌∷◌, ◌++◌, false, Some, Option, length, map, take, drop, get_or, refl, sym, ap, ◌∙◌, subst, arith}
+use Rattle.std.specs.Prelude.{slice_get, option_map}
 use Rattle.std.specs.List.{flat_map, range_with_len}
+use Rattle.std.specs.Option.{unwrap_or}
 use Rattle.std.specs.String.{string_bytes}
 use Rattle.std.specs.declared.vec.Vec.{Vec}
 use Rattle.std.specs.declared.alloc.Global.{Global}
-use Rattle.std.proofs.lemmas.List.FromFn.{map-range_with_len_more}
+use Rattle.std.proofs.lemmas.List.{length-map}
+use Rattle.std.proofs.lemmas.List.FromFn.{map-range_with_len_more, length-map-range_with_len, get_or-map-range_with_len}
+use Rattle.std.proofs.lemmas.Option.{slice_get-map, slice_get_within, slice_get-get_or}
+use Rattle.aos_types.specs.declared.row.TypeId.{TypeId}
 use Rattle.aos_types.specs.declared.row.TypeRow.{TypeRow}
 use Rattle.aos_types.specs.Shape.{leaves, row}
 use Rattle.aos_types.specs.Table.{base_of}
 use Rattle.aos_typed.specs.Numbers.{predeclared_types}
+use Rattle.aos_typed.specs.declared.tree.Program.{Program as TProgram}
 use Rattle.aos_typed.specs.declared.tree.TModule.{TModule}
 use Rattle.aos_typed.specs.Program.{Module, Program}
-use Rattle.aos_typed.specs.Seen.{seen_module}
+use Rattle.aos_typed.specs.Seen.{seen_module, seen_program}
 use Rattle.aos_code.specs.Machine.{first_cell}
 use Rattle.aos_code.specs.declared.image.ModuleDesc.{ModuleDesc}
 use Rattle.aos_code.specs.declared.image.TypeDesc.{TypeDesc}
+use Rattle.aos_code.specs.declared.instr.Kind.{Kind}
 use Rattle.aos_layout.specs.Layout.{variable_cells}
 use Rattle.aos_dispatch.proofs.Lists.{more, more_of, next_of, count_of}
-use Rattle.aos_sim.specs.Shows.{numbers_from, text_cells, first_cells, base_number}
-use Rattle.aos_image.specs.Made.{active_at, base_at, body_at, initial_at, kinds_at, methods_at, priority_at, AreModules, IsTypeOf, AreTypesOf}
+use Rattle.aos_sim.specs.Shows.{numbers_from, text_cells, first_cells, made_kinds, base_number}
+use Rattle.aos_image.specs.Made.{active_at, base_at, body_at, initial_at, kinds_at, methods_at, priority_at, AreModules, AreKindsOf, IsTypeOf, AreTypesOf}
 
 numbers-append : {A : Type 0} (k : ℕ) (xs : List A) (x : A) → numbers_from k (xs ++ x ∷ []) ≡ numbers_from k xs ++ (k + length xs) ∷ []
 numbers-append k [] x = let e : k ≡ k + 0 = omega arith in ap (λ n. n ∷ []) e
@@ -83,3 +89,24 @@ module _ {A B : Type 0} (f : Option A → B) where
 module _ (p : Program) (ts : List TypeDesc) (h : AreTypesOf p (length p.objects) ts) where
   pub bases_are : length p.types ≡ length p.objects + predeclared_types → map (λ t. t.base) ts ≡ map (λ r. base_number (base_of (Some r))) (drop predeclared_types p.types)
   bases_are beside = h.bases ∙ sym (behind (λ o. base_number (base_of o)) predeclared_types (length p.objects) p.types beside)
+
+-- the kinds of one of the first types
+pub kinds_there : (rows : List TypeRow) (ts : List TypeDesc) (count : ℕ) (b : TypeId) (one : TypeDesc) (ks : List Kind) →
+    AreKindsOf rows count ts → predeclared_types ≤ b.0 → slice_get ts (b.0 - predeclared_types) ≡ Some one → ks ≡ one.kinds.items →
+    ks ≡ made_kinds rows b
+kinds_there rows ts count b one ks are above at is =
+    let kinds = λ (t : TypeDesc). t.kinds.items in
+    let f : ℕ → List Kind = λ k. made_kinds rows (record { 0 = k }) in
+    let place = b.0 - predeclared_types in
+    let lt : place < count =
+    omega (arith, slice_get_within ts place one at, length-map ts kinds, ap length are, length-map-range_with_len f predeclared_types count) in
+    let same : Some one.kinds.items ≡ Some (f b.0) =
+    sym (slice_get-map kinds ts place ∙ ap (option_map kinds) at)
+    ∙ ap (λ l. slice_get l place) are
+    ∙ slice_get-get_or (map f (range_with_len predeclared_types count)) place (f b.0) (omega (arith, lt, length-map-range_with_len f predeclared_types count))
+    ∙ ap (λ l. Some l) (get_or-map-range_with_len f predeclared_types count place b.0 (f b.0) lt (omega (arith, above))) in
+    is ∙ ap (λ o. unwrap_or o []) same
+
+pub kinds_so_far : (q : TProgram) (count : ℕ) (ts ts' : List TypeDesc) → AreTypesOf (seen_program q) count ts → ts' ≡ ts →
+    AreKindsOf q.types count ts'
+kinds_so_far q count ts ts' are same = subst (λ l. AreKindsOf q.types count l) (sym same) are.kinds

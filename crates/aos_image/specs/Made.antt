@@ -3,6 +3,7 @@ use Rattle.std.specs.Prelude.{◌≡◌, ℕ, Bool, false, List, length, map}
 use Rattle.std.specs.List.{range_with_len}
 use Rattle.std.specs.String.{string_bytes}
 use Rattle.aos_base.specs.Priority.{number_of}
+use Rattle.aos_types.specs.declared.row.TypeRow.{TypeRow}
 use Rattle.aos_types.specs.Table.{row_of, base_of}
 use Rattle.aos_typed.specs.Methods.{body_type, initializer, priority_by, slots, own_numbers}
 use Rattle.aos_typed.specs.Numbers.{predeclared_types}
@@ -53,6 +54,11 @@ pub record IsTypeOf (p : Program) (k j : ℕ) (t : TypeDesc) : Type 0 where
   pub active : t.active ≡ active_at p k
   pub priority : t.priority ≡ priority_at p k
   pub safe : t.safe ≡ false
+
+-- these have the kinds of the first types that a program names, so many of them
+abbrev pub AreKindsOf : List TypeRow → ℕ → List TypeDesc → Type 0
+AreKindsOf rows count ts =
+    map (λ t. t.kinds.items) ts ≡ map (λ k. made_kinds rows (record { 0 = k })) (range_with_len predeclared_types count)
 
 -- these describe the first types that a program names, so many of them
 pub record AreTypesOf (p : Program) (count : ℕ) (ts : List TypeDesc) : Type 0 where

@@ -1,19 +1,20 @@
 // The types of an image: their bases, the kinds of their objects' cells, their methods by slots, and what their objects carry out.
 
-ghost use Rattle.std.specs.Prelude.{◌≡◌, ◌<◌, ◌≤◌, ◌^◌, ◌∷◌, [], ◌++◌, false, length, IfOk, OnOk};
+ghost use Rattle.std.specs.Prelude.{◌≡◌, ◌<◌, ◌≤◌, ◌+◌, ◌-◌, ◌^◌, ◌∷◌, [], ◌++◌, Some, false, length, slice_get, IfOk, IfSome, OnOk};
 ghost use Rattle.aos_types.specs.Chain.{NoneContainsItself};
 ghost use Rattle.aos_types.specs.Table.{row_of, base_of};
+ghost use Rattle.aos_typed.specs.Numbers.{predeclared_types};
 ghost use Rattle.aos_typed.specs.Seen.{seen_program};
 ghost use Rattle.aos_typed.specs.WellTyped.{IsWellTyped};
 ghost use Rattle.aos_layout.specs.Marks.{AreMade};
 ghost use Rattle.aos_sim.specs.Shows.{made_kinds, base_number};
-ghost use Rattle.aos_image.specs.Made.{AreTypesOf, active_at, body_at, initial_at, priority_at};
+ghost use Rattle.aos_image.specs.Made.{AreKindsOf, AreTypesOf, active_at, body_at, initial_at, priority_at};
 
 use aos_base::NoMemory;
 use aos_code::{Kind, TypeDesc};
 use aos_dispatch::PREDECLARED_TYPES;
 use aos_laid::Laid;
-use aos_layout::{base_number, made_kinds, made_types};
+use aos_layout::{base_number, made_kinds, made_types, object_base, object_kinds};
 use aos_typed::Program;
 use aos_types::{TypeId, Types};
 use std::alloc::{AllocError, Global};
@@ -47,22 +48,64 @@ struct Carried {
     priority: u8,
 }
 
-// The description of a type, which has these methods, and whose objects carry this out. More kinds than there are numbers of 32 bits
-// are in no well-typed program: there is no memory for them.
+// What describes a type, where it is among the first types that a program names.
+fn described(before: &[TypeDesc], of: TypeId) -> Option<&TypeDesc>
+    ensures behind { IfSome result (λ one. predeclared_types ≤ of.0) }
+    ensures there { IfSome result (λ one. slice_get before.now (of.0 - predeclared_types) ≡ Some one.now) }
+{
+    if of.0 < PREDECLARED_TYPES {
+        return None;
+    }
+    let one = before.get((of.0 - PREDECLARED_TYPES) as usize)?;
+    Some(one)
+}
+
+// The kinds of the cells of a type's objects. Those of an object type are put behind a copy of its base's, where these are there.
+fn kinds_by(
+    alloc: Global,
+    types: &Types,
+    made: &[bool],
+    before: &[TypeDesc],
+    number: u32,
+) -> Result<Vec<Kind>, NoMemory>
+    requires none_contains_itself { NoneContainsItself types.now }
+    requires few { number ≤ 2 ^ 26 }
+    requires there { number + predeclared_types < length types.now }
+    requires made { AreMade types.now made.now }
+    requires before { AreKindsOf types.now number before.now }
+    ensures { IfOk result (λ kinds. kinds.items ≡ made_kinds types.now (record { 0 = number + predeclared_types })) }
+{
+    let of = TypeId(number + PREDECLARED_TYPES);
+    let Some(base) = object_base(types, of) else {
+        return made_kinds(alloc, types, made, of);
+    };
+    match described(before, base) {
+        Some(one) => object_kinds(alloc, types, base, one.kinds.as_slice(), of),
+        None => made_kinds(alloc, types, made, of),
+    }
+}
+
+// The description of the type with this number in the program, which has these methods, and whose objects carry this out. More kinds
+// than there are numbers of 32 bits are in no well-typed program: there is no memory for them.
 fn describe_type(
     alloc: Global,
     types: &Types,
     made: &[bool],
-    of: TypeId,
+    before: &[TypeDesc],
+    number: u32,
     methods: &[u32],
     carried: Carried,
 ) -> Result<TypeDesc, NoMemory>
     requires none_contains_itself { NoneContainsItself types.now }
-    requires there { of.0 < length types.now }
+    requires few { number ≤ 2 ^ 26 }
+    requires there { number + predeclared_types < length types.now }
     requires made { AreMade types.now made.now }
-    ensures base { IfOk result (λ d. d.base ≡ base_number (base_of (row_of types.now of))) }
+    requires before { AreKindsOf types.now number before.now }
+    ensures base { IfOk result (λ d. d.base ≡
+        base_number (base_of (row_of types.now (record { 0 = number + predeclared_types })))) }
     ensures cells { IfOk result (λ d. d.cells ≡ length d.kinds.items) }
-    ensures kinds { IfOk result (λ d. d.kinds.items ≡ made_kinds types.now of) }
+    ensures kinds { IfOk result (λ d. d.kinds.items ≡
+        made_kinds types.now (record { 0 = number + predeclared_types })) }
     ensures methods { IfOk result (λ d. d.methods.items ≡ methods.now) }
     ensures initial { IfOk result (λ d. d.init ≡ carried.init) }
     ensures start { IfOk result (λ d. d.body ≡ carried.body) }
@@ -70,11 +113,11 @@ fn describe_type(
     ensures priority { IfOk result (λ d. d.priority ≡ carried.priority) }
     ensures safe { IfOk result (λ d. d.safe ≡ false) }
 {
-    let kinds = made_kinds(alloc, types, made, of)?;
+    let kinds = kinds_by(alloc, types, made, before, number)?;
     let cells = count_of(&kinds)?;
     let methods = copy_of(alloc, methods)?;
     Ok(TypeDesc {
-        base: base_number(types, of),
+        base: base_number(types, TypeId(number + PREDECLARED_TYPES)),
         cells,
         kinds,
         methods,
@@ -157,6 +200,7 @@ fn carried_of(laid: &Laid<'_>, of: u32) -> Result<Carried, AllocError>
 }
 
 /// The types that a program names. The body of a type's objects is that of its nearest base that has one, itself first.
+#[tactic(auto, using(crate::proofs::Described::kinds_so_far))]
 pub fn types_of(
     alloc: Global,
     laid: &Laid<'_>,
@@ -174,8 +218,15 @@ pub fn types_of(
     for number in 0..program.objects.len() {
         let carried = carried_of(laid, number as u32)?;
         let methods = laid.methods(number as u32);
-        let of = TypeId(number as u32 + PREDECLARED_TYPES);
-        let one = describe_type(alloc, &program.types, &made, of, methods, carried)?;
+        let one = describe_type(
+            alloc,
+            &program.types,
+            &made,
+            types.as_slice(),
+            number as u32,
+            methods,
+            carried,
+        )?;
         put_type(&mut types, one)?;
     }
     Ok(types)

@@ -3,6 +3,7 @@ pub mod Parts
 pub mod Ways
 pub mod Outcomes
 pub mod Frames
+pub mod Behind
 pub mod Blocks
 pub mod First
 pub mod Marks

@@ -17,3 +17,4 @@ pub use laws::{law_of_blocks, law_of_frames, law_of_records};
 pub use layout::{base_number, made_kinds, offset, shape};
 pub use made::made_types;
 pub use part::{base_of, row_of, scalars, variable_scalars, width};
+pub use work::{object_base, object_kinds};

@@ -1,14 +1,15 @@
 // The kinds of a type's cells, put into a list by tasks: types stand in one another as deep as there are types, and an array's
 // element is looked at once.
 
-ghost use Rattle.std.specs.Prelude.{◌≡◌, ◌<◌, ◌≤◌, ◌+◌, ◌++◌, ◌∷◌, [], List, drop, OnOk, IfOk};
+ghost use Rattle.std.specs.Prelude.{◌≡◌, ◌<◌, ◌≤◌, ◌+◌, ◌++◌, ◌∷◌, [], Some, List, true, drop, OnOk, IfOk, IfSome};
 ghost use Rattle.aos_types.specs.declared.row.TypeRow.{TypeRow};
 ghost use Rattle.aos_types.specs.Chain.{NoneContainsItself, base_list};
 ghost use Rattle.aos_types.specs.Table as table;
 ghost use Rattle.aos_layout.specs.Layout as layout;
 ghost use Rattle.aos_layout.specs.Work as work;
 
-use crate::part::{is_empty, row_of};
+use crate::part::{base_of, is_empty, row_of};
+use aos_base::NoMemory;
 use aos_code::Kind;
 use aos_types::{Basic, TypeId, TypeRow, Types};
 use std::alloc::{AllocError, Global};
@@ -197,16 +198,77 @@ fn begun(alloc: Global, t: TypeId) -> Result<Work, AllocError>
     })
 }
 
-/// The kinds of a type's cells.
-pub(crate) fn kinds_of(alloc: Global, types: &Types, t: TypeId) -> Result<Vec<Kind>, AllocError>
-    requires { NoneContainsItself types.now }
-    ensures { IfOk result (λ kinds. kinds.items ≡ layout.kinds types.now t) }
+/// What is to be done for a type's own fields, behind the kinds of its base.
+fn begun_behind(alloc: Global, above: &[Kind], t: TypeId) -> Result<Work, AllocError>
+    ensures kinds { IfOk result (λ w. w.kinds.items ≡ above.now) }
+    ensures tasks { IfOk result (λ w. w.tasks.items ≡ Task.Fields t 0 ∷ []) }
 {
-    let mut work = begun(alloc, t)?;
+    let mut kinds = Vec::new(alloc);
+    kinds.extend_from_slice(above)?;
+    let mut tasks = Vec::new(alloc);
+    tasks.push(Task::Fields(t, 0))?;
+    Ok(Work { tasks, kinds })
+}
+
+/// The kinds that are there when all tasks are done.
+fn finished(types: &Types, begun: Work) -> Result<Vec<Kind>, AllocError>
+    requires { NoneContainsItself types.now }
+    ensures { IfOk result (λ kinds. kinds.items ≡ work.outcome types.now begun) }
+{
+    let mut work = begun;
     while let Some(task) = work.tasks.pop() {
         work.put(types, task)?;
     }
     let Work { tasks, kinds } = work;
     drop(tasks);
+    Ok(kinds)
+}
+
+/// The kinds of a type's cells.
+#[tactic(auto, using(crate::proofs::Behind::kinds_begun))]
+pub(crate) fn kinds_of(alloc: Global, types: &Types, t: TypeId) -> Result<Vec<Kind>, AllocError>
+    requires { NoneContainsItself types.now }
+    ensures { IfOk result (λ kinds. kinds.items ≡ layout.kinds types.now t) }
+{
+    let first = begun(alloc, t)?;
+    let kinds = finished(types, first)?;
+    Ok(kinds)
+}
+
+/// The base of an object type, where that is an object type, too.
+pub fn object_base(types: &Types, t: TypeId) -> Option<TypeId>
+    ensures object { IfSome result (λ base. table.is_object (table.row_of types.now t) ≡ true) }
+    ensures base { IfSome result (λ base. table.base_of (table.row_of types.now t) ≡ Some base) }
+    ensures above { IfSome result (λ base. table.is_object (table.row_of types.now base) ≡ true) }
+{
+    if !is_object(types, t) {
+        return None;
+    }
+    let base = base_of(types, t)?;
+    if is_object(types, base) {
+        Some(base)
+    } else {
+        None
+    }
+}
+
+/// The kinds of the cells of an object type's objects, where these are those of its base's: a copy of them, and its own fields' behind.
+#[tactic(auto, using(crate::proofs::Behind::kinds_after))]
+pub fn object_kinds(
+    alloc: Global,
+    types: &Types,
+    base: TypeId,
+    above: &[Kind],
+    t: TypeId,
+) -> Result<Vec<Kind>, NoMemory>
+    requires none_contains_itself { NoneContainsItself types.now }
+    requires object { table.is_object (table.row_of types.now t) ≡ true }
+    requires base { table.base_of (table.row_of types.now t) ≡ Some base }
+    requires above { table.is_object (table.row_of types.now base) ≡ true }
+    requires kinds { above.now ≡ layout.made_kinds types.now base }
+    ensures { IfOk result (λ kinds. kinds.items ≡ layout.made_kinds types.now t) }
+{
+    let first = begun_behind(alloc, above, t)?;
+    let kinds = finished(types, first)?;
     Ok(kinds)
 }

@@ -1,7 +1,7 @@
 use Rattle.std.proofs.Common.{sym, ap, ◌∙◌, arith}
 use Rattle.aos_layout.specs.Work.{all_done, all_steps}
 use Rattle.aos_layout.proofs.Outcomes.{all_done_push, all_steps_push}
-use Rattle.aos_layout.proofs.work.kinds_of.Goals as goal
+use Rattle.aos_layout.proofs.work.finished.Goals as goal
 
 pub loop-task-smaller : goal.loop-task-smaller
 loop-task-smaller c =
