@@ -10,15 +10,15 @@ use crate::methods::called_value;
 use crate::news::new_call;
 use crate::out::out_selectors;
 use crate::procedures::{called_in_module, performed};
-use crate::refusals::{
-    arguments, behind_arguments, goes_on, is_selected, is_selected_behind, not_yet, refuse_behind,
-    refused,
-};
 use crate::routines::{assert_call, change_call, halt_call};
 use crate::texts::copy_call;
 use aos_base::Pos;
 use aos_designators::{is_of_module, plain};
 use aos_made_stat::MadeStat;
+use aos_stat_rules::{
+    arguments, behind_arguments, goes_on, is_selected, is_selected_behind, not_yet, refuse_behind,
+    refused,
+};
 use aos_symbols::{Breach, Env, Lookup, Meaning, NOT_EXPORTED, Routine, Symbol, UNKNOWN};
 use aos_tree::{Desig, Expr, Selector};
 use std::alloc::{AllocError, Global};

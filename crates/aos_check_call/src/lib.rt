@@ -6,10 +6,7 @@ mod methods;
 mod news;
 mod out;
 mod procedures;
-mod refusals;
 mod routines;
 mod texts;
 
 pub use calls::called;
-pub use refusals::refused;
-pub use texts::{put_text, text_to, value_fits};

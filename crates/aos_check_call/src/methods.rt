@@ -3,49 +3,18 @@
 ghost use Rattle.std.specs.Prelude.{◌≡◌, OnOk, IfOk, option_map};
 ghost use Rattle.aos_typed.specs.Seen.{seen_stat};
 ghost use Rattle.aos_symbols.specs.Breaches.{first_after};
-ghost use Rattle.aos_symbols.specs.Judged.{kept};
 ghost use Rattle.aos_designators.specs.Seen.{seen_bound, seen_part};
 ghost use Rattle.aos_check_call.specs.Calls as judge;
 
 use crate::procedures::perform;
-use crate::refusals::refused;
 use aos_base::Pos;
 use aos_check_expr::{bracketed, follow_selectors};
-use aos_designators::{Bound, Head, Part, bound_part, plain, spot_of_part};
+use aos_designators::{Bound, Head, Part, bound_part, plain};
 use aos_made_stat::MadeStat;
-use aos_symbols::{Breach, Env, Lookup, Meaning, WRONG_CALL, note};
+use aos_stat_rules::{arguments, before_last, called_spot, is_value_called};
+use aos_symbols::{Breach, Env, WRONG_CALL, note};
 use aos_tree::{Desig, Expr, Selector};
-use aos_types::TypeId;
 use std::alloc::{AllocError, Global};
-
-/// A call of what can't be called, which begins at a place.
-fn no_call(found: &mut Option<Breach>, at: Pos, of: Option<TypeId>) -> Option<MadeStat>
-    ensures noted { found.new ≡ first_after found.old (judge.no_call at of).breaches }
-    ensures answer { option_map seen_stat result ≡ (judge.no_call at of).answer }
-{
-    match of {
-        None => None,
-        Some(_) => refused(found, WRONG_CALL, at),
-    }
-}
-
-/// A call of a variable or a value, which begins at a place.
-#[tactic(auto, using(aos_symbols::proofs::Keeping::after_more))]
-fn called_spot(
-    alloc: Global,
-    found: &mut Option<Breach>,
-    env: &Env<'_>,
-    first: Pos,
-    part: Part,
-) -> Result<Option<MadeStat>, AllocError>
-    ensures noted { OnOk result (found.new ≡ first_after found.old
-        (judge.called_spot env.now first (kept (seen_part part))).breaches) }
-    ensures answer { IfOk result (λ s. option_map seen_stat s ≡
-        (judge.called_spot env.now first (kept (seen_part part))).answer) }
-{
-    let spot = spot_of_part(alloc, found, env, part)?;
-    Ok(no_call(found, first, spot.known.of))
-}
 
 /// A call of a method, or of what a value of a procedure type stands for, with these arguments.
 fn perform_bound(
@@ -103,20 +72,6 @@ fn bracketed_spot(
 {
     let called = bracketed(alloc, found, env, first, part, at, arguments)?;
     called_spot(alloc, found, env, first, called)
-}
-
-/// Whether what a bracket stands behind is a predeclared function or the name of a type, which give values.
-fn is_value_called(lookup: Lookup) -> bool
-    ensures { result ≡ judge.is_value_called lookup }
-{
-    let Lookup::Found(symbol) = lookup else {
-        return false;
-    };
-    match symbol.means {
-        Meaning::Function(_) => true,
-        Meaning::Type(of) => of.is_some(),
-        _ => false,
-    }
 }
 
 /// A bracket, which stands here, behind a name that may stand for a predeclared function.
@@ -184,13 +139,6 @@ fn called_whole(
     let selectors = desig.selectors.as_slice();
     let part = follow_selectors(alloc, found, env, first, begun, selectors)?;
     called_alone(alloc, found, env, first, part)
-}
-
-/// All selectors but the last one.
-fn before_last(selectors: &[Selector]) -> &[Selector]
-    ensures { result.now ≡ judge.before_last selectors.now }
-{
-    &selectors[..selectors.len().saturating_sub(1)]
 }
 
 /// A call of what a designator is before its last selector, which is a bracket that stands here.

@@ -1,17 +1,16 @@
 // Calls of the procedures of module Out.
 
 ghost use Rattle.std.specs.Prelude.{◌≡◌, OnOk, IfOk, option_map};
-ghost use Rattle.aos_typed.specs.Program.{Ln, Open};
 ghost use Rattle.aos_typed.specs.Seen.{seen_stat};
 ghost use Rattle.aos_symbols.specs.Breaches.{first_after};
 ghost use Rattle.aos_check_call.specs.Calls as judge;
 
-use crate::refusals::{arguments, behind_arguments, refuse_behind, refused};
 use crate::texts::text_argument;
 use aos_base::Pos;
 use aos_check_expr::{char_argument, number_argument};
 use aos_made_stat::MadeStat;
 use aos_rules::text_rows;
+use aos_stat_rules::{arguments, behind_arguments, line_call, open_call, refuse_behind, refused};
 use aos_symbols::{ARGUMENT_COUNT, Breach, Env, OTHER_KIND, UNKNOWN, is_word};
 use aos_tree::{Expr, Name, Selector};
 use std::alloc::{AllocError, Global};
@@ -86,42 +85,6 @@ fn string_call(
             let one = MadeStat::out_text(alloc, at, rows)?;
             Ok(Some(one))
         },
-        _ => Ok(refused(found, ARGUMENT_COUNT, at)),
-    }
-}
-
-/// Out.Ln of these arguments, in a call that begins at a place.
-fn line_call(
-    alloc: Global,
-    found: &mut Option<Breach>,
-    at: Pos,
-    arguments: &[Expr],
-) -> Result<Option<MadeStat>, AllocError>
-    ensures noted { OnOk result (found.new ≡
-        first_after found.old (judge.plain_call Ln at arguments.now).breaches) }
-    ensures answer { IfOk result
-        (λ s. option_map seen_stat s ≡ (judge.plain_call Ln at arguments.now).answer) }
-{
-    match arguments {
-        [] => Ok(Some(MadeStat::out_line(alloc, at)?)),
-        _ => Ok(refused(found, ARGUMENT_COUNT, at)),
-    }
-}
-
-/// Out.Open of these arguments, in a call that begins at a place.
-fn open_call(
-    alloc: Global,
-    found: &mut Option<Breach>,
-    at: Pos,
-    arguments: &[Expr],
-) -> Result<Option<MadeStat>, AllocError>
-    ensures noted { OnOk result (found.new ≡
-        first_after found.old (judge.plain_call Open at arguments.now).breaches) }
-    ensures answer { IfOk result
-        (λ s. option_map seen_stat s ≡ (judge.plain_call Open at arguments.now).answer) }
-{
-    match arguments {
-        [] => Ok(Some(MadeStat::out_open(alloc, at)?)),
         _ => Ok(refused(found, ARGUMENT_COUNT, at)),
     }
 }

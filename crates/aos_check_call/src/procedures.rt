@@ -6,12 +6,12 @@ ghost use Rattle.aos_symbols.specs.Breaches.{first_after};
 ghost use Rattle.aos_check_call.specs.Calls as judge;
 
 use crate::methods::called_value;
-use crate::refusals::{arguments, behind_arguments, goes_on, not_yet, refuse_behind, refused};
 use aos_base::Pos;
 use aos_check_expr::{arguments_for, signature_at};
 use aos_designators::{Head, Heading, member_behind};
 use aos_made::MadeCallee;
 use aos_made_stat::MadeStat;
+use aos_stat_rules::{arguments, behind_arguments, goes_on, not_yet, refuse_behind, refused};
 use aos_symbols::{Breach, Env, Lookup, Meaning, Symbol, WRONG_CALL};
 use aos_tree::{Desig, Expr, Selector};
 use aos_types::{Gives, Signature};

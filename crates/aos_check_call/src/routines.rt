@@ -7,69 +7,21 @@ ghost use Rattle.aos_symbols.specs.Breaches.{first_after};
 ghost use Rattle.aos_operators.specs.Seen.{seen_spot};
 ghost use Rattle.aos_check_call.specs.Calls as judge;
 
-use crate::refusals::refused;
 use aos_base::Pos;
 use aos_check_expr::{condition, desig_alone, designator, expr};
-use aos_designators::refuse_written;
 use aos_made::Typed;
 use aos_made_stat::MadeStat;
-use aos_operators::{Class, Spot, fits, is_number, is_set, place_of, width_of};
+use aos_operators::{Spot, place_of};
+use aos_stat_rules::{
+    arguments, changing, code_in, is_amount, is_changed_set, is_code, refuse_changed, refused,
+};
 use aos_symbols::{
     ARGUMENT_COUNT, ARGUMENT_TYPE, Breach, Env, NO_VARIABLE, NOT_CONSTANT, Routine, note,
 };
 use aos_tree::{Desig, Expr};
-use aos_typed::{Change, Literal};
+use aos_typed::Literal;
 use aos_types::TypeId;
 use std::alloc::{AllocError, Global};
-
-fn changing(routine: Routine, of: Option<TypeId>) -> Change
-    ensures { result ≡ judge.changing routine of }
-{
-    match routine {
-        Routine::Dec => Change::Subtract(width_of(of)),
-        Routine::Incl => Change::Include,
-        Routine::Excl => Change::Exclude,
-        _ => Change::Add(width_of(of)),
-    }
-}
-
-/// Whether a procedure changes a set, and not a number.
-fn is_changed_set(routine: Routine) -> bool
-    ensures { result ≡ judge.is_changed_set routine }
-{
-    matches!(routine, Routine::Incl | Routine::Excl)
-}
-
-/// Whether a variable of the one type may be changed by a value of the other: an element of any integer type, or a number that
-/// fits the variable.
-fn is_amount(routine: Routine, of: Option<TypeId>, by: Option<TypeId>) -> bool
-    ensures { result ≡ judge.is_amount routine of by }
-{
-    is_number(by) && (is_changed_set(routine) || fits(by, of))
-}
-
-/// Whether a procedure changes variables of this type.
-fn is_changed(routine: Routine, of: Option<TypeId>) -> bool
-    ensures { result ≡ judge.is_changed routine of }
-{
-    if is_changed_set(routine) {
-        is_set(of)
-    } else {
-        is_number(of)
-    }
-}
-
-/// A variable whose designator begins at `first`, and which is changed: it may be written, and is of an integer type or a set.
-#[tactic(auto, using(aos_symbols::proofs::Keeping::after_more))]
-fn refuse_changed(found: &mut Option<Breach>, routine: Routine, first: Pos, spot: &Spot)
-    ensures { found.new ≡
-        first_after found.old (judge.changed_breaches routine first (seen_spot spot.now)) }
-{
-    refuse_written(found, spot.known.class, first);
-    if !is_changed(routine, spot.known.of) {
-        note(found, ARGUMENT_TYPE, first);
-    }
-}
 
 /// What a variable of a type is changed by: 1 where no value is written.
 #[tactic(auto, using(aos_symbols::proofs::Keeping::after_more))]
@@ -181,34 +133,6 @@ pub fn change_call(
             change_at(alloc, found, env, routine, at, variable, desig, Some(value))
         },
         _ => Ok(refused(found, ARGUMENT_COUNT, at)),
-    }
-}
-
-fn code_of(value: Option<Literal>) -> Option<u8>
-    ensures { result ≡ judge.code_of value }
-{
-    match value {
-        Some(Literal::Int(n)) => u8::try_from(n).ok(),
-        _ => None,
-    }
-}
-
-fn is_code(class: Class) -> bool
-    ensures { result ≡ judge.is_code class }
-{
-    match class {
-        Class::Unknown => true,
-        Class::Constant(value) => value.is_none() || code_of(value).is_some(),
-        _ => false,
-    }
-}
-
-fn code_in(class: Class) -> u8
-    ensures { result ≡ judge.code_in class }
-{
-    match class {
-        Class::Constant(value) => code_of(value).unwrap_or(0),
-        _ => 0,
     }
 }
 

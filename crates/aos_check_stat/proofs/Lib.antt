@@ -1,5 +1,4 @@
 pub mod Rows
-pub mod Apart
 pub mod Controlled
 pub mod Narrowed
 pub mod Keeping

@@ -61,7 +61,7 @@ use Rattle.aos_check_stat.specs.Bodies.{listed, put, modifier_breaches, are_excl
 use Rattle.aos_check_call.proofs.Places.{MayBe as MayBeOf, some_breach, not_long, not_nil, not_named, IsRead, read_sound, IsAssigned, assigned_sound, told_typed, copying, putting}
 use Rattle.aos_check_call.proofs.Changed.{place_changed}
 use Rattle.aos_check_call.proofs.CallTyping.{called_sound}
-use Rattle.aos_check_stat.proofs.Apart.{between}
+use Rattle.aos_stat_rules.proofs.Apart.{between}
 use Rattle.aos_check_stat.proofs.Narrowed.{whole_within, region_whole, condition_whole, narrows_on, with_typed}
 use Rattle.aos_check_stat.proofs.Controlled.{IsControl, AreMore, control_sound, fitting_sound, step_sound, selector_sound, labels_sound}
 

@@ -15,7 +15,7 @@ use Rattle.aos_typed.specs.Program.{Expr as Typed, Stat, If, Case, While, Repeat
 use Rattle.aos_symbols.specs.declared.env.Env.{Env}
 use Rattle.aos_symbols.specs.Judged.{Judged, judged, kept, bind, walk}
 use Rattle.aos_typed.specs.Seen.{seen_place, seen_expr}
-use Rattle.aos_operators.specs.Known.{Spot, width_of}
+use Rattle.aos_operators.specs.Known.{width_of}
 use Rattle.aos_rules.specs.TypeNames.{known_type}
 use Rattle.aos_designators.specs.Designators.{guard}
 use Rattle.aos_check_expr.specs.Expressions.{condition}
@@ -61,10 +61,6 @@ module _ (e : Env) where
       bind (control e n) (λ c. bind (fitting e c.1 31 q from) (λ a. bind (fitting e c.1 48 n.pos to) (λ b.
       bind (step_of e n.pos c.1 by) (λ step. bind (listed_in in_loop ss) (λ body.
       kept (Some (For p (width_of c.1) c.0 a b step (listed body))))))))
-
-  -- the variable of a WITH, guarded with the type that is named, and that type
-  abbrev pub guarded_variable : Qualident → Pos → Qualident → Judged (Spot × Option TypeId)
-  guarded_variable a q b = bind (with_variable e a) (λ v. bind (known_type e b) (λ t. bind (guard e q v t) (λ g. kept (g, t))))
 
   abbrev pub with_of : Bool → Pos → Qualident → Pos → Qualident → List TreeStat → Judged (Option Stat)
   with_of in_loop p a q b ss =

@@ -1,6 +1,6 @@
 // AWAIT, and the exclusive blocks in which it stands.
 
-ghost use Rattle.std.specs.Prelude.{◌≡◌, ◌||◌, OnOk, IfOk, option_map};
+ghost use Rattle.std.specs.Prelude.{◌≡◌, OnOk, IfOk, option_map};
 ghost use Rattle.aos_typed.specs.Seen.{seen_stat};
 ghost use Rattle.aos_symbols.specs.Breaches.{first_after};
 ghost use Rattle.aos_check_stat.specs.Bodies as judge;
@@ -11,23 +11,6 @@ use aos_made_stat::MadeStat;
 use aos_symbols::{AWAIT_OUTSIDE, Breach, Env, note};
 use aos_tree::{Boxed, Expr};
 use std::alloc::{AllocError, Global};
-
-/// Goes into a block that is exclusive or not, and gives whether an exclusive one stands round it.
-pub fn enter_block(env: &mut Env<'_>, exclusive: bool) -> bool
-    ensures env { env.new ≡ judge.in_region (env.old.is_exclusive || exclusive) env.old }
-    ensures around { result ≡ env.old.is_exclusive }
-{
-    let around = env.is_exclusive;
-    env.is_exclusive = around || exclusive;
-    around
-}
-
-/// Goes out of a block around which an exclusive one stands or not.
-pub fn leave_block(env: &mut Env<'_>, around: bool)
-    ensures { env.new ≡ judge.in_region around env.old }
-{
-    env.is_exclusive = around;
-}
 
 /// AWAIT at a place. Its number is that among all of a program, which is told when all are met.
 #[tactic(auto, using(aos_symbols::proofs::Keeping::after_more))]

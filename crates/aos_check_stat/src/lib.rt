@@ -9,7 +9,7 @@ mod loops;
 mod modifiers;
 mod returns;
 mod statements;
-mod withs;
 
+pub use aos_stat_rules::are_exclusive;
 pub use bodies::body_of;
-pub use modifiers::{are_exclusive, priority_of};
+pub use modifiers::priority_of;

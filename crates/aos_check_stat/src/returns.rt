@@ -7,24 +7,14 @@ ghost use Rattle.aos_check_stat.specs.Bodies as judge;
 
 use crate::boxed::expr;
 use aos_base::Pos;
-use aos_check_call::refused;
 use aos_made_stat::MadeStat;
 use aos_operators::may_be_value;
 use aos_rules::{is_assignable, typed_for};
+use aos_stat_rules::{gives_here, refused};
 use aos_symbols::{Breach, Env, NOT_BUILT, WRONG_RETURN, note};
 use aos_tree::{Boxed, Expr};
 use aos_types::{Gives, TypeId};
 use std::alloc::{AllocError, Global};
-
-/// What the procedure gives in which a place stands.
-fn gives_here(env: &Env<'_>) -> Gives
-    ensures { result ≡ judge.gives_here env.now }
-{
-    match env.own_signature() {
-        Some(signature) => signature.gives,
-        None => Gives::Nothing,
-    }
-}
 
 /// The value of a RETURN, which stands at a place, in a function with a result of this type: it must fit that.
 #[tactic(auto, using(aos_symbols::proofs::Keeping::after_more))]

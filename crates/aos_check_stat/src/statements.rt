@@ -5,74 +5,30 @@ ghost use Rattle.aos_typed.specs.Program.{Arm, Arms, Cases};
 ghost use Rattle.aos_typed.specs.Seen.{seen_stat, seen_else, cases_of};
 ghost use Rattle.aos_symbols.specs.Breaches.{first_after};
 ghost use Rattle.aos_symbols.specs.Judged.{Judged};
-ghost use Rattle.aos_operators.specs.Seen.{seen_answer, seen_spot};
 ghost use Rattle.aos_check_expr.specs.Expressions as expressions;
 ghost use Rattle.aos_check_stat.specs.Bodies as judge;
 ghost use Rattle.aos_check_stat.specs.Listed as listed;
 ghost use Rattle.aos_made_stat.specs.Onto.{onto};
 
-use crate::awaits::{await_of, enter_block, leave_block};
+use crate::awaits::await_of;
 use crate::boxed::{condition, expr};
-use crate::labels::{Labels, labels_in, selector};
+use crate::labels::{labels_in, selector};
 use crate::loops::{Counted, counting};
-use crate::modifiers::{are_exclusive, refuse_modifiers};
 use crate::returns::return_of;
-use crate::withs::{enter_with, guarded_variable, leave_with, with_stat};
 use aos_base::Pos;
-use aos_check_call::{called, put_text, refused, text_to, value_fits};
+use aos_check_call::called;
 use aos_check_expr::designator;
 use aos_designators::refuse_assigned;
 use aos_made_stat::{MadeArms, MadeCases, MadeElse, MadeStat, MadeStats};
-use aos_operators::{Answer, Spot, has_parts, place_in, place_of, type_of, width_of};
-use aos_rules::typed_for;
-use aos_symbols::{Breach, EXIT_OUTSIDE, Env, UNFIT, note};
+use aos_operators::width_of;
+use aos_stat_rules::{
+    Labels, are_exclusive, assigned_stat, enter_block, enter_with, exit_of, guarded_variable,
+    leave_block, leave_with, put, refuse_modifiers, refuse_unfit, with_stat,
+};
+use aos_symbols::{Breach, Env};
 use aos_tree::{Block, Boxed, Case, Desig, Elsif, Expr, Name, Qualident, Stat, StatSeq};
 use aos_types::TypeId;
 use std::alloc::{AllocError, Global};
-
-/// A value must fit the variable, or else `:=` is refused.
-fn refuse_unfit(
-    alloc: Global,
-    found: &mut Option<Breach>,
-    env: &Env<'_>,
-    at: Pos,
-    spot: &Spot,
-    value: &Answer,
-) -> Result<(), AllocError>
-    ensures { OnOk result (found.new ≡ first_after found.old
-        (judge.assign_breaches env.now at (seen_spot spot.now) (seen_answer value.now))) }
-{
-    if !value_fits(alloc, env, spot, value)? {
-        note(found, UNFIT, at);
-    }
-    Ok(())
-}
-
-/// The assignment of a value, which begins at a place: a string constant is put in an array of characters, and a whole record or
-/// array is copied.
-fn assigned_stat(
-    alloc: Global,
-    env: &Env<'_>,
-    first: Pos,
-    spot: Spot,
-    value: Answer,
-) -> Result<MadeStat, AllocError>
-    ensures { IfOk result (λ s. seen_stat s ≡
-        judge.assigned_stat env.now first (seen_spot spot) (seen_answer value)) }
-{
-    if text_to(env, &spot, &value).is_some() {
-        return put_text(alloc, env, first, true, value, spot);
-    }
-    let to = spot.known.of;
-    let of = type_of(to);
-    if let Some(known) = to {
-        if has_parts(env, known) {
-            return MadeStat::copy(alloc, first, of, place_of(spot.held), place_in(value.typed));
-        }
-    }
-    let value = typed_for(env, to, value);
-    MadeStat::assign(alloc, first, of, place_of(spot.held), value)
-}
 
 /// An assignment, with `:=` at a place.
 #[tactic(auto, using(aos_symbols::proofs::Keeping::after_more))]
@@ -95,36 +51,6 @@ fn assign(
     let value = expr(alloc, found, env, value)?;
     refuse_unfit(alloc, found, env, at, &spot, &value)?;
     let one = assigned_stat(alloc, env, first, spot, value)?;
-    Ok(Some(one))
-}
-
-/// Puts a statement behind those before it, if it is one.
-fn put(stats: &mut MadeStats, one: Option<MadeStat>) -> Result<(), AllocError>
-    ensures { OnOk result (map seen_stat stats.new ≡
-        judge.put (map seen_stat stats.old) (option_map seen_stat one)) }
-{
-    if let Some(one) = one {
-        stats.push(one)?;
-    }
-    Ok(())
-}
-
-/// EXIT at a place, which leaves a LOOP.
-fn exit_of(
-    alloc: Global,
-    found: &mut Option<Breach>,
-    in_loop: bool,
-    at: Pos,
-) -> Result<Option<MadeStat>, AllocError>
-    ensures noted { OnOk result (found.new ≡
-        first_after found.old (judge.exit_of in_loop at).breaches) }
-    ensures answer { IfOk result
-        (λ s. option_map seen_stat s ≡ (judge.exit_of in_loop at).answer) }
-{
-    if !in_loop {
-        return Ok(refused(found, EXIT_OUTSIDE, at));
-    }
-    let one = MadeStat::exit(alloc, at)?;
     Ok(Some(one))
 }
 

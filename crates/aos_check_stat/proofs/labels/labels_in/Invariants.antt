@@ -3,7 +3,7 @@ use Rattle.std.proofs.Common.{◌≡◌, drop}
 use Rattle.aos_symbols.specs.Breaches.{first_after}
 use Rattle.aos_symbols.specs.Judged.{walk}
 use Rattle.aos_check_stat.specs.Bodies as judge
-use Rattle.aos_check_stat.specs.Taken.{AreTaken}
+use Rattle.aos_stat_rules.specs.Taken.{AreTaken}
 use Rattle.aos_check_stat.proofs.labels.labels_in.Given as goal
 
 abbrev pub invariant-loop-label : goal.invariant-loop-label

@@ -6,7 +6,7 @@ use Rattle.aos_symbols.specs.Judged.{Judged, walk}
 use Rattle.aos_typed.specs.Program.{Arms, Cases}
 use Rattle.aos_check_stat.specs.Bodies as judge
 use Rattle.aos_check_stat.specs.Listed as listed
-use Rattle.aos_check_stat.specs.Taken.{AreTaken}
+use Rattle.aos_stat_rules.specs.Taken.{AreTaken}
 use Rattle.aos_made_stat.specs.Onto.{onto}
 use Rattle.aos_check_stat.proofs.statements.+statements.Given as goal
 

@@ -4,7 +4,7 @@ ghost use Rattle.std.specs.Prelude.{◌≡◌, None, option_map};
 ghost use Rattle.aos_typed.specs.Seen.{seen_stat};
 ghost use Rattle.aos_symbols.specs.Breaches.{first_after};
 ghost use Rattle.aos_symbols.specs.Judged.{kept};
-ghost use Rattle.aos_check_call.specs.Calls as judge;
+ghost use Rattle.aos_stat_rules.specs.Calls as judge;
 
 use aos_base::Pos;
 use aos_made_stat::MadeStat;

@@ -4,8 +4,8 @@ use Rattle.std.specs.List.{list_any}
 use Rattle.std.specs.Ordering.{int_cmp, is_gt}
 use Rattle.std.proofs.lemmas.Int.{ints, to_z-of_z}
 use Rattle.aos_typed.specs.WellTyped.{meets}
-use Rattle.aos_check_stat.proofs.Apart.{last_meets}
-use Rattle.aos_check_stat.proofs.labels.Labels.meet.Goals as goal
+use Rattle.aos_stat_rules.proofs.Apart.{last_meets}
+use Rattle.aos_stat_rules.proofs.labels.Labels.meet.Goals as goal
 
 pub returns-in-Some : goal.returns-in-Some
 returns-in-Some c =

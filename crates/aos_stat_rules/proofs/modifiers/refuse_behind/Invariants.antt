@@ -1,7 +1,7 @@
 use Rattle.std.proofs.Common.{◌≡◌, drop}
 use Rattle.aos_symbols.specs.Breaches.{first_after}
-use Rattle.aos_check_stat.specs.Bodies as judge
-use Rattle.aos_check_stat.proofs.modifiers.refuse_behind.Given as goal
+use Rattle.aos_stat_rules.specs.Statements as judge
+use Rattle.aos_stat_rules.proofs.modifiers.refuse_behind.Given as goal
 
 abbrev pub invariant-loop-modifier : goal.invariant-loop-modifier
 invariant-loop-modifier l =

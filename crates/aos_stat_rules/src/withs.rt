@@ -4,8 +4,7 @@ ghost use Rattle.std.specs.Prelude.{◌≡◌, OnOk, IfOk};
 ghost use Rattle.aos_typed.specs.Seen.{seen_stat, seen_stats};
 ghost use Rattle.aos_symbols.specs.Breaches.{first_after};
 ghost use Rattle.aos_operators.specs.Seen.{seen_held, seen_spot};
-ghost use Rattle.aos_check_stat.specs.Bodies as judge;
-ghost use Rattle.aos_check_stat.specs.Listed as listed;
+ghost use Rattle.aos_stat_rules.specs.Statements as judge;
 
 use aos_base::Pos;
 use aos_designators::{Head, guard, is_module, member, named, plain, refused_at};
@@ -27,7 +26,7 @@ fn may_be_variable(lookup: Lookup) -> bool
 }
 
 /// Whether a name stands for SELF outside methods and the bodies of objects, where it stands for nothing.
-pub(crate) fn is_lone_self(env: &Env<'_>, means: Meaning) -> bool
+pub fn is_lone_self(env: &Env<'_>, means: Meaning) -> bool
     ensures { result ≡ judge.is_lone_self env.now means }
 {
     match means {
@@ -115,9 +114,9 @@ pub fn guarded_variable(
     of: Qualident,
 ) -> Result<(Spot, Option<TypeId>), AllocError>
     ensures noted { OnOk result (found.new ≡ first_after found.old
-        (listed.guarded_variable env.now name colon of).breaches) }
+        (judge.guarded_variable env.now name colon of).breaches) }
     ensures answer { IfOk result (λ r.
-        (seen_spot r.0, r.1) ≡ (listed.guarded_variable env.now name colon of).answer) }
+        (seen_spot r.0, r.1) ≡ (judge.guarded_variable env.now name colon of).answer) }
 {
     let whole = with_variable(alloc, found, env, name)?;
     let t = known_type(found, env, of);

@@ -3,8 +3,8 @@ use Rattle.std.proofs.Common.{◌≡◌, Some, arith, subst, w64, to_z, of_z}
 use Rattle.std.specs.Ordering.{int_cmp}
 use Rattle.std.specs.BTreeMap.{Updates}
 use Rattle.std.proofs.lemmas.Int.{ints, to_z-of_z}
-use Rattle.aos_check_stat.proofs.Apart.{is_least, is_no_least, taken_empty, taken_more}
-use Rattle.aos_check_stat.proofs.labels.take.Goals as goal
+use Rattle.aos_stat_rules.proofs.Apart.{is_least, is_no_least, taken_empty, taken_more}
+use Rattle.aos_stat_rules.proofs.labels.take.Goals as goal
 
 pub returns-in_ok-insert : goal.returns-in_ok-insert
 returns-in_ok-insert c = λ ls taken apart.

@@ -15,7 +15,7 @@ use Rattle.std.proofs.lemmas.Option.{none-some}
 use Rattle.std.proofs.lemmas.List.Folds.{list_any-append}
 use Rattle.aos_typed.specs.declared.tree.LabelRange.{LabelRange}
 use Rattle.aos_typed.specs.WellTyped.{meets, AreApart}
-use Rattle.aos_check_stat.specs.Taken.{AreTaken, range}
+use Rattle.aos_stat_rules.specs.Taken.{AreTaken, range}
 
 abbrev Ends : Type 0
 Ends = BTreeMap ℤ ℤ
