@@ -11,7 +11,7 @@ use aos_base::Pos;
 use aos_check_expr::{bracketed, follow_selectors};
 use aos_designators::{Bound, Head, Part, bound_part, plain};
 use aos_made_stat::MadeStat;
-use aos_stat_rules::{arguments, before_last, called_spot, is_value_called};
+use aos_stat_rules::{before_last, called_spot, is_value_called};
 use aos_symbols::{Breach, Env, WRONG_CALL, note};
 use aos_tree::{Desig, Expr, Selector};
 use std::alloc::{AllocError, Global};

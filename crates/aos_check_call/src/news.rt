@@ -14,8 +14,8 @@ use aos_made::MadeArguments;
 use aos_made_stat::{MadeExprs, MadeStat};
 use aos_operators::{Class, Spot, place_of};
 use aos_stat_rules::{
-    arguments, initializer_of, is_no_variable, made_type, makes_object, may_be_length,
-    refuse_count, refuse_new, refused,
+    initializer_of, is_no_variable, made_type, makes_object, may_be_length, refuse_count,
+    refuse_new, refused,
 };
 use aos_symbols::{ARGUMENT_COUNT, Breach, Env, Method, NOT_BUILT, WRONG_NEW, note};
 use aos_tree::{Desig, Expr};

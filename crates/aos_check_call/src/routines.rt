@@ -13,7 +13,7 @@ use aos_made::Typed;
 use aos_made_stat::MadeStat;
 use aos_operators::{Spot, place_of};
 use aos_stat_rules::{
-    arguments, changing, code_in, is_amount, is_changed_set, is_code, refuse_changed, refused,
+    changing, code_in, is_amount, is_changed_set, is_code, refuse_changed, refused,
 };
 use aos_symbols::{
     ARGUMENT_COUNT, ARGUMENT_TYPE, Breach, Env, NO_VARIABLE, NOT_CONSTANT, Routine, note,

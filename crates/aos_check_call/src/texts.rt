@@ -12,7 +12,7 @@ use aos_check_expr::{desig_alone, designator, expr};
 use aos_made_stat::MadeStat;
 use aos_operators::Answer;
 use aos_rules::may_be_text;
-use aos_stat_rules::{arguments, copied, refused};
+use aos_stat_rules::{copied, refused};
 use aos_symbols::{ARGUMENT_COUNT, ARGUMENT_TYPE, Breach, Env, NO_VARIABLE, note};
 use aos_tree::{Desig, Expr};
 use std::alloc::{AllocError, Global};

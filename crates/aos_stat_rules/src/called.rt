@@ -8,7 +8,7 @@ ghost use Rattle.aos_stat_rules.specs.Calls as judge;
 ghost use Rattle.aos_symbols.specs.Judged.{kept};
 ghost use Rattle.aos_designators.specs.Seen.{seen_part};
 
-use crate::refusals::{arguments, refused};
+use crate::refusals::refused;
 use aos_base::Pos;
 use aos_designators::{Part, spot_of_part};
 use aos_made_stat::MadeStat;

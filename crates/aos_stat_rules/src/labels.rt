@@ -42,7 +42,7 @@ impl Labels {
     {
         Labels {
             all: Vec::new(alloc),
-            pub taken: BTreeMap::new(alloc),
+            taken: BTreeMap::new(alloc),
         }
     }
 
