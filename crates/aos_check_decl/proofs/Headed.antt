@@ -6,10 +6,10 @@ use Rattle.aos_symbols.specs.declared.breach.Breach.{Breach}
 use Rattle.aos_symbols.specs.declared.env.Env.{Env}
 use Rattle.aos_symbols.specs.Judged.{bind, walk}
 use Rattle.aos_symbols.specs.Declarations.{procedures, type_defs}
-use Rattle.aos_check_decl.specs.Methods.{overriding}
+use Rattle.aos_check_types.specs.Methods.{overriding}
 use Rattle.aos_check_decl.specs.Headings.{declared, inner_from, procedures_from, methods_from, headings}
-use Rattle.aos_check_decl.specs.Told.{Told}
-use Rattle.aos_check_decl.proofs.Telling.{then_told}
+use Rattle.aos_check_types.specs.Told.{Told}
+use Rattle.aos_check_types.proofs.Telling.{then_told}
 
 pub headings_told : (e : Env) (ds : List Decl) {m0 m1 m2 m3 m4 m5 : Option Breach} {e1 e2 e3 e4 e5 : Env} {k n : ℕ} {rs ts us : List TypeDef} →
     Told (walk declared e ds) m0 m1 e1 → rs ≡ type_defs ds → Told (inner_from e1 1 rs) m1 m2 e2 → k ≡ suc (length (type_defs ds)) →

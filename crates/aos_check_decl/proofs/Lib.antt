@@ -1,9 +1,7 @@
 pub mod Steps
 pub mod Rows
-pub mod TypingLists
 pub mod TypingScopes
 pub mod TypingNames
-pub mod TypingClaims
 pub mod TypingFields
 pub mod TypingTelling
 pub mod TypingTypes
@@ -12,27 +10,18 @@ pub mod TypingProcedures
 pub mod TypingEntries
 pub mod TypingTargets
 pub mod TypingAliases
-pub mod TypingTables
-pub mod TypingLimits
 pub mod Initials
 pub mod TypingOnce
 pub mod TypingSlots
 pub mod ObjectTypes
 pub mod TypingDefined
 pub mod TypingObjects
-pub mod TypingStays
 pub mod TypingWalks
 pub mod TypingWhole
 pub mod Typing
-pub mod Ahead
-pub mod Targets
 pub mod Forms
 pub mod Parameters
-pub mod Scalars
-pub mod Judging
-pub mod Telling
 pub mod Numbers
 pub mod Counted
 mod Headed
 pub mod Methodless
-pub mod Coming

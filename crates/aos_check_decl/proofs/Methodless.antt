@@ -9,7 +9,7 @@ use Rattle.aos_symbols.specs.Judged.{kept, bind}
 use Rattle.aos_symbols.specs.Env as env
 use Rattle.aos_symbols.specs.Declarations.{methods_in}
 use Rattle.aos_check_decl.specs.Headings.{procedures_from, within_type, defined_type, type_methods}
-use Rattle.aos_check_decl.specs.Told.{Told}
+use Rattle.aos_check_types.specs.Told.{Told}
 
 pub nothing : {A : Type 0} (xs : List A) (n : ℕ) → n ≡ 0 + length xs → n ≡ 0 → xs ≡ []
 nothing [] n e z = refl

@@ -14,8 +14,8 @@ use Rattle.aos_symbols.specs.Home.{changed, add_signature}
 use Rattle.aos_symbols.specs.Env.{innermost, within, back_at}
 use Rattle.aos_symbols.proofs.Paths.{past}
 use Rattle.aos_check_decl.specs.Headings.{with_variable, with_parameters, with_signature, heading_met, declared, locals_in}
-use Rattle.aos_check_decl.specs.Told.{Told}
-use Rattle.aos_check_decl.proofs.Telling.{bound}
+use Rattle.aos_check_types.specs.Told.{Told}
+use Rattle.aos_check_types.proofs.Telling.{bound}
 
 -- one more parameter
 pub parameters_step : (e : Env) (ps : List Parameter) (i : ℕ) (d : Parameter) → i < length ps →

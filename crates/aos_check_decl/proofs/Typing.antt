@@ -41,25 +41,25 @@ use Rattle.aos_symbols.proofs.Holds.{Holds, none_left, none_right}
 use Rattle.aos_symbols.proofs.Told.{IsTold, IsKnown, GoOn, known_on, told_behind, PartsAreTold, HasFields, FieldsAgree}
 use Rattle.aos_check_expr.proofs.Opens.{IsVariableNumber, OpensStand}
 use Rattle.aos_check_expr.proofs.Whole.{IsWritten}
-use Rattle.aos_check_decl.specs.declared.aliases.Target.{Target}
-use Rattle.aos_check_decl.specs.Aliases.{first_rows, follow, targets}
+use Rattle.aos_check_types.specs.declared.aliases.Target.{Target}
+use Rattle.aos_check_types.specs.Aliases.{first_rows, follow, targets}
 use Rattle.aos_check_decl.specs.Headings.{headings}
-use Rattle.aos_check_decl.specs.Limits as limits
+use Rattle.aos_check_types.specs.Limits as limits
 use Rattle.aos_check_decl.specs.Pass.{own_numbers, entered, begun, declare}
 use Rattle.aos_check_decl.proofs.Initials.{HasInitials, headings_once}
-use Rattle.aos_check_decl.proofs.TypingLists.{mapped_at}
+use Rattle.aos_check_types.proofs.TypingLists.{mapped_at}
 use Rattle.aos_check_decl.proofs.TypingScopes.{variables_of, variables_at, scope_at}
 use Rattle.aos_check_decl.proofs.TypingEntries.{scope_fresh, procedure_there}
-use Rattle.aos_check_decl.proofs.TypingLimits.{result_scalar, result_kept, variables_kept, few_from}
+use Rattle.aos_check_types.proofs.TypingLimits.{result_scalar, result_kept, variables_kept, few_from}
 use Rattle.aos_check_decl.proofs.TypingProcedures.{types_of, HasResult, HasMade, IsHeaded}
 use Rattle.aos_check_decl.proofs.TypingTargets.{AreLed, IsGiven, targets_sound}
 use Rattle.aos_check_decl.proofs.TypingTypes.{Telling}
 use Rattle.aos_entries.specs.Entries.{number_at}
-use Rattle.aos_check_decl.specs.Methods.{slot_meant, defined_type, definition_breaches, definition_slots}
+use Rattle.aos_check_types.specs.Methods.{slot_meant, defined_type, definition_breaches, definition_slots}
 use Rattle.aos_check_decl.proofs.ObjectTypes.{IsObject}
-use Rattle.aos_check_decl.proofs.TypingStays.{all_same}
+use Rattle.aos_check_types.proofs.TypingStays.{all_same}
 use Rattle.aos_check_decl.proofs.TypingAliases.{IsProper}
-use Rattle.aos_check_decl.proofs.TypingClaims.{base_fits, told_closed}
+use Rattle.aos_made_types.proofs.TypingClaims.{base_fits, told_closed}
 use Rattle.aos_check_decl.proofs.TypingDefined.{own_found}
 use Rattle.aos_check_decl.proofs.TypingFields.{IsObjectRow}
 use Rattle.aos_check_decl.proofs.TypingHeadings.{is_name}
@@ -69,7 +69,7 @@ use Rattle.aos_check_decl.proofs.TypingWalks.{MayBeOpen, told_below, own_first, 
 use Rattle.aos_check_decl.proofs.TypingWhole as whole
 use Rattle.aos_check_decl.proofs.TypingWhole.{AreOld}
 pub use Rattle.aos_check_decl.proofs.TypingScopes.{AreGood}
-pub use Rattle.aos_check_decl.proofs.TypingLimits.{variable_cells}
+pub use Rattle.aos_check_types.proofs.TypingLimits.{variable_cells}
 
 -- The table of types behind whole modules: the basic types come first, all others are written, rows name types that are there, and types are
 -- as those of a program are to be.

@@ -14,10 +14,11 @@ use Rattle.aos_types.specs.Table.{row_of, is_object, is_open}
 use Rattle.aos_types.specs.Chain.{parts_of, IsOneOf, IsPartOf, IsRanked, NoneContainsItself}
 use Rattle.aos_types.proofs.Ranks.{IsNumber, is_number, ranked}
 use Rattle.aos_symbols.proofs.Told.{IsTold, basic, of_any, defined, told_behind}
-use Rattle.aos_check_decl.specs.declared.aliases.Target.{Target}
-use Rattle.aos_check_decl.specs.declared.aliases.Target.TheVariants.{Own, Of, Nothing}
-use Rattle.aos_check_decl.specs.Aliases.{nil, target_at, step, follow, proper, stands_for, first_row, first_rows}
-use Rattle.aos_check_decl.proofs.TypingLists.{get_behind}
+use Rattle.aos_check_types.specs.declared.aliases.Target.{Target}
+use Rattle.aos_check_types.specs.declared.aliases.Target.TheVariants.{Own, Of, Nothing}
+use Rattle.aos_symbols.specs.Env.{nil}
+use Rattle.aos_check_types.specs.Aliases.{target_at, step, follow, proper, stands_for, first_row, first_rows}
+use Rattle.aos_check_types.proofs.TypingLists.{get_behind}
 use Rattle.aos_check_decl.proofs.TypingTargets.{IsMeant}
 
 no_target : {t : Target} → None ≡ Some t → ⊥

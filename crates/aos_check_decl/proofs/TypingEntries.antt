@@ -23,7 +23,7 @@ use Rattle.aos_entries.specs.Entries.{among, module_named, meant, number_at, unm
 use Rattle.aos_entries.proofs.Entered.{inner_long}
 use Rattle.aos_symbols.proofs.Each.{Each, joined, each_at}
 use Rattle.aos_symbols.proofs.Found.{found_is}
-use Rattle.aos_check_decl.proofs.TypingLists.{get_behind, get_below}
+use Rattle.aos_check_types.proofs.TypingLists.{get_behind, get_below}
 
 -- the names of the scopes
 abbrev pub own_names : List ℕ → List Home → List (Option TypeId) → Module → List Named

@@ -25,10 +25,10 @@ use Rattle.aos_symbols.proofs.Told.{IsTold, basic, of_any, defined, GoOn, told_b
 use Rattle.aos_check_expr.proofs.Opens.{IsVariableNumber, IsOpenAt, OpensStand, some_there}
 use Rattle.aos_check_expr.proofs.Whole.{IsWritten}
 use Rattle.aos_check_decl.specs.Types.{fields_of, with_field}
-use Rattle.aos_check_decl.specs.Limits.{may_be_target}
-use Rattle.aos_check_decl.proofs.TypingClaims.{IsAskedBase, IsAskedObject, IsAskedTarget, IsAskedResult, AllBases, AllObjectBases, more_bases, more_object_bases, target_bases, target_object_bases, result_bases, result_object_bases, result_more, base_more, base_behind, object_more, object_behind, target_more, AreOfBase, AreOfObject}
+use Rattle.aos_check_types.specs.Limits.{may_be_target}
+use Rattle.aos_made_types.proofs.TypingClaims.{IsAskedBase, IsAskedObject, IsAskedTarget, IsAskedResult, AllBases, AllObjectBases, more_bases, more_object_bases, target_bases, target_object_bases, result_bases, result_object_bases, result_more, base_more, base_behind, object_more, object_behind, target_more, AreOfBase, AreOfObject}
 use Rattle.aos_check_decl.proofs.TypingScopes.{variables_at}
-use Rattle.aos_check_decl.proofs.TypingLists.{set_here, set_other, set_gives, push_gives, get_below}
+use Rattle.aos_check_types.proofs.TypingLists.{set_here, set_other, set_gives, push_gives, get_below}
 
 -- The variables of a scope behind fields of one type.
 

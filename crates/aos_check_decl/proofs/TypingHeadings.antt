@@ -37,14 +37,14 @@ use Rattle.aos_check_expr.specs.Expressions.{constant}
 use Rattle.aos_check_expr.proofs.Typing.{HasGood}
 use Rattle.aos_check_expr.proofs.Typing.{constant_good as good_value}
 use Rattle.aos_check_decl.specs.Types.{met, type_in}
-use Rattle.aos_check_decl.specs.Aliases.{nil}
+use Rattle.aos_symbols.specs.Env.{nil}
 use Rattle.aos_check_decl.specs.Types as types
 use Rattle.aos_check_decl.specs.Types.{Met, MembersMet}
 use Rattle.aos_check_decl.specs.Headings as judge
 use Rattle.aos_check_decl.proofs.ObjectTypes.{IsObject}
 use Rattle.aos_check_decl.proofs.TypingScopes.{AllGood, IsMore, no_more, same_more, more_and_more, variable_more, variable_good, variable_records, constant_more, constant_good, constant_records, IsOutside, variables_at, scope_at, more_elsewhere, fields_more, fields_here, fields_other, fields_good, fields_records, constant_same, variable_other}
 use Rattle.aos_check_decl.proofs.TypingTypes.{Telling, IsSearched, IsSlotted, IsFit, IsBeyond, beyond_on, fit_beyond, IsMet, is_written, type_sound, other_none, IsOther, good_constants, base_sound, part_lost, each_of, chosen}
-use Rattle.aos_check_decl.proofs.TypingClaims.{IsBaseMet, base_met, claims_of_object}
+use Rattle.aos_made_types.proofs.TypingClaims.{IsBaseMet, base_met, claims_of_object}
 
 abbrev pub is_name : TypeExpr → Bool
 is_name (type.Named q) = true

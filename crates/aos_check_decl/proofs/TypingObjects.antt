@@ -20,7 +20,7 @@ use Rattle.aos_symbols.proofs.Records.{lookup_here, lookup_other}
 use Rattle.aos_check_expr.proofs.Opens.{some_there}
 use Rattle.aos_check_decl.proofs.ObjectTypes.{IsObject}
 use Rattle.aos_check_decl.proofs.TypingEntries.{inner_at}
-use Rattle.aos_check_decl.proofs.TypingLists.{get_below}
+use Rattle.aos_check_types.proofs.TypingLists.{get_below}
 use Rattle.aos_check_decl.proofs.TypingScopes.{names_of, names_at}
 use Rattle.aos_check_decl.proofs.TypingFields.{AreApart}
 

@@ -21,7 +21,7 @@ use Rattle.aos_symbols.specs.Declarations.{def_names, constants_in, types_in, si
 use Rattle.aos_check_names.specs.Names.{module_names, declared_again, twice_after, twice, other_end, object_end, within_decl, within_decls, within_types, within_type, name_breaches}
 use Rattle.aos_symbols.proofs.Each.{Each, joined, front, back, implied, each_at}
 use Rattle.aos_symbols.proofs.Holds.{none_left, none_right, test_is}
-use Rattle.aos_check_decl.proofs.TypingLists.{get_below, get_behind}
+use Rattle.aos_check_types.proofs.TypingLists.{get_below, get_behind}
 
 module _ (text : List ℕ) where
   abbrev pub AreApart : Name → Name → Type 0

@@ -25,10 +25,10 @@ use Rattle.aos_symbols.specs.Scope.{Scope}
 use Rattle.aos_symbols.specs.Env as env
 use Rattle.aos_symbols.proofs.Each.{Each, joined, implied}
 use Rattle.aos_symbols.proofs.Holds.{Holds, holds_bind, none_left, none_right, test_is}
-use Rattle.aos_check_decl.specs.Methods.{definition_breaches, with_all_slots}
+use Rattle.aos_check_types.specs.Methods.{definition_breaches, with_all_slots}
 use Rattle.aos_check_decl.specs.Headings as judge
 use Rattle.aos_check_decl.specs.Headings.{HeadingMet}
-use Rattle.aos_check_decl.proofs.TypingLists.{get_below, get_behind}
+use Rattle.aos_check_types.proofs.TypingLists.{get_below, get_behind}
 use Rattle.aos_check_decl.proofs.TypingScopes.{behind, variables_at, IsOutside, more_elsewhere}
 use Rattle.aos_check_decl.proofs.TypingTypes.{Telling, IsSearched, IsFit, fit_beyond, IsHead, head_sound}
 pub use Rattle.aos_check_decl.proofs.TypingTypes.{HasResult}

@@ -8,7 +8,7 @@ use Rattle.aos_symbols.specs.Scope.{Named, Scope}
 use Rattle.aos_symbols.specs.Home.{Home, changed, add_constant, add_variable, set_variables}
 use Rattle.aos_symbols.proofs.Each.{Each, joined}
 use Rattle.aos_check_expr.proofs.Typing.{HasGood}
-use Rattle.aos_check_decl.proofs.TypingLists.{set_here, set_other, set_kept, set_gives, mapped_at}
+use Rattle.aos_check_types.proofs.TypingLists.{set_here, set_other, set_kept, set_gives, mapped_at}
 
 abbrev pub AreGood : List Constant → Type 0
 AreGood cs = Each (λ (c : Constant). HasGood c.value) cs

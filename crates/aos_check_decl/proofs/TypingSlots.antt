@@ -23,7 +23,7 @@ use Rattle.aos_symbols.specs.Env as env
 use Rattle.aos_symbols.proofs.Each.{Each, front, back, implied}
 use Rattle.aos_symbols.proofs.Found.{found_is, each_found, some_found}
 use Rattle.aos_check_decl.specs.Headings.{slot_meant, slot_in}
-use Rattle.aos_check_decl.proofs.TypingLists.{get_below}
+use Rattle.aos_check_types.proofs.TypingLists.{get_below}
 use Rattle.aos_check_decl.proofs.TypingScopes.{names_of, names_at, scope_at}
 use Rattle.aos_check_decl.proofs.TypingTypes.{Telling, IsSearched}
 use Rattle.aos_check_decl.proofs.TypingHeadings.{is_name, HasSlot}

@@ -25,10 +25,10 @@ use Rattle.aos_symbols.specs.Env as env
 use Rattle.aos_symbols.proofs.Each.{Each}
 use Rattle.aos_symbols.proofs.Holds.{Holds, holds_bind, none_first}
 use Rattle.aos_symbols.proofs.Told.{IsTold, basic, of_any, IsKnown}
-use Rattle.aos_check_decl.specs.declared.aliases.Target.{Target}
-use Rattle.aos_check_decl.specs.declared.aliases.Target.TheVariants.{Own, Of, Nothing}
+use Rattle.aos_check_types.specs.declared.aliases.Target.{Target}
+use Rattle.aos_check_types.specs.declared.aliases.Target.TheVariants.{Own, Of, Nothing}
 use Rattle.aos_check_decl.specs.Types.{named_type}
-use Rattle.aos_check_decl.specs.Aliases.{target_of, later, led_by, with_target, inner_targets, targets}
+use Rattle.aos_check_types.specs.Aliases.{target_of, later, led_by, with_target, inner_targets, targets}
 use Rattle.aos_check_decl.specs.Pass.{own_numbers, entered}
 use Rattle.aos_check_decl.proofs.TypingNames.{IsBasicNumber, IsSearchedIn, AreOthersNamed, all_named_in, named_sound}
 use Rattle.aos_check_decl.proofs.TypingEntries.{scopes_typed}

@@ -16,12 +16,12 @@ use Rattle.aos_symbols.specs.Declarations.{single_variables, inner_decls}
 use Rattle.aos_symbols.specs.Scope.{Named, Scope}
 use Rattle.aos_symbols.specs.Home.{Home, add_record, object_of}
 use Rattle.aos_check_decl.specs.Types as judge
-use Rattle.aos_check_decl.specs.Aliases.{nil}
-use Rattle.aos_check_decl.specs.Limits.{may_be_target}
+use Rattle.aos_symbols.specs.Env.{nil}
+use Rattle.aos_check_types.specs.Limits.{may_be_target}
 use Rattle.aos_check_decl.proofs.ObjectTypes.{IsObject}
 use Rattle.aos_check_decl.proofs.TypingNames.{IsBasicNumber, AreOwnNamed, AreOthersNamed}
 use Rattle.aos_check_decl.proofs.TypingScopes.{AreGood, names_at, variables_at}
-use Rattle.aos_check_decl.proofs.TypingClaims.{AreOfBase, AreOfObject, IsAskedResult}
+use Rattle.aos_made_types.proofs.TypingClaims.{AreOfBase, AreOfObject, IsAskedResult}
 use Rattle.aos_check_decl.proofs.TypingFields.{IsNoRecord, IsRow, Leads}
 
 -- no object type has this number

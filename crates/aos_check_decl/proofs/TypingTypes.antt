@@ -52,13 +52,13 @@ use Rattle.aos_check_expr.specs.Expressions.{constant}
 use Rattle.aos_check_expr.proofs.Typing.{HasGood, GoodConstants}
 use Rattle.aos_check_expr.proofs.Typing.{constant_good as good_value}
 use Rattle.aos_check_decl.specs.Types as judge
-use Rattle.aos_check_decl.specs.Formals as heading
-use Rattle.aos_check_decl.specs.Formals.{FormalsMet, formals_met, HeadingMet, heading_met}
+use Rattle.aos_made_types.specs.Formals as heading
+use Rattle.aos_made_types.specs.Formals.{FormalsMet, formals_met, HeadingMet, heading_met}
 use Rattle.aos_check_decl.specs.Types.{Met, met, named_type, FieldsMet, fields_met, MembersMet, members_met}
-use Rattle.aos_check_decl.specs.Limits.{may_be_target}
+use Rattle.aos_check_types.specs.Limits.{may_be_target}
 use Rattle.aos_check_decl.proofs.TypingNames.{IsSearchedIn, all_named_in, named_sound}
 use Rattle.aos_check_decl.proofs.TypingScopes.{AreGood, AllGood, names_at}
-use Rattle.aos_check_decl.proofs.TypingClaims.{IsAskedResult, IsBaseMet, claims_of_base, base_met}
+use Rattle.aos_made_types.proofs.TypingClaims.{IsAskedResult, IsBaseMet, claims_of_base, base_met}
 use Rattle.aos_check_decl.proofs.TypingFields.{IsNoRecord, IsRow, OfResult, Leads, field_variables}
 pub use Rattle.aos_check_decl.proofs.TypingTelling.{IsBareAmong, Telling}
 

@@ -26,17 +26,18 @@ use Rattle.aos_symbols.specs.Home.{Home}
 use Rattle.aos_symbols.specs.declared.home.ObjectScope.{ObjectScope}
 use Rattle.aos_entries.specs.Entries.{number_at, scopes, objects_of}
 use Rattle.aos_symbols.proofs.Told.{IsTold, basic, of_any, defined, IsFormalType, IsKnown, GoOn, known_on, told_behind, get_front, get_end}
-use Rattle.aos_check_decl.specs.declared.aliases.Target.{Target}
-use Rattle.aos_check_decl.specs.declared.aliases.Target.TheVariants.{Own, Of, Nothing}
-use Rattle.aos_check_decl.specs.Aliases.{nil, follow, stands_for, first_rows, numbers}
+use Rattle.aos_check_types.specs.declared.aliases.Target.{Target}
+use Rattle.aos_check_types.specs.declared.aliases.Target.TheVariants.{Own, Of, Nothing}
+use Rattle.aos_symbols.specs.Env.{nil}
+use Rattle.aos_check_types.specs.Aliases.{follow, stands_for, first_rows, numbers}
 use Rattle.aos_check_expr.proofs.Opens.{IsVariableNumber, some_there}
 use Rattle.aos_check_decl.specs.Types.{fields_of}
-use Rattle.aos_check_decl.specs.Limits.{may_be_target}
-use Rattle.aos_check_decl.proofs.TypingLists.{set_other, set_gives, push_gives, get_below}
+use Rattle.aos_check_types.specs.Limits.{may_be_target}
+use Rattle.aos_check_types.proofs.TypingLists.{set_other, set_gives, push_gives, get_below}
 use Rattle.aos_check_decl.proofs.TypingScopes.{AreGood}
 use Rattle.aos_check_decl.proofs.TypingNames.{IsBasicNumber}
-use Rattle.aos_check_decl.proofs.TypingClaims.{AllBases, AllObjectBases, more_bases, more_object_bases, target_bases, target_object_bases, result_bases, result_object_bases, AreOfBase, AreOfObject}
-use Rattle.aos_check_decl.proofs.TypingTables.{AllBelow}
+use Rattle.aos_made_types.proofs.TypingClaims.{AllBases, AllObjectBases, more_bases, more_object_bases, target_bases, target_object_bases, result_bases, result_object_bases, AreOfBase, AreOfObject}
+use Rattle.aos_check_types.proofs.TypingTables.{AllBelow}
 use Rattle.aos_check_decl.proofs.TypingEntries.{scopes_typed}
 use Rattle.aos_check_decl.proofs.TypingTypes.{Telling}
 use Rattle.aos_check_decl.proofs.TypingFields.{Stands, Leads, IsRow, row_implied, IsGivenResult, agree_result, AreKept, set_keeps, push_keeps, Agree, set_on, more_some, agree_set, agree_push, agree_open, agree_target, agree_record_set, agree_record_push, agree_object_set, AreApart, AreFilled, objects_set, objects_push, objects_scopes, objects_placed}

@@ -33,25 +33,25 @@ use Rattle.aos_symbols.proofs.Each.{Each}
 use Rattle.aos_symbols.proofs.Told.{IsTold, GoOn, told_behind, IsLength, IsBase, IsObjectBase, IsResultType, AreToldParts, PartsAreTold}
 use Rattle.aos_check_expr.proofs.Opens.{IsOpenAt, OpensStand}
 use Rattle.aos_check_expr.proofs.Whole.{IsWritten}
-use Rattle.aos_check_decl.specs.declared.aliases.Target.{Target}
-use Rattle.aos_check_decl.specs.declared.aliases.Target.TheVariants.{Own, Of, Nothing}
-use Rattle.aos_check_decl.specs.Aliases.{first_row, first_rows, follow}
+use Rattle.aos_check_types.specs.declared.aliases.Target.{Target}
+use Rattle.aos_check_types.specs.declared.aliases.Target.TheVariants.{Own, Of, Nothing}
+use Rattle.aos_check_types.specs.Aliases.{first_row, first_rows, follow}
 use Rattle.aos_check_decl.specs.Headings.{headings}
-use Rattle.aos_check_decl.specs.Limits as limits
-use Rattle.aos_check_decl.specs.Limits.{may_be_target}
+use Rattle.aos_check_types.specs.Limits as limits
+use Rattle.aos_check_types.specs.Limits.{may_be_target}
 use Rattle.aos_check_decl.specs.Pass.{entered}
-use Rattle.aos_check_decl.proofs.TypingLists.{get_below, get_behind, mapped_at}
+use Rattle.aos_check_types.proofs.TypingLists.{get_below, get_behind, mapped_at}
 use Rattle.aos_check_decl.proofs.TypingScopes.{AreGood, AllGood}
 use Rattle.aos_check_decl.proofs.TypingTypes.{Telling, IsSearched, IsFit}
-use Rattle.aos_check_decl.proofs.TypingClaims.{claim_kept, AllBases, AllObjectBases, no_bases, no_object_bases, base_kept, object_kept, target_kept, bases_same, bases_other, bases_long, target_high, told_closed, told_on}
+use Rattle.aos_made_types.proofs.TypingClaims.{claim_kept, AllBases, AllObjectBases, no_bases, no_object_bases, base_kept, object_kept, target_kept, bases_same, bases_other, bases_long, target_high, told_closed, told_on}
 use Rattle.aos_check_decl.proofs.TypingFields.{Stands, Leads, OfResult, IsGivenResult, IsBaseAsked, IsObjectAsked, AreAskedParts, PartsAreAsked, asked_written, IsObjectRow, IsFilled}
 use Rattle.aos_check_decl.proofs.TypingObjects.{fields_at}
 use Rattle.aos_check_decl.proofs.TypingProcedures.{IsHeaded, headings_sound}
 use Rattle.aos_check_decl.proofs.TypingEntries.{scope_fresh}
 use Rattle.aos_check_decl.proofs.TypingTargets.{AreLed, IsGiven}
 use Rattle.aos_check_decl.proofs.TypingAliases.{IsProper, IsSound, rows_at, first_row_at, told_first, ends}
-use Rattle.aos_check_decl.proofs.TypingTables.{AllBelow, all_within}
-use Rattle.aos_check_decl.proofs.TypingLimits.{type_kept, asked_kept, flag_is, none_circular, result_scalar}
+use Rattle.aos_check_types.proofs.TypingTables.{AllBelow, all_within}
+use Rattle.aos_check_types.proofs.TypingLimits.{type_kept, asked_kept, flag_is, none_circular, result_scalar}
 use Rattle.aos_check_decl.proofs.TypingOnce.{module_alike, inner_types_alike, procedures_alike}
 use Rattle.aos_check_decl.proofs.TypingSlots.{own_slots, inner_slots, procedures_slots}
 use Rattle.aos_check_decl.proofs.TypingWalks.{told_below, GoesTo, IsKept, HasSlot, first, standing, count, table_long, sound, meant_below, place_meant, outline, told, all_numbers, told_numbers, object_number}

@@ -23,9 +23,9 @@ use Rattle.aos_symbols.specs.Home.{add_signature}
 use Rattle.aos_symbols.specs.Env as env
 pub use Rattle.aos_check_decl.specs.Variables.{with_constant, constant_def, with_variable, with_variables}
 use Rattle.aos_check_decl.specs.Types.{Met, named_type, type_in}
-use Rattle.aos_check_decl.specs.Aliases.{nil}
-pub use Rattle.aos_check_decl.specs.Formals.{opened, FormalsMet, formals_met, with_section, given, HeadingMet, heading_met, formals_in, result_in}
-pub use Rattle.aos_check_decl.specs.Methods.{slot_meant, slot_in, defined_type, overriding}
+use Rattle.aos_symbols.specs.Env.{nil}
+pub use Rattle.aos_made_types.specs.Formals.{opened, FormalsMet, formals_met, with_section, given, HeadingMet, heading_met, formals_in, result_in}
+pub use Rattle.aos_check_types.specs.Methods.{slot_meant, slot_in, defined_type, overriding}
 
 -- Types.
 

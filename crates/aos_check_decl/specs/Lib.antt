@@ -1,11 +1,4 @@
 pub mod Variables
-pub mod Met
-pub mod Told
-pub mod Formals
 pub mod Types
-pub mod Aliases
-pub mod Ahead
-pub mod Methods
 pub mod Headings
-pub mod Limits
 pub mod Pass

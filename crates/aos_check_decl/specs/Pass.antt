@@ -10,10 +10,10 @@ use Rattle.aos_symbols.specs.Declarations.{all_type_defs}
 use Rattle.aos_symbols.specs.Home.{Home}
 use Rattle.aos_entries.specs.Entries.{home_of}
 use Rattle.aos_symbols.specs.Env as env
-use Rattle.aos_check_decl.specs.declared.aliases.Target.{Target}
-use Rattle.aos_check_decl.specs.Aliases.{targets, numbers, first_rows}
+use Rattle.aos_check_types.specs.declared.aliases.Target.{Target}
+use Rattle.aos_check_types.specs.Aliases.{targets, numbers, first_rows}
 use Rattle.aos_check_decl.specs.Headings.{headings}
-use Rattle.aos_check_decl.specs.Limits.{limits}
+use Rattle.aos_check_types.specs.Limits.{limits}
 
 -- each definition of a type with its own number, of which the first is this
 abbrev pub own_numbers : (first count : ℕ) → List (Option TypeId)

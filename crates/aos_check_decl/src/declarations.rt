@@ -2,17 +2,16 @@
 
 ghost use Rattle.std.specs.Prelude.{◌≡◌, OnOk};
 ghost use Rattle.aos_symbols.specs.Judged.{walk};
-ghost use Rattle.aos_check_decl.specs.Told.{Tells};
+ghost use Rattle.aos_check_types.specs.Told.{Tells};
 ghost use Rattle.aos_check_decl.specs.Types as types;
 ghost use Rattle.aos_check_decl.specs.Headings as judge;
 
-use crate::aliases::NIL;
-use crate::methods::defined_type;
 use crate::types::type_in;
 use aos_base::NoMemory;
 use aos_check_expr::constant;
+use aos_check_types::defined_type;
 use aos_rules::named_type;
-use aos_symbols::{Breach, Constant, Env};
+use aos_symbols::{Breach, Constant, Env, NIL};
 use aos_tree::{ConstDef, Decl, TypeDef, TypeExpr, VarDef};
 use aos_types::{TypeId, TypeRow};
 use std::alloc::{AllocError, Global};

@@ -4,13 +4,12 @@ ghost use Rattle.std.specs.Prelude.{◌≡◌, ◌+◌, ◌<◌, ◌≤◌, ◌^
 ghost use Rattle.aos_symbols.specs.Breaches.{first_after};
 ghost use Rattle.aos_symbols.specs.Declarations.{all_type_defs};
 ghost use Rattle.aos_symbols.specs.Env as env_of;
-ghost use Rattle.aos_check_decl.specs.Told.{Tells};
+ghost use Rattle.aos_check_types.specs.Told.{Tells};
 ghost use Rattle.aos_check_decl.specs.Pass as judge;
 
-use crate::aliases::{Target, add_rows, numbers_of, targets_of};
-use crate::limits::limits;
 use crate::procedures::{count_types, headings};
 use aos_base::NoMemory;
+use aos_check_types::{Target, add_rows, judge_limits, numbers_of, targets_of};
 use aos_entries::{home_of, inner_parts};
 use aos_symbols::{Breach, Env, Home, Open};
 use aos_tree::{Decl, Items, Module};
@@ -191,7 +190,7 @@ fn fill<'a>(
     start(alloc, found, env, text, tree)?;
     let decls = tree.decls.as_slice();
     headings(alloc, found, env, decls)?;
-    limits(alloc, found, env, first, decls)
+    judge_limits(alloc, found, env, first, decls)
 }
 
 /// The second pass over a module behind these in load order, whose types these are: constants, types and headings, with the

@@ -4,14 +4,14 @@ ghost use Rattle.std.specs.Prelude.{◌≡◌, ◌+◌, ◌&&◌, [], true, fals
 ghost use Rattle.std.specs.Option.{is_none};
 ghost use Rattle.aos_symbols.specs.Breaches.{first_after};
 ghost use Rattle.aos_symbols.specs.Declarations.{procedures, seen_types, type_defs};
-ghost use Rattle.aos_check_decl.specs.Told.{Tells};
+ghost use Rattle.aos_check_types.specs.Told.{Tells};
 ghost use Rattle.aos_check_decl.specs.Headings as judge;
 
 use crate::declarations::{add_variable, declare_all, declare_types};
-use crate::formals::{formals_in, result_in};
-use crate::methods::{defined_type, overriding};
 use aos_base::{NoMemory, Pos};
+use aos_check_types::{defined_type, next, overriding};
 use aos_entries::{inner_decls, type_definitions};
+use aos_made_types::{formals_in, result_in};
 use aos_symbols::{Breach, Env, Open, WRONG_INITIALIZER, note};
 use aos_tree::{Decl, Formals, Items, TypeDef};
 use aos_types::{Parameter, Signature, TypeId};
@@ -86,16 +86,6 @@ fn procedure_in(
     let mut signature = formals_in(alloc, found, env, formals)?;
     signature.is_initializer = initializer.is_some();
     locals_in(alloc, found, env, scope, signature, decls)
-}
-
-/// The next number.
-pub(crate) fn next(number: u32) -> Result<u32, NoMemory>
-    ensures { IfOk result (λ n. n ≡ number + 1) }
-{
-    match number.checked_add(1) {
-        Some(next) => Ok(next),
-        None => Err(NoMemory),
-    }
 }
 
 /// Whether an initializer may stand behind a procedure.

@@ -33,7 +33,7 @@ use Rattle.aos_symbols.specs.Scope.{Scope, empty, with_constant as with_value, w
 use Rattle.aos_symbols.specs.Home.{Home, changed, set_variables}
 use Rattle.aos_check_expr.specs.Expressions.{constant}
 use Rattle.aos_check_decl.specs.Types.{Met, met, refused_type, FieldsMet, fields_met, placed, array_of, inner_arrays, arrays, lengths_of, open_of, array_in, is_empty, with_record, base_in, field_names, placed_record, are_parts_known, record_in, claiming, target_claims, pointer_to, is_no_target, type_place, pointer_behind, MembersMet, members_met, with_members, object_slot, object_in, named_type, type_in, members_in, member_in, variables_in, held_in, pointer_in, fields_in, field_in}
-use Rattle.aos_check_decl.specs.Formals.{opened, FormalsMet, formals_met, with_section, HeadingMet, formals_in, result_in, row_of_formals, placed_row, result_claims, with_formals, procedure_in}
+use Rattle.aos_made_types.specs.Formals.{opened, FormalsMet, formals_met, with_section, HeadingMet, formals_in, result_in, row_of_formals, placed_row, result_claims, with_formals, procedure_in}
 use Rattle.aos_check_decl.specs.Headings.{with_variable, with_variables, constant_def, type_def, variable_def, settled, declared, inner_declared, types_within, inner_from, with_parameters, marked, with_signature, locals_in, procedure, procedures_from, within_type, type_methods, methods_from, headings, slot_in, defined_type}
 use Rattle.aos_check_decl.specs.Pass.{begun, declare}
 

@@ -29,7 +29,7 @@ use Rattle.aos_symbols.specs.Home.{Home, slot_at}
 use Rattle.aos_symbols.specs.Scope.{Named, Scope, find, is_procedure, place_of, places_in}
 use Rattle.aos_symbols.specs.Env as env
 use Rattle.aos_symbols.proofs.Holds.{test_is}
-use Rattle.aos_check_decl.specs.Methods.{may_override, signature_of, override_breaches, method_breaches}
+use Rattle.aos_check_types.specs.Methods.{may_override, signature_of, override_breaches, method_breaches}
 use Rattle.aos_check_decl.proofs.Typing.{AreReady, HasHeading}
 use Rattle.aos_compile.specs.Modules.{procedure_of, procedures_of, variables_of, slotted, method_beside}
 use Rattle.aos_compile.proofs.MethodNames.{IsInner, AreOnce, once_first, once_rest}

@@ -12,7 +12,7 @@ use Rattle.aos_typed.specs.Program.{Procedure, Method, Program}
 use Rattle.aos_typed.specs.WellTyped.{Overrides, AreSlots}
 use Rattle.aos_symbols.specs.Scope.{Named, Scope, has, with_name, with_names}
 use Rattle.aos_symbols.proofs.Told.{get_front, get_end}
-use Rattle.aos_check_decl.proofs.TypingLists.{set_here, set_other}
+use Rattle.aos_check_types.proofs.TypingLists.{set_here, set_other}
 
 abbrev pub Word : Type 0
 Word = List ℕ

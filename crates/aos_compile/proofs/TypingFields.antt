@@ -27,7 +27,7 @@ use Rattle.aos_symbols.proofs.Each.{Each, each_at}
 use Rattle.aos_symbols.proofs.Told.{IsTold, AreToldParts, PartsAreTold, HasFields, FieldsAgree, get_front}
 use Rattle.aos_operators.proofs.Sound.{not_both}
 use Rattle.aos_check_expr.proofs.Whole.{has_fields}
-use Rattle.aos_check_decl.proofs.TypingLists.{get_behind}
+use Rattle.aos_check_types.proofs.TypingLists.{get_behind}
 use Rattle.aos_compile.proofs.TypingTypes.{RowsStay, there_stays}
 
 -- The fields of a record are those of its base and its own, however many bases are looked at, where these are enough; and they stay

@@ -30,7 +30,7 @@ use Rattle.aos_symbols.specs.Env.{chain_by, chain_behind, chain}
 use Rattle.aos_operators.specs.Known.{object_number}
 use Rattle.aos_symbols.proofs.Told.{get_front}
 use Rattle.aos_check_decl.proofs.Typing.{AreReady}
-use Rattle.aos_check_decl.proofs.TypingLists.{set_other}
+use Rattle.aos_check_types.proofs.TypingLists.{set_other}
 use Rattle.aos_compile.proofs.Nearest.{initializer_is}
 use Rattle.aos_types.specs.Signature.{may_stand}
 use Rattle.aos_compile.proofs.Overriding.{overrides}

@@ -43,7 +43,7 @@ use Rattle.aos_operators.specs.Known.{object_number}
 use Rattle.aos_operators.proofs.Inside.{Inside}
 use Rattle.aos_check_expr.proofs.Opens.{some_there, stand_fall}
 use Rattle.aos_check_expr.proofs.Whole.{IsWhole}
-use Rattle.aos_check_decl.specs.Methods.{defined_type, method_breaches, type_breaches, definition_breaches}
+use Rattle.aos_check_types.specs.Methods.{defined_type, method_breaches, type_breaches, definition_breaches}
 use Rattle.aos_check_decl.specs.Pass.{declare}
 use Rattle.aos_check_decl.proofs.Typing.{variable_cells, IsDeclared, declare_sound}
 use Rattle.aos_check_decl.proofs.TypingEntries.{inner_at}

@@ -21,7 +21,7 @@ use Rattle.aos_symbols.specs.Env.{object_among}
 use Rattle.aos_symbols.proofs.Each.{Each, each_at}
 use Rattle.aos_symbols.proofs.Holds.{none_left, none_right}
 use Rattle.aos_symbols.proofs.Told.{get_front}
-use Rattle.aos_check_decl.specs.Methods.{defined_type, type_slots, definition_slots}
+use Rattle.aos_check_types.specs.Methods.{defined_type, type_slots, definition_slots}
 use Rattle.aos_check_decl.proofs.TypingEntries.{inner_at}
 use Rattle.aos_compile.specs.Modules.{Beside, defined_object, beside_in, object_in}
 use Rattle.aos_compile.proofs.MethodNames.{IsInner, is_inner, AreOnceIn}

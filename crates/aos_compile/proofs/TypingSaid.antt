@@ -25,7 +25,7 @@ use Rattle.aos_symbols.proofs.Each.{Each}
 use Rattle.aos_symbols.proofs.Holds.{Holds, holds_bind}
 use Rattle.aos_operators.specs.Known.{object_number}
 use Rattle.aos_check_expr.proofs.Whole.{IsWhole}
-use Rattle.aos_check_decl.specs.Methods.{defined_type}
+use Rattle.aos_check_types.specs.Methods.{defined_type}
 use Rattle.aos_check_decl.proofs.Typing.{IsHeading, HasHeading}
 use Rattle.aos_check_stat.specs.Bodies.{listed, body_of, priority_of}
 use Rattle.aos_compile.specs.Modules.{Beside, spelling, field_spellings, object_body, has_active, body_with, bodies_from, first_scope, object_procedure, slotted, method_beside, methods_of, defined_object, beside_in}

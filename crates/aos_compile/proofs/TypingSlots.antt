@@ -25,9 +25,9 @@ use Rattle.aos_symbols.specs.Env.{object_among}
 use Rattle.aos_symbols.proofs.Told.{get_front}
 use Rattle.aos_operators.specs.Known.{object_number}
 use Rattle.aos_check_expr.proofs.Opens.{some_there, stand_fall}
-use Rattle.aos_check_decl.specs.Methods.{method_breaches}
+use Rattle.aos_check_types.specs.Methods.{method_breaches}
 use Rattle.aos_check_decl.proofs.Typing.{AreReady, HasHeading}
-use Rattle.aos_check_decl.proofs.TypingLists.{get_behind}
+use Rattle.aos_check_types.proofs.TypingLists.{get_behind}
 use Rattle.aos_compile.specs.Modules.{Beside, object_of as object_beside, objects_from, procedures_of, slotted, method_beside, methods_of, first_scope}
 use Rattle.aos_compile.proofs.MethodNames.{copies, AreOnce, filter_copies}
 use Rattle.aos_compile.proofs.MethodsGrow.{bases_high}

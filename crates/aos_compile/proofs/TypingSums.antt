@@ -12,9 +12,9 @@ use Rattle.aos_typed.specs.Numbers.{id_of}
 use Rattle.aos_typed.specs.Program.{Variable, Module}
 use Rattle.aos_symbols.specs.Scope.{Scope}
 use Rattle.aos_symbols.specs.Home.{Home}
-use Rattle.aos_check_decl.specs.Limits.{counted, variables_of, scalars_of}
+use Rattle.aos_check_types.specs.Limits.{counted, variables_of, scalars_of}
 use Rattle.aos_check_decl.proofs.Typing.{AreReady, variable_cells}
-use Rattle.aos_check_decl.proofs.TypingLimits.{counted_is}
+use Rattle.aos_check_types.proofs.TypingLimits.{counted_is}
 use Rattle.aos_compile.proofs.TypingHomes.{AreHomes}
 use Rattle.aos_compile.proofs.TypingScalars.{sum_stays, sum_typed}
 use Rattle.aos_compile.proofs.TypingTypes.{RowsStay}

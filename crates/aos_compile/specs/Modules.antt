@@ -41,7 +41,7 @@ use Rattle.aos_arguments.specs.Filled.{filled_texts}
 use Rattle.aos_check_names.specs.Names.{name_breaches}
 use Rattle.aos_symbols.specs.Env as env
 use Rattle.aos_operators.specs.Known.{type_as, type_of}
-use Rattle.aos_check_decl.specs.Methods.{defined_type}
+use Rattle.aos_check_types.specs.Methods.{defined_type}
 use Rattle.aos_check_decl.specs.Pass.{declare}
 use Rattle.aos_unnamed.specs.Unnamed.{is_given}
 use Rattle.aos_check_stat.specs.Bodies.{listed, are_exclusive, body_of, priority_of}

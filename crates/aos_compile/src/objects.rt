@@ -16,7 +16,7 @@ ghost use Rattle.aos_compile.specs.Seen.{seen_beside, seen_bodies};
 use crate::fields::type_names;
 use crate::procedures::{first_scope, is_exclusive_body, procedures_of};
 use aos_base::{Pos, Priority};
-use aos_check_decl::defined_type;
+use aos_check_types::defined_type;
 use aos_check_stat::{body_of, priority_of};
 use aos_entries::{inner_decls, inner_parts, type_definitions};
 use aos_symbols::{Breach, Env, Home, ObjectScope, is_active, word};

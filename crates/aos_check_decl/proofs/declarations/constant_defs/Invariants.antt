@@ -2,7 +2,7 @@
 use Rattle.std.proofs.Common.{drop}
 use Rattle.aos_symbols.specs.Judged.{walk}
 use Rattle.aos_check_decl.specs.Headings as judge
-use Rattle.aos_check_decl.proofs.Telling.{Leads}
+use Rattle.aos_check_types.proofs.Telling.{Leads}
 use Rattle.aos_check_decl.proofs.declarations.constant_defs.Given as goal
 
 abbrev pub invariant-loop-def : goal.invariant-loop-def

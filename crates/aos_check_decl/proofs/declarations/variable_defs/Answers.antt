@@ -1,7 +1,7 @@
 -- One part more, and none.
 use Rattle.aos_symbols.specs.Judged.{walk}
 use Rattle.aos_check_decl.specs.Headings as judge
-use Rattle.aos_check_decl.proofs.Telling.{walk_on, walk_done}
+use Rattle.aos_check_types.proofs.Telling.{walk_on, walk_done}
 use Rattle.aos_check_decl.proofs.declarations.variable_defs.Goals as goal
 
 pub loop-def-preserved : goal.loop-def-preserved

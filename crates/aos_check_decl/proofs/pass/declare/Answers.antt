@@ -3,7 +3,7 @@ use Rattle.std.proofs.Common.{length, subst}
 use Rattle.std.proofs.lemmas.Result.{IfOk-from_err}
 use Rattle.aos_symbols.specs.declared.env.Env.{Env}
 use Rattle.aos_check_decl.specs.Pass.{declare, filled}
-use Rattle.aos_check_decl.specs.Told.{Told}
+use Rattle.aos_check_types.specs.Told.{Told}
 use Rattle.aos_check_decl.proofs.pass.declare.Goals as goal
 
 pub returns-in_err-env-clause-noted : goal.returns-in_err-env-clause-noted

@@ -3,10 +3,10 @@ use Rattle.std.proofs.Common.{◌≡◌, List, refl, ap₂, ◌∙◌, subst}
 use Rattle.std.proofs.lemmas.Result.{IfOk-from_err, IfOk-weaker}
 use Rattle.aos_tree.specs.declared.decl.Decl.{Decl}
 use Rattle.aos_symbols.specs.Judged.{kept}
-use Rattle.aos_check_decl.specs.Aliases.{targets}
+use Rattle.aos_check_types.specs.Aliases.{targets}
 use Rattle.aos_check_decl.specs.Pass.{numbered, started}
-use Rattle.aos_check_decl.specs.Told.{Told}
-use Rattle.aos_check_decl.proofs.Telling.{then_told}
+use Rattle.aos_check_types.specs.Told.{Told}
+use Rattle.aos_check_types.proofs.Telling.{then_told}
 use Rattle.aos_check_decl.proofs.pass.start.Goals as goal
 
 pub returns-in_err-targets : goal.returns-in_err-targets

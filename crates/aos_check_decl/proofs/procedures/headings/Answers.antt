@@ -2,9 +2,9 @@
 use Rattle.std.proofs.Common.{◌+◌, add-one, length, ap, ◌∙◌}
 use Rattle.std.proofs.lemmas.Result.{IfOk-weaker}
 use Rattle.aos_symbols.specs.Declarations.{seen_types, type_defs}
-use Rattle.aos_check_decl.specs.Methods.{overriding}
+use Rattle.aos_check_types.specs.Methods.{overriding}
 use Rattle.aos_check_decl.specs.Headings.{headings}
-use Rattle.aos_check_decl.specs.Told.{Told}
+use Rattle.aos_check_types.specs.Told.{Told}
 use Rattle.aos_check_decl.proofs.Headed.{headings_told}
 use Rattle.aos_check_decl.proofs.procedures.headings.Goals as goal
 

@@ -3,7 +3,7 @@ use Rattle.std.proofs.Common.{ap, ◌∙◌}
 use Rattle.aos_symbols.specs.Env.{back_at}
 use Rattle.aos_symbols.specs.Home.{Home}
 use Rattle.aos_check_decl.specs.Headings.{with_parameters, with_signature, heading_met, locals_in}
-use Rattle.aos_check_decl.specs.Told.{Told}
+use Rattle.aos_check_types.specs.Told.{Told}
 use Rattle.aos_check_decl.proofs.Parameters.{locals_bound}
 use Rattle.aos_check_decl.proofs.procedures.locals_in.Goals as goal
 

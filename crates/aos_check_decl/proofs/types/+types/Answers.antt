@@ -5,8 +5,8 @@ use Rattle.aos_tree.specs.declared.decl.TypeExpr.{TypeExpr}
 use Rattle.aos_types.specs.declared.row.TypeId.{TypeId}
 use Rattle.aos_symbols.specs.Judged.{kept, bind, walk}
 use Rattle.aos_check_decl.specs.Types as judge
-use Rattle.aos_check_decl.specs.Told.{Told, Tells}
-use Rattle.aos_check_decl.proofs.Telling.{then_tells, kept_tells, tells_as}
+use Rattle.aos_check_types.specs.Told.{Told, Tells}
+use Rattle.aos_check_types.proofs.Telling.{then_tells, kept_tells, tells_as}
 use Rattle.aos_check_decl.proofs.Forms.{array_met, open_met, record_met, member_variables, object_written, pointer_met}
 use Rattle.aos_check_decl.proofs.types.+types.Goals as goal
 use Rattle.aos_check_decl.proofs.types.+types.Goals.{type_in-else-is_empty-via-then-is_empty+else-not-may_be_open, type_in-else-is_empty-via-else-is_empty}

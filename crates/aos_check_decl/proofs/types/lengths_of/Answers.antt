@@ -2,7 +2,7 @@
 use Rattle.std.proofs.Common.{Some, [], refl}
 use Rattle.aos_symbols.specs.Judged.{kept, walk}
 use Rattle.aos_check_decl.specs.Types as judge
-use Rattle.aos_check_decl.proofs.Telling.{then_told, walk_on, walk_done}
+use Rattle.aos_check_types.proofs.Telling.{then_told, walk_on, walk_done}
 use Rattle.aos_check_decl.proofs.types.lengths_of.Goals as goal
 
 pub loop-part-preserved : goal.loop-part-preserved

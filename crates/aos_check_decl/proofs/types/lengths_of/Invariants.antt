@@ -2,7 +2,7 @@
 use Rattle.std.proofs.Common.{drop, Some, []}
 use Rattle.aos_symbols.specs.Judged.{walk}
 use Rattle.aos_check_decl.specs.Types as judge
-use Rattle.aos_check_decl.proofs.Telling.{Leads}
+use Rattle.aos_check_types.proofs.Telling.{Leads}
 use Rattle.aos_check_decl.proofs.types.lengths_of.Given as goal
 
 abbrev pub invariant-loop-part : goal.invariant-loop-part

@@ -1,7 +1,0 @@
--- The loop over the parameters of one kind.
-use Rattle.std.proofs.Common.{◌≡◌, ◌++◌}
-use Rattle.std.proofs.Math.ListN.{replicate}
-use Rattle.aos_check_decl.proofs.formals.add_parameters.Given as goal
-
-abbrev pub invariant-loop : goal.invariant-loop
-invariant-loop l = l.parameters ≡ l.initial.parameters ++ replicate l.counter l.parameter

@@ -1,7 +1,0 @@
-use Rattle.std.proofs.Common.{◌≡◌, map, take}
-use Rattle.aos_symbols.specs.declared.env.Claim.TheVariants as claims
-use Rattle.aos_check_decl.specs.Types as judge
-use Rattle.aos_check_decl.proofs.objects.claim_own_fields.Given as goal
-
-abbrev pub invariant-loop-decl : goal.invariant-loop-decl
-invariant-loop-decl l = l.env ≡ judge.claiming (map (λ n. claims.Field n l.base) (judge.own_fields (take l.decl-index l.decls))) l.initial.env

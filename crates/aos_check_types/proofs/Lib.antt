@@ -1,0 +1,10 @@
+pub mod TypingLists
+pub mod TypingTables
+pub mod TypingLimits
+pub mod TypingStays
+pub mod Ahead
+pub mod Targets
+pub mod Scalars
+pub mod Judging
+pub mod Telling
+pub mod Coming

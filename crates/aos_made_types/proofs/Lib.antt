@@ -1,0 +1,2 @@
+pub mod TypingClaims
+pub mod Untyped

@@ -1,0 +1,6 @@
+pub mod Met
+pub mod Formals
+pub mod Arrays
+pub mod Records
+pub mod Pointers
+pub mod Objects
