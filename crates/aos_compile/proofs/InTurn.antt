@@ -14,8 +14,9 @@ use Rattle.aos_symbols.specs.Scope.{Scope}
 use Rattle.aos_symbols.specs.Declarations.{Procedure, procedures, whole_procedures_in}
 use Rattle.aos_symbols.proofs.Keeping.{after_more}
 use Rattle.aos_check_stat.specs.Bodies.{listed, body_of}
-use Rattle.aos_compile.specs.Modules.{bodies_from, procedure_of, procedures_of, variables_of}
-use Rattle.aos_compile.proofs.Pairs.{drop_item, drop_some, drop_none}
+use Rattle.aos_variables.specs.Parts.{variables_of}
+use Rattle.aos_compile.specs.Modules.{bodies_from, procedure_of, procedures_of}
+use Rattle.aos_variables.proofs.Pairs.{drop_item, drop_some, drop_none}
 
 -- a procedure as it is written, with these declarations
 abbrev with_decls : Proc → List Decl → Procedure

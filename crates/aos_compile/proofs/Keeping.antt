@@ -32,7 +32,8 @@ use Rattle.aos_check_decl.proofs.Typing.{AreReady}
 use Rattle.aos_made_types.proofs.TypingClaims.{told_closed}
 use Rattle.aos_check_stat.specs.Bodies.{listed, body_of, priority_of}
 use Rattle.aos_check_stat.proofs.Keeping.{body_keeps, normal_without}
-use Rattle.aos_compile.specs.Modules.{World, no_modules, has_active, body_with, Beside, local_type, unnamed_type, other_types, bodies_from, variables_of, procedure_of, procedures_of, slotted, object_body, beside_in, object_in, first_scope, defined_object, body_beside, method_beside, object_of, objects_from, Bodies, bodies, module_of, extended}
+use Rattle.aos_variables.specs.Parts.{variables_of, first_scope}
+use Rattle.aos_compile.specs.Modules.{World, no_modules, has_active, body_with, Beside, local_type, unnamed_type, other_types, bodies_from, procedure_of, procedures_of, slotted, object_body, beside_in, object_in, defined_object, body_beside, method_beside, object_of, objects_from, Bodies, bodies, module_of, extended}
 
 -- Types.
 

@@ -43,7 +43,6 @@ pub mod Loaded
 pub mod Named
 pub mod Names
 pub mod Passes
-pub mod Pairs
 pub mod Strings
 pub mod InTurn
 pub mod FileNumbers

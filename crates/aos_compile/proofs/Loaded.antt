@@ -15,7 +15,8 @@ use Rattle.aos_symbols.specs.Judged.{judged}
 use Rattle.aos_check_names.specs.Names.{name_breaches}
 use Rattle.aos_symbols.proofs.Holds.{same_went, then_went}
 use Rattle.aos_check_decl.specs.Pass.{declare}
-use Rattle.aos_compile.specs.Modules.{World, Bodies, spelling, bodies, module_of, extended, elaborated}
+use Rattle.aos_variables.specs.Parts.{spelling}
+use Rattle.aos_compile.specs.Modules.{World, Bodies, bodies, module_of, extended, elaborated}
 use Rattle.aos_compile.specs.Files.{Source, loaded}
 use Rattle.aos_compile.proofs.Kept.{text_same}
 

@@ -12,7 +12,8 @@ use Rattle.aos_symbols.specs.Outcome.{went}
 use Rattle.aos_symbols.specs.Spelling.{word}
 use Rattle.aos_unnamed.specs.Unnamed.{all_named}
 use Rattle.aos_unnamed.proofs.Behind.{text_behind}
-use Rattle.aos_compile.specs.Modules.{World, no_modules, shown}
+use Rattle.aos_variables.specs.Parts.{shown}
+use Rattle.aos_compile.specs.Modules.{World, no_modules}
 use Rattle.aos_compile.specs.Files.{Source, named, in_order}
 use Rattle.aos_compile.specs.Elaborates.{IsTreeOf}
 use Rattle.aos_compile.specs.Sources.{sources}

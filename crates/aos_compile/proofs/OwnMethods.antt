@@ -31,7 +31,8 @@ use Rattle.aos_symbols.specs.Env as env
 use Rattle.aos_symbols.proofs.Holds.{test_is}
 use Rattle.aos_check_types.specs.Methods.{may_override, signature_of, override_breaches, method_breaches}
 use Rattle.aos_check_decl.proofs.Typing.{AreReady, HasHeading}
-use Rattle.aos_compile.specs.Modules.{procedure_of, procedures_of, variables_of, slotted, method_beside}
+use Rattle.aos_variables.specs.Parts.{variables_of}
+use Rattle.aos_compile.specs.Modules.{procedure_of, procedures_of, slotted, method_beside}
 use Rattle.aos_compile.proofs.MethodNames.{IsInner, AreOnce, once_first, once_rest}
 use Rattle.aos_compile.proofs.MethodsStay.{own_meant_is, own_start_is, own_methods_are, in_home, start_in, named_in}
 use Rattle.aos_types.specs.Signature.{may_stand}

@@ -23,7 +23,7 @@ use Rattle.aos_compile.specs.declared.compile_err.CompileErr.TheVariants.{Refuse
 use Rattle.aos_compile.specs.Elaborates.{OnRefused}
 use Rattle.aos_compile.specs.Modules.{World, Programs, Beside, Bodies, bodies, defined_object, slotted, beside_in, object_in, programs, with_module, extended, behind_headings, behind_names, elaborated}
 use Rattle.aos_compile.proofs.Kept.{before_kept}
-use Rattle.aos_compile.proofs.Pairs.{drop_item}
+use Rattle.aos_variables.proofs.Pairs.{drop_item}
 
 -- statements are seen in their order
 pub stats_listed : (ss : List TStat) → seen_stats ss ≡ listed (map seen_stat ss)

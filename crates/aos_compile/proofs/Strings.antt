@@ -1,29 +1,15 @@
--- String constants: their characters, and one more of them.
-use Rattle.std.proofs.Common.{◌≡◌, ℕ, zero, suc, ◌+◌, ◌-◌, ◌<◌, ◌==◌, Bool, true, false, List, [], ◌∷◌, ◌++◌, length, map, take, replicate, nat_lt, All, Some, None, sym, ap, lt-ltb, if◌then◌else◌, arith}
-use Rattle.std.specs.Option.{unwrap_or}
-use Rattle.std.proofs.lemmas.List.{map_more}
+-- The characters of string constants.
+use Rattle.std.proofs.Common.{ℕ, zero, suc, ◌-◌, ◌<◌, ◌==◌, Bool, true, false, List, [], ◌∷◌, ◌++◌, length, map, replicate, nat_lt, All, if◌then◌else◌, arith}
 use Rattle.std.proofs.lemmas.List.Elements.{All-nil, All-cons, All-append, All-map, All-weaker}
-use Rattle.std.proofs.lemmas.Option.{slice_get-get_or}
 use Rattle.aos_typed.specs.declared.tree.TextConstant.{TextConstant}
-use Rattle.aos_symbols.specs.Home.{Home, character, between_quotes, texts_of, string_in}
+use Rattle.aos_symbols.specs.Home.{Home, character, between_quotes, texts_of}
 use Rattle.aos_symbols.specs.declared.env.Env.{Env}
 use Rattle.aos_symbols.specs.Env as env
 use Rattle.aos_symbols.proofs.Each.{Each, all_of}
 use Rattle.aos_arguments.specs.Filled.{longest, filled, home_filled, named_filled, named_texts, filled_texts}
 use Rattle.aos_check_expr.proofs.Worded.{character_below}
 
--- a byte is a character's code
-pub character_is : (b : ℕ) → b < 256 → character b ≡ b
-character_is b h = ap (λ c. unwrap_or (if c then Some b else None) 0) (lt-ltb b 256 h)
-
--- the codes of one string's characters
-abbrev pub text_of : Home → ℕ × ℕ → List ℕ
-text_of h s = map character (between_quotes h.text s)
-
-pub one_more : (h : Home) (k : ℕ) → k < length h.strings → map (text_of h) (take k h.strings) ++ map character (string_in h k) ∷ [] ≡ map (text_of h) (take (k + 1) h.strings)
-one_more h k within = rw (slice_get-get_or h.strings k (0, 0) within) (sym (map_more (text_of h) h.strings k (0, 0) within))
-
--- they are those of characters
+-- the codes of bytes are those of characters
 codes_below : (bs : List ℕ) → Each (λ c. c < 256) (map character bs)
 codes_below [] = tt
 codes_below (b ∷ bs) = (character_below b, codes_below bs)

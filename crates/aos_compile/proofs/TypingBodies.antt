@@ -28,7 +28,8 @@ use Rattle.aos_check_expr.proofs.Whole.{IsTyped, IsSearched, IsWhole}
 use Rattle.aos_check_decl.proofs.Typing.{HasHeading}
 use Rattle.aos_check_stat.specs.Bodies.{listed, body_of}
 use Rattle.aos_check_stat.proofs.Typing.{body_sound}
-use Rattle.aos_compile.specs.Modules.{body_with, bodies_from, first_scope, object_procedure, variables_of, procedure_of}
+use Rattle.aos_variables.specs.Parts.{first_scope, variables_of}
+use Rattle.aos_compile.specs.Modules.{body_with, bodies_from, object_procedure, procedure_of}
 use Rattle.aos_compile.proofs.TypingLocals.{own_typed}
 use Rattle.aos_compile.proofs.TypingPaths.{path_searched}
 use Rattle.aos_compile.proofs.TypingProcedures.{AreBodies as AreProcedureBodies, IsSignature, heading_signature, signature_with, signed}

@@ -25,7 +25,8 @@ use Rattle.aos_check_expr.proofs.Opens.{some_there}
 use Rattle.aos_check_expr.proofs.Whole.{IsTyped, closed, opened, IsWhole, IsParameterType, parameter_type, elements_id}
 use Rattle.aos_check_expr.proofs.Passed.{is_opening, shut}
 use Rattle.aos_check_decl.proofs.Typing.{IsHeading}
-use Rattle.aos_compile.specs.Modules.{variable_of, procedure_of}
+use Rattle.aos_variables.specs.Parts.{variable_of}
+use Rattle.aos_compile.specs.Modules.{procedure_of}
 use Rattle.aos_compile.proofs.TypingTypes.{RowsStay}
 use Rattle.aos_compile.proofs.TypingProcedures.{IsSignature, heading_signature, signature_with, formal_at, signature_long}
 

@@ -49,7 +49,8 @@ use Rattle.aos_check_decl.proofs.Typing.{variable_cells, IsDeclared, declare_sou
 use Rattle.aos_check_decl.proofs.TypingEntries.{inner_at}
 use Rattle.aos_check_stat.specs.Bodies.{listed, body_of}
 use Rattle.aos_check_stat.proofs.Typing.{body_sound}
-use Rattle.aos_compile.specs.Modules.{World, program_of, local_type, unnamed_type, other_types, bodies_from, defined_object, beside_in, object_in, methods_of, first_scope, Beside, objects_from, Bodies, bodies, module_of, extended, elaborated}
+use Rattle.aos_variables.specs.Parts.{first_scope}
+use Rattle.aos_compile.specs.Modules.{World, program_of, local_type, unnamed_type, other_types, bodies_from, defined_object, beside_in, object_in, methods_of, Beside, objects_from, Bodies, bodies, module_of, extended, elaborated}
 use Rattle.aos_compile.proofs.Keeping.{one_keeps}
 use Rattle.aos_compile.proofs.MethodNames.{AreOnceIn, types_once}
 use Rattle.aos_compile.proofs.MethodsGrow.{objects_high, bases_high}

@@ -25,7 +25,8 @@ use Rattle.aos_symbols.proofs.Told.{IsKnown}
 use Rattle.aos_operators.specs.Known.{type_as, type_of}
 use Rattle.aos_check_expr.proofs.Whole.{AreFormalsOf, AreParameters, IsResultOf, IsSigned, parameter_type}
 use Rattle.aos_check_decl.proofs.Typing.{IsThere, IsResult as IsScalarType, IsHeading}
-use Rattle.aos_compile.specs.Modules.{variables_of, variable_of, parameter_of, result_of, procedure_of, procedures_of}
+use Rattle.aos_variables.specs.Parts.{variables_of, variable_of, parameter_of, result_of}
+use Rattle.aos_compile.specs.Modules.{procedure_of, procedures_of}
 use Rattle.aos_compile.proofs.TypingPrograms.{Grows, statements_grow}
 use Rattle.aos_compile.proofs.TypingTypes.{RowsStay, longer as more_rows, there_stays, closed_stays, fact_stays, number_is, told_number, told_no_nil, there, known_type}
 

@@ -28,7 +28,8 @@ use Rattle.aos_check_expr.proofs.Whole.{IsWhole}
 use Rattle.aos_check_types.specs.Methods.{defined_type}
 use Rattle.aos_check_decl.proofs.Typing.{IsHeading, HasHeading}
 use Rattle.aos_check_stat.specs.Bodies.{listed, body_of, priority_of}
-use Rattle.aos_compile.specs.Modules.{Beside, spelling, field_spellings, object_body, has_active, body_with, bodies_from, first_scope, object_procedure, slotted, method_beside, methods_of, defined_object, beside_in}
+use Rattle.aos_variables.specs.Parts.{spelling, field_spellings, first_scope}
+use Rattle.aos_compile.specs.Modules.{Beside, object_body, has_active, body_with, bodies_from, object_procedure, slotted, method_beside, methods_of, defined_object, beside_in}
 use Rattle.aos_compile.proofs.ObjectScopes.{IsObject, is_object_or, scope_at, methods_before, method_at}
 use Rattle.aos_compile.proofs.TypingBodies.{body_within, around_object, AreMore, procedures_sound}
 use Rattle.aos_compile.proofs.TypingObjects.{IsSaidBeside}

@@ -28,7 +28,8 @@ use Rattle.aos_check_expr.proofs.Opens.{some_there, stand_fall}
 use Rattle.aos_check_types.specs.Methods.{method_breaches}
 use Rattle.aos_check_decl.proofs.Typing.{AreReady, HasHeading}
 use Rattle.aos_check_types.proofs.TypingLists.{get_behind}
-use Rattle.aos_compile.specs.Modules.{Beside, object_of as object_beside, objects_from, procedures_of, slotted, method_beside, methods_of, first_scope}
+use Rattle.aos_variables.specs.Parts.{first_scope}
+use Rattle.aos_compile.specs.Modules.{Beside, object_of as object_beside, objects_from, procedures_of, slotted, method_beside, methods_of}
 use Rattle.aos_compile.proofs.MethodNames.{copies, AreOnce, filter_copies}
 use Rattle.aos_compile.proofs.MethodsGrow.{bases_high}
 use Rattle.aos_compile.proofs.MethodsStay.{has_own_on, own_meant_is, own_start_is, own_methods_are, in_home, start_in, named_in}

@@ -22,7 +22,8 @@ use Rattle.aos_symbols.proofs.Told.{get_front}
 use Rattle.aos_check_expr.proofs.Opens.{some_there}
 use Rattle.aos_check_decl.proofs.Typing.{AreReady, IsReady, IsHeading, IsDeclared}
 use Rattle.aos_arguments.specs.Filled.{filled_texts}
-use Rattle.aos_compile.specs.Modules.{World, no_modules, program_of, first_scope, Bodies, variables_of, variable_of, procedure_of, module_of}
+use Rattle.aos_variables.specs.Parts.{first_scope, variables_of, variable_of}
+use Rattle.aos_compile.specs.Modules.{World, no_modules, program_of, Bodies, procedure_of, module_of}
 use Rattle.aos_compile.proofs.Keeping.{WorldKeeps, none_keep}
 use Rattle.aos_compile.proofs.OwnMethods.{AreNamed, are_named}
 use Rattle.aos_compile.proofs.Strings.{filled_below}

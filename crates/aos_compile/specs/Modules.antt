@@ -1,49 +1,39 @@
 -- Modules in load order, each in three passes of which the first that breaks a rule refuses: names; constants, types and
 -- headings; bodies.
-use Rattle.std.specs.Prelude.{ℕ, suc, ◌+◌, List, [], ◌∷◌, ◌++◌, length, map, drop, Bool, true, false, Option, Some, None, is_some, option_map, option_and_then, slice_get, if◌then◌else◌}
-use Rattle.std.specs.List.{flat_map, zip, list_any}
-use Rattle.std.specs.Str.Lossy.{utf8_lossy}
+use Rattle.std.specs.Prelude.{ℕ, suc, ◌+◌, List, [], ◌∷◌, ◌++◌, length, map, drop, Bool, true, false, Option, Some, None, is_some, option_map, option_and_then, slice_get}
+use Rattle.std.specs.List.{zip, list_any}
 use Rattle.aos_base.specs.declared.priority.Priority.{Priority}
 use Rattle.aos_base.specs.declared.priority.Priority.TheVariants.{Normal}
 use Rattle.aos_base.specs.declared.text.Pos.{Pos}
-use Rattle.aos_tree.specs.declared.name.Name.{Name}
 use Rattle.aos_tree.specs.declared.stat.Block.{Block}
-use Rattle.aos_tree.specs.declared.decl.Decl.{items-the_row-Decl}
-use Rattle.aos_tree.specs.declared.decl.Def.{Def}
-use Rattle.aos_tree.specs.declared.decl.Fields.{Fields}
-use Rattle.aos_tree.specs.declared.decl.Fields.TheVariants as fields
 use Rattle.aos_tree.specs.declared.decl.TypeDef.{TypeDef}
-use Rattle.aos_tree.specs.declared.decl.TypeExpr.{TypeExpr, items-the_row-Fields}
+use Rattle.aos_tree.specs.declared.decl.TypeExpr.{TypeExpr}
 use Rattle.aos_tree.specs.declared.decl.TypeExpr.TheVariants as type
 use Rattle.aos_tree.specs.declared.module.Module.{Module as Tree}
 use Rattle.aos_types.specs.declared.row.TypeId.{TypeId}
 use Rattle.aos_types.specs.declared.row.TypeRow.{TypeRow}
 use Rattle.aos_types.specs.declared.row.TypeRow.TheVariants as row
 use Rattle.aos_types.specs.Table.{row_of}
-use Rattle.aos_typed.specs.declared.tree.TType.{TType}
 use Rattle.aos_typed.specs.declared.tree.TType.TheVariants.{Named}
 use Rattle.aos_typed.specs.Numbers.{id_of}
-use Rattle.aos_typed.specs.Program.{Stat, Stats, Nothing, Variable, Parameter, Procedure as TypedProcedure, Method, ObjectType, Module, Program, Body}
-use Rattle.aos_types.specs.declared.signature.Parameter.{Parameter as Formal}
-use Rattle.aos_types.specs.declared.signature.Gives.{Gives}
-use Rattle.aos_types.specs.declared.signature.Gives.TheVariants as gives
+use Rattle.aos_typed.specs.Program.{Stat, Stats, Nothing, Parameter, Procedure as TypedProcedure, Method, ObjectType, Module, Program, Body}
 use Rattle.aos_types.specs.declared.signature.Signature.{Signature}
 use Rattle.aos_symbols.specs.declared.home.ObjectScope.{ObjectScope}
 use Rattle.aos_symbols.specs.declared.breach.Breach.{Breach}
 use Rattle.aos_symbols.specs.declared.env.Env.{Env}
 use Rattle.aos_symbols.specs.Judged.{Judged, judged, kept, bind, walk}
 use Rattle.aos_symbols.specs.Outcome.{Outcome, went, then, passed, decided}
-use Rattle.aos_symbols.specs.Spelling.{word, is_active}
+use Rattle.aos_symbols.specs.Spelling.{is_active}
 use Rattle.aos_symbols.specs.Declarations.{Procedure, procedures, methods_in, type_defs, inner_parts, types_of, single_variables, formal_names}
 use Rattle.aos_symbols.specs.Scope.{Scope}
 use Rattle.aos_symbols.specs.Home.{Home, slot_at, texts_of}
 use Rattle.aos_arguments.specs.Filled.{filled_texts}
 use Rattle.aos_check_names.specs.Names.{name_breaches}
 use Rattle.aos_symbols.specs.Env as env
-use Rattle.aos_operators.specs.Known.{type_as, type_of}
+use Rattle.aos_operators.specs.Known.{type_as}
 use Rattle.aos_check_types.specs.Methods.{defined_type}
 use Rattle.aos_check_decl.specs.Pass.{declare}
-use Rattle.aos_unnamed.specs.Unnamed.{is_given}
+use Rattle.aos_variables.specs.Parts.{spelling, field_spellings, variables_of, variable_of, parameter_of, result_of, first_scope}
 use Rattle.aos_check_stat.specs.Bodies.{listed, are_exclusive, body_of, priority_of}
 
 -- the modules that are elaborated: what they declare, the types of all, and their programs
@@ -58,13 +48,6 @@ no_modules = record { before = []; types = env.basic_rows; modules = []; objects
 
 abbrev pub program_of : World → Program
 program_of w = record { modules = w.modules; types = w.types; objects = w.objects }
-
--- a name as the typed program has it: none where it was given, else its bytes, which are those of ASCII letters, digits and _
-abbrev pub shown : List ℕ → List ℕ
-shown word = if is_given word then [] else word
-
-abbrev pub spelling : List ℕ → Name → List ℕ
-spelling text n = utf8_lossy (shown (word text n))
 
 abbrev pub object_body : TypeExpr → Option Block
 object_body (type.Object' p base shape row body end) = body
@@ -90,23 +73,6 @@ empty_body = record { is_exclusive = false; statements = Nothing }
 -- the place of what has no name
 abbrev pub nowhere : Pos
 nowhere = record { line = 0; col = 0 }
-
--- The fields that a type declares itself, in the order of the text, and their names.
-
-abbrev pub defs_in : Fields → List Def
-defs_in fields.Empty = []
-defs_in (fields.Of' defs of) = defs
-
-abbrev pub field_defs : TypeExpr → List Def
-field_defs (type.Record' p base shape row) = flat_map defs_in (items-the_row-Fields _ row)
-field_defs (type.Object' p base shape row body end) = single_variables (items-the_row-Decl _ row)
-field_defs t = []
-
-abbrev pub def_spelling : List ℕ → Def → List ℕ
-def_spelling text d = spelling text d.name
-
-abbrev pub field_spellings : List ℕ → TypeExpr → List (List ℕ)
-field_spellings text t = map (def_spelling text) (field_defs t)
 
 -- What a module says beside its types: a name with its place, the names of their own fields, whether there is a body, whether that is
 -- active, at which priority, and that body, and the methods, each with its slot. First stand those that the module's own declarations
@@ -149,21 +115,7 @@ bodies_from e k done [] = kept done
 bodies_from e k done (p ∷ ps) =
     bind (body_of (env.within e k) false p.body) (λ ss. bodies_from e (suc k) (done ++ listed ss ∷ []) ps)
 
-abbrev pub variables_of : Option Scope → List (Option TypeId)
-variables_of None = []
-variables_of (Some s) = s.variables
-
-abbrev pub variable_of : List ℕ → Def × Option TypeId → Variable
-variable_of text p = record { name = spelling text p.0.name; of = type_of p.1 }
-
 -- Procedures: the parameters stand first in a procedure's scope, and behind them its locals.
-
-abbrev pub parameter_of : List ℕ → Name × Formal → Parameter
-parameter_of text p = record { name = spelling text p.0; by_reference = p.1.by_reference; of = type_of p.1.of }
-
-abbrev pub result_of : Gives → Option TType
-result_of gives.Nothing = None
-result_of (gives.Value of) = Some (type_of of)
 
 abbrev pub procedure_of : List ℕ → Procedure → Signature → List (Option TypeId) → Stats → TypedProcedure
 procedure_of text p s variables body =
@@ -222,10 +174,6 @@ beside_in e first d (Some x) =
 
 abbrev pub object_in : Env → (first : ℕ) → List Beside → TypeDef → Judged (List Beside)
 object_in e first xs d = bind (beside_in e first d (defined_object e d)) (λ x. kept (xs ++ x ∷ []))
-
--- the scope of a module's first procedure
-abbrev pub first_scope : Tree → ℕ
-first_scope m = suc (length (type_defs m.decls))
 
 -- The types of a program have their numbers in load order. The body of an object type is that of a procedure with nothing of its own;
 -- beside a procedure type stands what has its formals, and nothing else.

@@ -2,7 +2,6 @@
 #![tactic(auto)]
 
 pub mod compile_err;
-mod fields;
 mod files;
 mod front;
 mod laws;
@@ -10,8 +9,6 @@ pub mod modules;
 mod objects;
 mod procedures;
 pub mod program;
-mod texts;
-mod variables;
 
 pub use compile_err::CompileErr;
 pub use laws::{law_of_files, law_of_outcome, law_of_traps, law_of_typing};

@@ -1,6 +1,6 @@
 // Modules in load order, each in three passes.
 
-ghost use Rattle.std.specs.Prelude.{◌≡◌, ◌≤◌, ◌^◌, ◌+◌, ◌++◌, ◌∷◌, [], None, length, map, slice_get, IfOk, IfErr, OnOk};
+ghost use Rattle.std.specs.Prelude.{◌≡◌, ◌≤◌, ◌^◌, ◌+◌, ◌++◌, [], None, length, map, slice_get, IfOk, IfErr, OnOk};
 ghost use Rattle.std.specs.List.{zip};
 ghost use Rattle.std.specs.Option.{option_copied};
 ghost use Rattle.std.specs.String.{string_bytes};
@@ -16,14 +16,13 @@ ghost use Rattle.aos_arguments.specs.Filled.{filled_texts};
 ghost use Rattle.aos_symbols.specs.Env as env_of;
 ghost use Rattle.aos_compile.specs.declared.compile_err.CompileErr.TheVariants as err;
 ghost use Rattle.aos_compile.specs.Elaborates.{OnRefused};
+ghost use Rattle.aos_variables.specs.Parts as parts;
 ghost use Rattle.aos_compile.specs.Modules as judge;
 ghost use Rattle.aos_compile.specs.Seen.{seen_world, seen_parts, seen_programs, seen_beside, seen_bodies};
 
 use crate::compile_err::CompileErr;
-use crate::objects::{Beside, Bodies, bodies_of, number_at, spelling_of};
+use crate::objects::{Beside, Bodies, bodies_of};
 use crate::procedures::{is_exclusive_body, module_procedures};
-use crate::texts::texts_of;
-use crate::variables::variables_of;
 use aos_base::{NoMemory, Pos, Refusal};
 use aos_check_decl::declare;
 use aos_check_names::check_names;
@@ -32,6 +31,7 @@ use aos_symbols::{Breach, Env, Home};
 use aos_tree::{Items, Module};
 use aos_typed::{Program, TMethod, TModule, TObject, TParameter, TProcedure, TStat, TVariable};
 use aos_types::{Basic, TypeId, TypeRow, Types};
+use aos_variables::{number_at, spelling_of, texts_of, variables_of};
 use std::alloc::{AllocError, Global};
 
 /// The basic types, in the order of their numbers; ANY and the type of string constants stand behind them.
@@ -144,11 +144,11 @@ fn outline_of(
     tree: &Module,
 ) -> Result<(String, Vec<TVariable>, Vec<Vec<u8>>), AllocError>
     ensures name { IfOk result (λ r.
-        string_bytes r.0 ≡ judge.spelling env.now.here.text tree.now.name) }
+        string_bytes r.0 ≡ parts.spelling env.now.here.text tree.now.name) }
     ensures variables { IfOk result (λ r. map seen_variable r.1.items ≡
-        map (judge.variable_of env.now.here.text)
+        map (parts.variable_of env.now.here.text)
         (zip (single_variables tree.now.decls)
-        (judge.variables_of (slice_get env.now.here.scopes 0)))) }
+        (parts.variables_of (slice_get env.now.here.scopes 0)))) }
     ensures texts { IfOk result (λ r. map (λ t. t.items) r.2.items ≡
         texts_in env.now.here ++ filled_texts env.now) }
 {

@@ -1,8 +1,7 @@
 // The third pass over a module: the bodies of its object types and their methods, those of its procedures, and its own.
 
-ghost use Rattle.std.specs.Prelude.{◌≡◌, ◌+◌, ◌++◌, suc, [], Some, true, false, is_some, length, OnOk, IfOk, map};
+ghost use Rattle.std.specs.Prelude.{◌≡◌, ◌++◌, [], Some, true, false, is_some, OnOk, IfOk, map};
 ghost use Rattle.std.specs.List.{list_any};
-ghost use Rattle.std.specs.String.{string_bytes};
 ghost use Rattle.aos_typed.specs.Seen.{seen_stat, seen_stats, seen_method, seen_procedure};
 ghost use Rattle.aos_symbols.specs.Breaches.{first_after};
 ghost use Rattle.aos_symbols.specs.Judged.{walk};
@@ -13,17 +12,16 @@ ghost use Rattle.aos_check_stat.specs.Bodies.{body_of as body_of_env, listed, pr
 ghost use Rattle.aos_compile.specs.Modules as judge;
 ghost use Rattle.aos_compile.specs.Seen.{seen_beside, seen_bodies};
 
-use crate::fields::type_names;
-use crate::procedures::{first_scope, is_exclusive_body, procedures_of};
+use crate::procedures::{is_exclusive_body, procedures_of};
 use aos_base::{Pos, Priority};
-use aos_check_types::defined_type;
 use aos_check_stat::{body_of, priority_of};
+use aos_check_types::defined_type;
 use aos_entries::{inner_decls, inner_parts, type_definitions};
-use aos_symbols::{Breach, Env, Home, ObjectScope, is_active, word};
-use aos_tree::{Block, Boxed, Decl, Modifier, Module, Name, TypeDef, TypeExpr};
+use aos_symbols::{Breach, Env, Home, ObjectScope, is_active};
+use aos_tree::{Block, Boxed, Decl, Modifier, Module, TypeDef, TypeExpr};
 use aos_typed::{TMethod, TProcedure, TStat};
 use aos_types::TypeId;
-use aos_unnamed::is_given;
+use aos_variables::{first_scope, number_at, number_behind, type_names};
 use std::alloc::{AllocError, Global};
 
 /// What a module says beside one of its types: its name, which is empty where it has none, with its place, the names of its own
@@ -50,23 +48,6 @@ pub struct Bodies {
     pub own: Vec<TStat>,
 }
 
-/// The bytes of a name, of which there are none where it was given.
-fn shown(word: &[u8]) -> &[u8]
-    ensures { result.now ≡ judge.shown word.now }
-{
-    if is_given(word) {
-        return &word[..0];
-    }
-    word
-}
-
-/// A name as the typed program has it.
-pub fn spelling_of(alloc: Global, text: &[u8], name: Name) -> Result<String, AllocError>
-    ensures { IfOk result (λ s. string_bytes s ≡ judge.spelling text.now name) }
-{
-    String::from_utf8_lossy(alloc, shown(word(text, name)))
-}
-
 /// The statements of a type's body; a type without a body has none.
 fn statements_of(
     alloc: Global,
@@ -83,26 +64,6 @@ fn statements_of(
     match of {
         TypeExpr::Object(_, _, _, body, _) => body_of(alloc, found, env, true, body),
         _ => Ok(Vec::new(alloc)),
-    }
-}
-
-/// The number behind another one.
-pub fn number_behind(number: u32) -> Result<u32, AllocError>
-    ensures { IfOk result (λ n. n ≡ suc number) }
-{
-    match number.checked_add(1) {
-        Some(next) => Ok(next),
-        None => Err(AllocError),
-    }
-}
-
-/// The number behind so many others.
-pub fn number_at(number: u32, behind: u32) -> Result<u32, AllocError>
-    ensures { IfOk result (λ n. n ≡ number + behind) }
-{
-    match number.checked_add(behind) {
-        Some(at) => Ok(at),
-        None => Err(AllocError),
     }
 }
 

@@ -6,6 +6,7 @@ use Rattle.aos_typed.specs.Seen.{seen_variable, seen_procedure, seen_stats, seen
 use Rattle.aos_symbols.specs.Declarations.{procedures, type_defs, single_variables}
 use Rattle.aos_symbols.specs.Home.{texts_of}
 use Rattle.aos_arguments.specs.Filled.{filled_texts}
+use Rattle.aos_variables.specs.Parts as parts
 use Rattle.aos_compile.specs.Modules as judge
 use Rattle.aos_compile.proofs.Passes.{stats_listed}
 use Rattle.aos_compile.proofs.modules.module_of.Goals as goal
@@ -15,9 +16,9 @@ returns c =
     let e = c.args.env.now in
     let tree = c.args.tree.now in
     let bodies = map (λ (ss : Vec TStat Global). seen_stats ss.items) c.args.bodies.items in
-    let spelled = judge.spelling e.here.text tree.name in
-    let variables = map (judge.variable_of e.here.text) (zip (single_variables tree.decls) (judge.variables_of (slice_get e.here.scopes 0))) in
-    let procs = judge.procedures_of e.here.text e.here.scopes (judge.first_scope tree) (procedures tree.decls) e.here.signatures bodies in
+    let spelled = parts.spelling e.here.text tree.name in
+    let variables = map (parts.variable_of e.here.text) (zip (single_variables tree.decls) (parts.variables_of (slice_get e.here.scopes 0))) in
+    let procs = judge.procedures_of e.here.text e.here.scopes (parts.first_scope tree) (procedures tree.decls) e.here.signatures bodies in
     let parts = c.in_ok-name in
     let procedures = c.in_ok-procedures.ensures
     ∙ ap (λ ds. judge.procedures_of e.here.text e.here.scopes (suc (length (type_defs ds))) (procedures ds) e.here.signatures bodies) c.as_slice.ensures in

@@ -9,6 +9,7 @@ use Rattle.aos_symbols.specs.Judged.{Judged, walk}
 use Rattle.aos_symbols.specs.Declarations.{procedures, type_defs}
 use Rattle.aos_symbols.proofs.Keeping.{after_two}
 use Rattle.aos_check_stat.specs.Bodies.{body_of}
+use Rattle.aos_variables.specs.Parts as parts
 use Rattle.aos_compile.specs.Modules as judge
 use Rattle.aos_compile.proofs.objects.bodies_of.Goals as goal
 
@@ -16,7 +17,7 @@ pub returns : goal.returns
 returns c =
     let e = c.args.env.now in
     let tree = c.args.tree.now in
-    let k = judge.first_scope tree in
+    let k = parts.first_scope tree in
     let met = c.args.found.now in
     let found = c.all_objects.new.found in
     let behind = c.procedure_bodies.new.found in

@@ -8,6 +8,7 @@ use Rattle.aos_typed.specs.declared.tree.TStat.{TStat}
 use Rattle.aos_typed.specs.declared.tree.TProcedure.{TProcedure}
 use Rattle.aos_typed.specs.Program.{Stats}
 use Rattle.aos_typed.specs.Seen.{seen_stats, seen_procedure}
+use Rattle.aos_variables.specs.Parts as parts
 use Rattle.aos_compile.specs.Modules as judge
 use Rattle.aos_compile.proofs.InTurn.{whole, procedure_none, procedures_step, signatures_out}
 use Rattle.aos_compile.proofs.procedures.add_procedures.Goals.{in-Proc+in-Some+in-Some-signature+in_ok-procedure_of+in_ok-push+in_ok-scope+in_ok-number, in_default}
@@ -40,8 +41,8 @@ loop-decl-preserved c = elim c.match-decl.branch [
       let body : seen c.loop-decl.bodies ≡ seen_stats b.items ∷ seen c.match-decl.bodies =
       ap (map (λ (ss : Vec TStat Global). seen_stats ss.items)) w.in-Some.ensures.items ∙ ap (λ (it : Bodies). seen_stats b.items ∷ seen it) (sym w.bodies-is) in
       let told = w.in_ok-procedure_of.ensures
-      ∙ ap (λ t. judge.procedure_of t (whole a) s (judge.variables_of (option_copied w.scope-at.result)) (seen_stats b.items)) w.text.ensures
-      ∙ ap (λ o. judge.procedure_of here.text (whole a) s (judge.variables_of o) (seen_stats b.items)) w.scope-at.ensures in
+      ∙ ap (λ t. judge.procedure_of t (whole a) s (parts.variables_of (option_copied w.scope-at.result)) (seen_stats b.items)) w.text.ensures
+      ∙ ap (λ o. judge.procedure_of here.text (whole a) s (parts.variables_of o) (seen_stats b.items)) w.scope-at.ensures in
       let put = ap (λ (v : Vec TProcedure Global). map seen_procedure v.items) w.all-is ∙ ap (map seen_procedure) w.in_ok-push.ensures.items
       ∙ map-append seen_procedure c.loop-decl.all.items (p ∷ []) in
       let fewer : into_iter_len behind ≡ length (into_iter_items behind) = omega (arith, w.in-Some.ensures.cases.1, c.loop-decl.invariant.left, ap length w.in-Some.ensures.items) in

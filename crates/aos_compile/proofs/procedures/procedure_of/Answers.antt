@@ -5,7 +5,7 @@ use Rattle.std.specs.Option.{option_copied}
 use Rattle.aos_typed.specs.Program.{Stats, Body}
 use Rattle.aos_typed.specs.Seen.{seen_parameter, seen_variable, seen_stats}
 use Rattle.aos_symbols.specs.Declarations.{formal_names, single_variables}
-use Rattle.aos_compile.specs.Modules as judge
+use Rattle.aos_variables.specs.Parts as parts
 use Rattle.aos_compile.proofs.procedures.procedure_of.Goals as goal
 
 pub returns : goal.returns
@@ -13,21 +13,21 @@ returns c =
     let text = c.args.text.now in
     let p = c.args.proc.now in
     let s = c.args.signature.now in
-    let parts = c.in_ok-name in
+    let heading = c.in_ok-name in
     let place = p.def.name.pos in
     let names = formal_names p.formals in
-    let spelled = judge.spelling text p.def.name in
-    let given = map (judge.parameter_of text) (zip names s.parameters) in
-    let own = map (judge.variable_of text) (zip (single_variables p.decls) (drop (length names) (judge.variables_of (option_copied c.args.scope)))) in
+    let spelled = parts.spelling text p.def.name in
+    let given = map (parts.parameter_of text) (zip names s.parameters) in
+    let own = map (parts.variable_of text) (zip (single_variables p.decls) (drop (length names) (parts.variables_of (option_copied c.args.scope)))) in
     let begins = c.is_some.result in
     let gives = c.result_of.result in
-    let told = map seen_parameter parts.parameters.items in
-    let held = map seen_variable parts.locals.items in
+    let told = map seen_parameter heading.parameters.items in
+    let held = map seen_variable heading.locals.items in
     let statements : Stats = seen_stats c.args.body.items in
     let body : Body = record { is_exclusive = c.is_exclusive_body.result; statements = statements } in
-    ap (λ n. record { name = n; at = place; of = None; is_initializer = begins; parameters = told; locals = held; result = gives; body = body }) parts.ensures.name
-    ∙ ap (λ ps. record { name = spelled; at = place; of = None; is_initializer = begins; parameters = ps; locals = held; result = gives; body = body }) parts.ensures.parameters
-    ∙ ap (λ vs. record { name = spelled; at = place; of = None; is_initializer = begins; parameters = given; locals = vs; result = gives; body = body }) parts.ensures.locals
+    ap (λ n. record { name = n; at = place; of = None; is_initializer = begins; parameters = told; locals = held; result = gives; body = body }) heading.ensures.name
+    ∙ ap (λ ps. record { name = spelled; at = place; of = None; is_initializer = begins; parameters = ps; locals = held; result = gives; body = body }) heading.ensures.parameters
+    ∙ ap (λ vs. record { name = spelled; at = place; of = None; is_initializer = begins; parameters = given; locals = vs; result = gives; body = body }) heading.ensures.locals
     ∙ ap (λ b. record { name = spelled; at = place; of = None; is_initializer = b; parameters = given; locals = own; result = gives; body = body }) c.is_some.ensures
     ∙ ap (λ g. record { name = spelled; at = place; of = None; is_initializer = is_some p.initializer; parameters = given; locals = own; result = g; body = body }) c.result_of.ensures
-    ∙ ap (λ b. record { name = spelled; at = place; of = None; is_initializer = is_some p.initializer; parameters = given; locals = own; result = judge.result_of s.gives; body = record { is_exclusive = b; statements = statements } }) c.is_exclusive_body.ensures
+    ∙ ap (λ b. record { name = spelled; at = place; of = None; is_initializer = is_some p.initializer; parameters = given; locals = own; result = parts.result_of s.gives; body = record { is_exclusive = b; statements = statements } }) c.is_exclusive_body.ensures
