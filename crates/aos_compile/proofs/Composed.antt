@@ -4,11 +4,14 @@ use Rattle.std.specs.List.{zip}
 use Rattle.aos_tree.specs.declared.module.Module.{Module as Tree}
 use Rattle.aos_typed.specs.Program.{Program}
 use Rattle.aos_symbols.specs.Outcome.{Outcome, refused, went, then, in_turn}
-use Rattle.aos_compile.specs.declared.compile_err.CompileErr.{CompileErr}
-use Rattle.aos_compile.specs.declared.compile_err.CompileErr.TheVariants.{Refused, NoMemory}
+use Rattle.aos_reading.specs.declared.compile_err.CompileErr.{CompileErr}
+use Rattle.aos_reading.specs.declared.compile_err.CompileErr.TheVariants.{Refused, NoMemory}
 use Rattle.aos_compile.specs.Modules.{World, no_modules}
-use Rattle.aos_compile.specs.Files.{Source, Reading, trees_from, load_order, loaded, named, in_order, modules, whole, elaborate}
-use Rattle.aos_compile.specs.Elaborates.{AreReadings, ComesTo, OnRefused}
+use Rattle.aos_reading.specs.Files.{Source, Reading, trees_from, load_order, named}
+use Rattle.aos_compile.specs.Files.{loaded, in_order, modules, whole, elaborate}
+use Rattle.aos_reading.specs.Texts.{AreReadings}
+use Rattle.aos_reading.specs.Sources.{OnRefused}
+use Rattle.aos_compile.specs.Elaborates.{ComesTo}
 
 -- what is told of a part, told of the whole
 on_refused : {A B : Type 0} (said : CompileErr) (o : Outcome A) (f : A → Outcome B) → OnRefused said (λ r. o ≡ refused r) → OnRefused said (λ r. then o f ≡ refused r)

@@ -32,7 +32,8 @@ use Rattle.aos_typed.specs.Program.{Stats, Body, NoMore, ModuleVar, Lit, Assign,
 use Rattle.aos_types.specs.declared.row.TypeRow.TheVariants as row
 use Rattle.aos_symbols.specs.Env.{basic_rows}
 use Rattle.aos_symbols.specs.Outcome.{Outcome, refused, went, refusal}
-use Rattle.aos_compile.specs.Files.{tree, elaborate}
+use Rattle.aos_reading.specs.Files.{tree}
+use Rattle.aos_compile.specs.Files.{elaborate}
 
 -- places in a text of one line
 abbrev place : ℕ → Pos

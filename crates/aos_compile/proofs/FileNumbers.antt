@@ -22,9 +22,10 @@ use Rattle.aos_check_names.specs.Names.{name_breaches}
 use Rattle.aos_symbols.specs.Outcome.{Outcome, refused, went, then, in_turn, decided, passed}
 use Rattle.aos_check_decl.specs.Pass.{declare}
 use Rattle.aos_compile.specs.Modules.{World, bodies, elaborated, extended, no_modules}
-use Rattle.aos_compile.specs.Files.{Reading, tree, broken, Source, trees_from, is_named_out, named_out, at_name, refused_cycle, decided_order, file_of, load_order, loaded, named, in_order, modules, whole}
+use Rattle.aos_reading.specs.Files.{Reading, tree, broken, Source, trees_from, is_named_out, named_out, at_name, refused_cycle, decided_order, file_of, load_order, named}
+use Rattle.aos_compile.specs.Files.{loaded, in_order, modules, whole}
 use Rattle.aos_compile.specs.Elaborates.{ComesTo}
-use Rattle.aos_compile.proofs.Readings.{length-readings}
+use Rattle.aos_reading.proofs.Readings.{length-readings}
 
 -- a refusal that refuses is that one
 one_file : {A : Type 0} (s r : Refusal) → (let x : Outcome A = refused s in x) ≡ refused r → s.file ≡ r.file

@@ -28,7 +28,7 @@ use Rattle.aos_typed.specs.WellTyped.{is_in_name, is_ident}
 use Rattle.aos_symbols.specs.Spelling.{word}
 use Rattle.aos_unnamed.specs.Unnamed.{is_given}
 use Rattle.aos_variables.specs.Parts.{spelling}
-use Rattle.aos_compile.specs.Elaborates.{IsTreeOf}
+use Rattle.aos_reading.specs.Texts.{IsTreeOf}
 
 -- The spelling of an ident.
 

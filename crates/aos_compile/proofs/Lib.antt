@@ -1,7 +1,5 @@
 pub mod Examples
 pub mod OneReading
-pub mod Readings
-pub mod Orders
 pub mod Loads
 pub mod Composed
 pub mod TypingPrograms

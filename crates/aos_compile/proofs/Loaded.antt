@@ -17,7 +17,8 @@ use Rattle.aos_symbols.proofs.Holds.{same_went, then_went}
 use Rattle.aos_check_decl.specs.Pass.{declare}
 use Rattle.aos_variables.specs.Parts.{spelling}
 use Rattle.aos_compile.specs.Modules.{World, Bodies, bodies, module_of, extended, elaborated}
-use Rattle.aos_compile.specs.Files.{Source, loaded}
+use Rattle.aos_reading.specs.Files.{Source}
+use Rattle.aos_compile.specs.Files.{loaded}
 use Rattle.aos_compile.proofs.Kept.{text_same}
 
 -- what is refused never went

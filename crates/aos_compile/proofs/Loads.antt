@@ -8,11 +8,12 @@ use Rattle.aos_symbols.specs.Judged.{Judged, judged}
 use Rattle.aos_check_names.specs.Names.{name_breaches}
 use Rattle.aos_symbols.specs.Outcome.{Outcome, refused, went, then, passed, in_turn}
 use Rattle.aos_check_decl.specs.Pass.{declare}
-use Rattle.aos_compile.specs.declared.compile_err.CompileErr.{CompileErr}
-use Rattle.aos_compile.specs.declared.compile_err.CompileErr.TheVariants.{Refused, NoMemory}
+use Rattle.aos_reading.specs.declared.compile_err.CompileErr.{CompileErr}
+use Rattle.aos_reading.specs.declared.compile_err.CompileErr.TheVariants.{Refused, NoMemory}
 use Rattle.aos_compile.specs.Modules.{World, no_modules, Bodies, bodies, extended, module_of, elaborated}
-use Rattle.aos_compile.specs.Files.{Source, loaded}
-use Rattle.aos_compile.specs.Elaborates.{OnRefused}
+use Rattle.aos_reading.specs.Files.{Source}
+use Rattle.aos_compile.specs.Files.{loaded}
+use Rattle.aos_reading.specs.Sources.{OnRefused}
 
 -- what the first of two came to, where both went
 pub went_first : {A B : Type 0} (o : Outcome A) (f : A → Outcome B) (b : B) → then o f ≡ went b → (a : A) × (f a ≡ went b)

@@ -26,8 +26,9 @@ use Rattle.aos_typed.specs.WellTyped.{is_ident}
 use Rattle.aos_symbols.specs.Outcome.{went}
 use Rattle.aos_symbols.specs.Spelling.{word}
 use Rattle.aos_compile.specs.Modules.{World, program_of}
-use Rattle.aos_compile.specs.Files.{Reading, tree, broken, Source, trees_from, file_of, named_out, decided_order, load_order, in_order, modules}
-use Rattle.aos_compile.specs.Elaborates.{IsTreeOf, IsReading, AreReadings, by_tree, by_scanner, by_syntax, by_nesting}
+use Rattle.aos_reading.specs.Files.{Reading, tree, broken, Source, trees_from, file_of, named_out, decided_order, load_order}
+use Rattle.aos_compile.specs.Files.{in_order, modules}
+use Rattle.aos_reading.specs.Texts.{IsTreeOf, IsReading, AreReadings, by_tree, by_scanner, by_syntax, by_nesting}
 use Rattle.aos_compile.proofs.Idents.{name_is_ident, spelled_alike}
 use Rattle.aos_symbols.proofs.Holds.{same_went, then_went}
 use Rattle.aos_compile.proofs.Loaded.{never_went, name_of, name_in}

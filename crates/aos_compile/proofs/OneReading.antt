@@ -13,8 +13,10 @@ use Rattle.aos_parse_mod.proofs.ModExclusion.{exclude}
 use Rattle.aos_parse_mod.proofs.ModUnique.{unique_reads}
 use Rattle.aos_typed.specs.Program.{Program}
 use Rattle.aos_symbols.specs.Outcome.{Outcome}
-use Rattle.aos_compile.specs.Files.{Reading, tree, broken, elaborate}
-use Rattle.aos_compile.specs.Elaborates.{IsTreeOf, IsReading, AreReadings, ComesTo, by_tree, by_scanner, by_syntax, by_nesting, scan_breach, breach_at}
+use Rattle.aos_reading.specs.Files.{Reading, tree, broken}
+use Rattle.aos_compile.specs.Files.{elaborate}
+use Rattle.aos_reading.specs.Texts.{IsTreeOf, IsReading, AreReadings, by_tree, by_scanner, by_syntax, by_nesting, scan_breach, breach_at}
+use Rattle.aos_compile.specs.Elaborates.{ComesTo}
 
 -- what holds of one token list of a text holds of the others
 over : {text : List ℕ} {ts us : List Token} (fact : List Token → Type 0) → IsTokenList text us → IsTokenList text ts → fact us → fact ts

@@ -18,9 +18,9 @@ use Rattle.aos_check_names.specs.Names.{name_breaches}
 use Rattle.aos_symbols.proofs.Keeping.{after_more}
 use Rattle.aos_check_decl.specs.Pass.{declare}
 use Rattle.aos_check_stat.specs.Bodies.{listed}
-use Rattle.aos_compile.specs.declared.compile_err.CompileErr.{CompileErr}
-use Rattle.aos_compile.specs.declared.compile_err.CompileErr.TheVariants.{Refused, NoMemory}
-use Rattle.aos_compile.specs.Elaborates.{OnRefused}
+use Rattle.aos_reading.specs.declared.compile_err.CompileErr.{CompileErr}
+use Rattle.aos_reading.specs.declared.compile_err.CompileErr.TheVariants.{Refused, NoMemory}
+use Rattle.aos_reading.specs.Sources.{OnRefused}
 use Rattle.aos_compile.specs.Modules.{World, Programs, Beside, Bodies, bodies, defined_object, slotted, beside_in, object_in, programs, with_module, extended, behind_headings, behind_names, elaborated}
 use Rattle.aos_compile.proofs.Kept.{before_kept}
 use Rattle.aos_variables.proofs.Pairs.{drop_item}

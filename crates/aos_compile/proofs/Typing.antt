@@ -17,7 +17,8 @@ use Rattle.aos_symbols.proofs.Each.{Each, all_of}
 use Rattle.aos_symbols.proofs.Holds.{then_went, same_went}
 use Rattle.aos_operators.specs.Known.{object_number}
 use Rattle.aos_compile.specs.Modules.{World, no_modules, program_of}
-use Rattle.aos_compile.specs.Files.{Source, trees_from, loaded, load_order, named, in_order, modules, whole}
+use Rattle.aos_reading.specs.Files.{Source, trees_from, load_order, named}
+use Rattle.aos_compile.specs.Files.{loaded, in_order, modules, whole}
 use Rattle.aos_compile.specs.Elaborates.{ComesTo}
 use Rattle.aos_compile.proofs.Keeping.{rows_keep}
 use Rattle.aos_compile.proofs.Names.{named_well}

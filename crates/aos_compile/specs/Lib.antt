@@ -2,4 +2,3 @@ pub mod Modules
 pub mod Files
 pub mod Elaborates
 pub mod Seen
-pub mod Sources

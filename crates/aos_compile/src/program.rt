@@ -7,16 +7,16 @@ ghost use Rattle.aos_typed.specs.WellTyped.{IsWellTyped};
 ghost use Rattle.aos_sim.specs.Shows.{IsCodeOf, Shows};
 ghost use Rattle.aos_pieces.specs.Images.{IsSoundImageOf};
 ghost use Rattle.aos_symbols.specs.Outcome.{went, refused};
-ghost use Rattle.aos_compile.specs.Elaborates.{ComesTo, names_of, OnRefused};
-ghost use Rattle.aos_compile.specs.Sources.{bytes_of};
+ghost use Rattle.aos_compile.specs.Elaborates.{ComesTo, names_of};
+ghost use Rattle.aos_reading.specs.Sources.{bytes_of, OnRefused};
 
-use crate::compile_err::CompileErr;
 use crate::files::elaborate;
 use crate::laws::law_of_typing;
 use aos_base::NoMemory;
 use aos_code::Image;
 use aos_emit::{bodies_of, conditions_of};
 use aos_image::link;
+use aos_reading::CompileErr;
 use aos_typed::Program;
 use std::alloc::Global;
 

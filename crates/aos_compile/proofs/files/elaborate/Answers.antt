@@ -5,12 +5,13 @@ use Rattle.std.proofs.lemmas.Result.{err_from_is_err_and}
 use Rattle.aos_tree.specs.declared.module.Module.{Module as Tree}
 use Rattle.aos_typed.specs.Seen.{seen_program}
 use Rattle.aos_symbols.specs.Outcome.{refused, went, then}
-use Rattle.aos_compile.specs.declared.front.Reading.{Reading}
-use Rattle.aos_compile.specs.Files.{trees_from, load_order, in_order, whole}
-use Rattle.aos_compile.specs.Elaborates.{AreReadings, OnRefused}
-use Rattle.aos_compile.specs.Sources.{bytes_of, seen_reading, sources}
+use Rattle.aos_reading.specs.declared.front.Reading.{Reading}
+use Rattle.aos_reading.specs.Files.{trees_from, load_order}
+use Rattle.aos_compile.specs.Files.{in_order, whole}
+use Rattle.aos_reading.specs.Texts.{AreReadings}
+use Rattle.aos_reading.specs.Sources.{bytes_of, seen_reading, sources, OnRefused}
 use Rattle.aos_compile.proofs.Composed.{broken_module, comes_whole}
-use Rattle.aos_compile.proofs.Readings.{length-readings, length-trees}
+use Rattle.aos_reading.proofs.Readings.{length-readings, length-trees}
 use Rattle.aos_compile.proofs.files.elaborate.Goals as goal
 
 -- each text has a reading

@@ -3,8 +3,8 @@ use Rattle.std.proofs.lemmas.List.{length-map}
 use Rattle.std.proofs.lemmas.Result.{err_from_is_err_and}
 use Rattle.aos_typed.specs.Seen.{seen_module}
 use Rattle.aos_compile.specs.Seen.{seen_world}
-use Rattle.aos_compile.specs.Sources.{sources}
-use Rattle.aos_compile.proofs.Orders.{source_at}
+use Rattle.aos_reading.specs.Sources.{sources}
+use Rattle.aos_reading.proofs.Orders.{source_at}
 use Rattle.aos_compile.proofs.Loads.{longer, module_broken, module_more}
 use Rattle.aos_compile.proofs.files.in_load_order.Goals as goal
 

@@ -3,7 +3,7 @@ use Rattle.aos_symbols.specs.Outcome.{in_turn}
 use Rattle.aos_compile.specs.Modules.{no_modules}
 use Rattle.aos_compile.specs.Files.{loaded}
 use Rattle.aos_compile.specs.Seen.{seen_world}
-use Rattle.aos_compile.specs.Sources.{sources}
+use Rattle.aos_reading.specs.Sources.{sources}
 use Rattle.aos_compile.proofs.files.in_load_order.Given as goal
 
 abbrev pub invariant-loop-file : goal.invariant-loop-file

@@ -3,9 +3,9 @@ use Rattle.std.proofs.Common.{◌≡◌, ◌<◌, ℕ, length, map, sym, ap, sub
 use Rattle.std.specs.List.{All}
 use Rattle.std.proofs.lemmas.Result.{err_from_is_err_and}
 use Rattle.aos_typed.specs.Seen.{seen_program}
-use Rattle.aos_compile.specs.Files.{named}
+use Rattle.aos_reading.specs.Files.{named}
 use Rattle.aos_compile.specs.Seen.{seen_world}
-use Rattle.aos_compile.specs.Sources.{sources}
+use Rattle.aos_reading.specs.Sources.{sources}
 use Rattle.aos_compile.proofs.Composed.{order_refused, order_went}
 use Rattle.aos_compile.proofs.files.program_in_order.Goals as goal
 

@@ -2,7 +2,7 @@
 use Rattle.std.proofs.Common.{arith}
 use Rattle.std.proofs.lemmas.List.{length-map}
 use Rattle.aos_typed.specs.Seen.{seen_object, seen_program}
-use Rattle.aos_compile.specs.Sources.{bytes_of}
+use Rattle.aos_reading.specs.Sources.{bytes_of}
 use Rattle.aos_compile.proofs.program.with_image.Goals as goal
 
 pub image_of-requires-clause-few_types : goal.image_of-requires-clause-few_types

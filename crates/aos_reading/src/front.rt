@@ -3,9 +3,9 @@
 ghost use Rattle.std.specs.Prelude.{◌≡◌, ◌≤◌, ◌^◌, length, IfOk};
 ghost use Rattle.aos_scan.specs.TokenList.{IsTokenList};
 ghost use Rattle.aos_tree.specs.Ended.{IsEnded};
-ghost use Rattle.aos_compile.specs.Files.{broken};
-ghost use Rattle.aos_compile.specs.Elaborates.{IsReading, breach_at};
-ghost use Rattle.aos_compile.specs.Sources.{breach_of_scan, seen_reading};
+ghost use Rattle.aos_reading.specs.Files.{broken};
+ghost use Rattle.aos_reading.specs.Texts.{IsReading, breach_at};
+ghost use Rattle.aos_reading.specs.Sources.{breach_of_scan, seen_reading};
 
 use aos_base::Pos;
 use aos_parse_expr::ParseErr;

@@ -3,10 +3,10 @@ use Rattle.std.proofs.Common.{◌≡◌, ℕ, ◌+◌, length, map, get_or, sym,
 use Rattle.std.proofs.lemmas.List.{length_push}
 use Rattle.std.proofs.lemmas.Iterator.Consumers.{YieldsList-turn}
 use Rattle.std.proofs.lemmas.Iterator.Adapters.{YieldsList-from_vec}
-use Rattle.aos_compile.specs.Files.{named}
-use Rattle.aos_compile.specs.Sources.{bytes_of, sources}
-use Rattle.aos_compile.proofs.Named.{zip_nothing, named_more}
-use Rattle.aos_compile.proofs.files.with_names.Goals as goal
+use Rattle.aos_reading.specs.Files.{named}
+use Rattle.aos_reading.specs.Sources.{bytes_of, sources}
+use Rattle.aos_reading.proofs.Named.{zip_nothing, named_more}
+use Rattle.aos_reading.proofs.files.with_names.Goals as goal
 
 pub bounds-texts-file : goal.bounds-texts-file
 bounds-texts-file c =

@@ -1,8 +1,8 @@
 use Rattle.std.proofs.Common.{◌≡◌, Some, true, slice_get, refl, sym, ap, ◌∙◌, arith, below_more, option_map}
-use Rattle.aos_compile.specs.Files.{is_named_out}
-use Rattle.aos_compile.specs.Sources.{sources}
-use Rattle.aos_compile.proofs.Orders.{source_at, refused_at, out_here, out_nowhere}
-use Rattle.aos_compile.proofs.files.named_out.Goals as goal
+use Rattle.aos_reading.specs.Files.{is_named_out}
+use Rattle.aos_reading.specs.Sources.{sources}
+use Rattle.aos_reading.proofs.Orders.{source_at, refused_at, out_here, out_nowhere}
+use Rattle.aos_reading.proofs.files.named_out.Goals as goal
 
 pub returns-then-is_word : goal.returns-then-is_word
 returns-then-is_word c =

@@ -2,8 +2,8 @@ use Rattle.std.proofs.Common.{◌≡◌, ◌+◌, ◌<◌, ℕ, length, get_or, 
 use Rattle.std.proofs.lemmas.List.{length_push}
 use Rattle.std.proofs.lemmas.Iterator.Consumers.{YieldsList-turn}
 use Rattle.std.proofs.lemmas.Iterator.Adapters.{YieldsList-from_vec}
-use Rattle.aos_compile.proofs.Readings.{broken_here, tree_more}
-use Rattle.aos_compile.proofs.files.trees_of.Goals as goal
+use Rattle.aos_reading.proofs.Readings.{broken_here, tree_more}
+use Rattle.aos_reading.proofs.files.trees_of.Goals as goal
 
 pub returns-in-Broken-clause-refused : goal.returns-in-Broken-clause-refused
 returns-in-Broken-clause-refused c =

@@ -1,7 +1,7 @@
 use Rattle.std.proofs.Common.{◌≡◌, length, map}
-use Rattle.aos_compile.specs.Files.{named}
-use Rattle.aos_compile.specs.Sources.{sources}
-use Rattle.aos_compile.proofs.files.with_names.Given as goal
+use Rattle.aos_reading.specs.Files.{named}
+use Rattle.aos_reading.specs.Sources.{sources}
+use Rattle.aos_reading.proofs.files.with_names.Given as goal
 
 abbrev pub invariant-loop-own : goal.invariant-loop-own
 invariant-loop-own l = record {

@@ -1,6 +1,6 @@
 use Rattle.std.proofs.Common.{◌≡◌, length}
-use Rattle.aos_compile.proofs.Readings.{IsOnTheWay}
-use Rattle.aos_compile.proofs.files.trees_of.Given as goal
+use Rattle.aos_reading.proofs.Readings.{IsOnTheWay}
+use Rattle.aos_reading.proofs.files.trees_of.Given as goal
 
 abbrev pub invariant-loop-reading : goal.invariant-loop-reading
 invariant-loop-reading l = record {

@@ -8,13 +8,13 @@ use Rattle.aos_scan.specs.Refusal.{IsRefused as IsRefusedByScanner}
 use Rattle.aos_tree.specs.declared.module.Module.{Module as Tree}
 use Rattle.aos_symbols.specs.declared.breach.Breach.{Breach}
 use Rattle.aos_symbols.specs.Outcome.{Outcome, refused, went, then, refusal_of}
-use Rattle.aos_compile.specs.declared.compile_err.CompileErr.{CompileErr}
-use Rattle.aos_compile.specs.declared.compile_err.CompileErr.TheVariants.{Refused}
-use Rattle.aos_compile.specs.declared.front.Reading.{Reading as CodeReading}
-use Rattle.aos_compile.specs.declared.front.Reading.TheVariants as code
-use Rattle.aos_compile.specs.Files.{Reading, tree, broken, trees_from}
-use Rattle.aos_compile.specs.Elaborates.{IsReading, AreReadings, by_scanner, OnRefused}
-use Rattle.aos_compile.specs.Sources.{breach_of_scan, seen_reading, bytes_of}
+use Rattle.aos_reading.specs.declared.compile_err.CompileErr.{CompileErr}
+use Rattle.aos_reading.specs.declared.compile_err.CompileErr.TheVariants.{Refused}
+use Rattle.aos_reading.specs.declared.front.Reading.{Reading as CodeReading}
+use Rattle.aos_reading.specs.declared.front.Reading.TheVariants as code
+use Rattle.aos_reading.specs.Files.{Reading, tree, broken, trees_from}
+use Rattle.aos_reading.specs.Texts.{IsReading, AreReadings, by_scanner}
+use Rattle.aos_reading.specs.Sources.{breach_of_scan, seen_reading, bytes_of, OnRefused}
 
 some_is : {a b : Breach} → Some a ≡ Some b → a ≡ b
 some_is e = cc

@@ -1,5 +1,5 @@
-use Rattle.aos_compile.proofs.Readings.{read_more}
-use Rattle.aos_compile.proofs.files.readings_of.Goals as goal
+use Rattle.aos_reading.proofs.Readings.{read_more}
+use Rattle.aos_reading.proofs.files.readings_of.Goals as goal
 
 pub loop-text-preserved : goal.loop-text-preserved
 loop-text-preserved c =

@@ -4,10 +4,10 @@ use Rattle.aos_tree.specs.declared.module.Module.{Module as Tree}
 use Rattle.aos_order.specs.Files.{files}
 use Rattle.aos_order.specs.Order.{Gives, NamesFiles, answer}
 use Rattle.aos_order.proofs.Reading.{length-files}
-use Rattle.aos_compile.specs.Files.{named_out}
-use Rattle.aos_compile.specs.Sources.{sources}
-use Rattle.aos_compile.proofs.Orders.{refused_at, files_are, order_at_most, told_out, twice_said, absent_said, cycle_said, out_said, order_said}
-use Rattle.aos_compile.proofs.files.load_order.Goals as goal
+use Rattle.aos_reading.specs.Files.{named_out}
+use Rattle.aos_reading.specs.Sources.{sources}
+use Rattle.aos_reading.proofs.Orders.{refused_at, files_are, order_at_most, told_out, twice_said, absent_said, cycle_said, out_said, order_said}
+use Rattle.aos_reading.proofs.files.load_order.Goals as goal
 
 pub returns-in-Some-clause-refused : goal.returns-in-Some-clause-refused
 returns-in-Some-clause-refused c =

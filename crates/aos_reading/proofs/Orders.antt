@@ -13,11 +13,10 @@ use Rattle.aos_order.specs.Order.{Answer, Order, Twice, Absent, Cycle, absent, a
 use Rattle.aos_order.specs.Placing.{next, placed, placed_after, unplaced}
 use Rattle.aos_order.proofs.Searches.{find_first, find_none}
 use Rattle.aos_symbols.specs.Outcome.{refused, went, refusal}
-use Rattle.aos_compile.specs.declared.compile_err.CompileErr.{CompileErr}
-use Rattle.aos_compile.specs.declared.compile_err.CompileErr.TheVariants.{Refused}
-use Rattle.aos_compile.specs.Files.{Source, name_place, is_named_out, named_out, at_name, decided_order, file_of, load_order}
-use Rattle.aos_compile.specs.Elaborates.{OnRefused}
-use Rattle.aos_compile.specs.Sources.{bytes_of, sources}
+use Rattle.aos_reading.specs.declared.compile_err.CompileErr.{CompileErr}
+use Rattle.aos_reading.specs.declared.compile_err.CompileErr.TheVariants.{Refused}
+use Rattle.aos_reading.specs.Files.{Source, name_place, is_named_out, named_out, at_name, decided_order, file_of, load_order}
+use Rattle.aos_reading.specs.Sources.{bytes_of, sources, OnRefused}
 
 module _ (ts : List (Vec ℕ Global)) (ms : List Tree) (same : length ms ≡ length ts) where
   pub length-sources : length (sources ts ms) ≡ length ms

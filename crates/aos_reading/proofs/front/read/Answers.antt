@@ -2,7 +2,7 @@ use Rattle.std.proofs.Common.{refl, sym, subst, ◌∙◌}
 use Rattle.aos_scan.specs.TokenList.{end_token}
 use Rattle.aos_tree.specs.Ended.{IsEnded}
 use Rattle.aos_parse_expr.proofs.Ended.{ended}
-use Rattle.aos_compile.proofs.front.read.Goals as goal
+use Rattle.aos_reading.proofs.front.read.Goals as goal
 
 pub parsed-requires-clause-ended : goal.parsed-requires-clause-ended
 parsed-requires-clause-ended c =

@@ -1,7 +1,7 @@
 use Rattle.std.proofs.Common.{map, take}
-use Rattle.aos_compile.specs.Elaborates.{AreReadings}
-use Rattle.aos_compile.specs.Sources.{bytes_of, seen_reading}
-use Rattle.aos_compile.proofs.files.readings_of.Given as goal
+use Rattle.aos_reading.specs.Texts.{AreReadings}
+use Rattle.aos_reading.specs.Sources.{bytes_of, seen_reading}
+use Rattle.aos_reading.proofs.files.readings_of.Given as goal
 
 abbrev pub invariant-loop-text : goal.invariant-loop-text
 invariant-loop-text l = AreReadings (bytes_of (take l.text-index l.texts)) (map seen_reading l.readings.items)

@@ -1,7 +1,7 @@
 use Rattle.std.proofs.Common.{sym, ap, subst}
 use Rattle.std.specs.Prelude.{Err}
-use Rattle.aos_compile.specs.Elaborates.{IsReading, by_tree, by_syntax, by_nesting}
-use Rattle.aos_compile.proofs.front.parsed.Goals as goal
+use Rattle.aos_reading.specs.Texts.{IsReading, by_tree, by_syntax, by_nesting}
+use Rattle.aos_reading.proofs.front.parsed.Goals as goal
 
 pub returns-in-Ok : goal.returns-in-Ok
 returns-in-Ok c = by_tree (record { tokens = c.args.tokens.now; scanned = c.requires.tokens; reads = c.in-Ok.ensures.tree })

@@ -1,7 +1,7 @@
 // Why a text isn't compiled.
 
 ghost use Rattle.std.specs.Prelude.{◌≡◌};
-ghost use Rattle.aos_compile.specs.declared.compile_err.CompileErr.{CompileErr};
+ghost use Rattle.aos_reading.specs.declared.compile_err.CompileErr.{CompileErr};
 
 use aos_base::{NoMemory, Refusal};
 use std::alloc::{AllocError, AllocFailed};
