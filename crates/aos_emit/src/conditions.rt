@@ -56,26 +56,27 @@ fn procedure_condition(
     Ok(body)
 }
 
-// One that a routine awaits.
-fn condition_of(
+/// The body of one condition that a routine of a well-typed program awaits. It has the condition's code over the routine's frames, and
+/// as many operands at most as that needs. Want of memory is the only error.
+pub fn condition(
     alloc: Global,
     laid: &Laid<'_>,
     routine: &Routine<'_>,
-    condition: &TExpr,
+    expression: &TExpr,
 ) -> Result<Body, NoMemory>
     requires typed { IsTyped (seen_program laid.now) (seen_routine routine.now) }
     ensures code { IfOk result (λ body. body.code.items ≡ condition_code (seen_program laid.now)
-        (seen_routine routine.now).own (seen_expr condition.now)) }
+        (seen_routine routine.now).own (seen_expr expression.now)) }
     ensures depth { IfOk result (λ body.
-        body.depth ≡ need_of.value_need (seen_expr condition.now)) }
+        body.depth ≡ need_of.value_need (seen_expr expression.now)) }
 {
     match routine {
         Routine::Body(_, _, _) => {
-            let body = emit_condition(&Scope::body(alloc, laid), condition)?;
+            let body = emit_condition(&Scope::body(alloc, laid), expression)?;
             Ok(body)
         }
         Routine::Procedure(home, procedure) => {
-            procedure_condition(alloc, laid, *home, procedure, condition)
+            procedure_condition(alloc, laid, *home, procedure, expression)
         }
     }
 }
@@ -94,7 +95,7 @@ fn put_conditions(
 {
     let awaits = awaits_of(alloc, routine)?;
     for one in &awaits {
-        let body = condition_of(alloc, laid, routine, one.condition)?;
+        let body = condition(alloc, laid, routine, one.condition)?;
         put_body(conds, body)?;
     }
     Ok(())

@@ -6,4 +6,4 @@ mod bodies;
 mod conditions;
 
 pub use bodies::bodies_of;
-pub use conditions::conditions_of;
+pub use conditions::{condition, conditions_of};

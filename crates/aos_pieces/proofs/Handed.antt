@@ -3,7 +3,6 @@ use Rattle.std.proofs.Common.{◌≡◌, ◌≤◌, ◌+◌, ◌-◌, ◌⊎◌,
 use Rattle.std.specs.Prelude.{replicate, reverse}
 use Rattle.std.proofs.lemmas.List.{length-replicate, replicate-append-replicate, reverse-append}
 use Rattle.aos_types.specs.declared.row.TypeRow.{TypeRow}
-use Rattle.aos_types.specs.declared.row.TypeRow.TheVariants as row
 use Rattle.aos_types.specs.Table.{row_of, is_open, is_scalar}
 use Rattle.aos_types.specs.Shape.{One, size}
 use Rattle.aos_types.specs.Shape as shape

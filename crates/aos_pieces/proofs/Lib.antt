@@ -10,3 +10,4 @@ pub mod Bodies
 pub mod Awaited
 pub mod Conditions
 pub mod Images
+pub mod Parts

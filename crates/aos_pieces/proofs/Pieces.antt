@@ -10,7 +10,7 @@ use Rattle.aos_sound.specs.declared.effect.Next.TheVariants.{Ends, On}
 use Rattle.aos_sound.specs.declared.stand.Role.{Role}
 use Rattle.aos_sound.specs.Sound.{Kinds, Leads, next_of, after, may_stand, may_jump, is_procedure, is_begin}
 use Rattle.aos_sim.proofs.Runs.{drop_past}
-use Rattle.aos_pieces.specs.Piece.{Typing, Stands, Lies, Within, Round, AreOk, Piece}
+use Rattle.aos_pieces.specs.Piece.{Typing, Stands, Lies, Within, Round, At, AreOk, Piece}
 
 -- Where pieces stand.
 
@@ -60,11 +60,7 @@ back role whole to at lt e f =
     ∙ ap (λ y. nat_lt at to || y) f
     ∙ or_true (nat_lt at to)
 
--- the place has these operands
-abbrev pub At : ℕ → Kinds → Round
-At to s = λ whole kinds. kinds to ≡ Some s
-
--- and a statement begins there
+-- the place has these operands, and a statement begins there
 abbrev pub AtBegin : ℕ → Kinds → Round
 AtBegin to s = λ whole kinds. (kinds to ≡ Some s) × (is_begin (slice_get whole to) ≡ true)
 

@@ -40,8 +40,8 @@ use Rattle.aos_sim.specs.Need.{operands, arguments_need, place_need, value_need,
 use Rattle.aos_sim.proofs.Changes.{includes_itself}
 use Rattle.aos_sim.proofs.Sizes.{search_length, stats_length, arms_length, cases_length, arm_ahead, stats_above}
 use Rattle.aos_sim.proofs.Routines.{object_there}
-use Rattle.aos_pieces.specs.Piece.{Round, Piece}
-use Rattle.aos_pieces.proofs.Pieces.{At, Entries, nothing, one, followed, both, one_then, then_one, left_with, moved, recoded, asks_less, jump_forth, branch, choose, arm, repeats, repeats_until, loops, stops}
+use Rattle.aos_pieces.specs.Piece.{Round, At, Piece}
+use Rattle.aos_pieces.proofs.Pieces.{Entries, nothing, one, followed, both, one_then, then_one, left_with, moved, recoded, asks_less, jump_forth, branch, choose, arm, repeats, repeats_until, loops, stops}
 use Rattle.aos_pieces.proofs.Numbers.{HasNumbers}
 use Rattle.aos_pieces.proofs.Operands.{value_kind}
 use Rattle.aos_pieces.proofs.Handed.{dimensions_are, kinds_taken, kinds_for, handed_many}

@@ -1,3 +1,4 @@
 pub mod Piece
 pub mod Bodies
 pub mod Images
+pub mod Parts

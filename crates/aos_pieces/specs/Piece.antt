@@ -27,6 +27,14 @@ Within whole kinds = (at : ℕ) (s : Kinds) → kinds at ≡ Some s → at < len
 abbrev pub Round : Type 1
 Round = List Instr → Typing → Type 0
 
+-- nothing is asked
+abbrev pub Anything : Round
+Anything = λ whole kinds. Unit {0}
+
+-- the place has these operands
+abbrev pub At : ℕ → Kinds → Round
+At to s = λ whole kinds. kinds to ≡ Some s
+
 -- in an image, as the procedure of this number, in this role and with room for so many operands
 module _ (image : Image) (own : ℕ) (role : Role) (depth : ℕ) where
   -- an instruction stands where it may, and finds what it takes; wherever the code goes on behind it the typing has what is left

@@ -8,6 +8,7 @@ ghost use Rattle.aos_sim.specs.Need.{HasDepthsOf};
 ghost use Rattle.aos_sim.specs.Shows.{IsCodeOf};
 ghost use Rattle.aos_pieces.specs.Bodies.{AreBodiesSound, AreSound, AreConditionsSound};
 ghost use Rattle.aos_pieces.specs.Images.{IsSoundImageOf};
+ghost use Rattle.aos_pieces.specs.Parts.{HasTablesOf, ArePartsSound};
 
 /// Each body of an image that has a well-typed program's code is sound as the procedure of its
 /// number, with room for as many operands as its statements need; and so with as many as it says,
@@ -29,4 +30,11 @@ pub fn law_of_conditions()
 /// room for as many operands as it says; and each procedure that it names has a body.
 pub fn law_of_images()
     ensures { (p : Program) (image : Image) → IsWellTyped p → IsCodeOf p image → HasDepthsOf p image → IsSoundImageOf p image }
+{}
+
+/// Over each image with a well-typed program's modules, types and shapes, and as many conditions, the code of an expression, of a
+/// statement and of statements of a routine is sound but that its paths may leave it at its end: with what the expression gives added to
+/// the operands, and behind statements without any.
+pub fn law_of_parts()
+    ensures { (p : Program) (image : Image) → IsWellTyped p → HasTablesOf p image → ArePartsSound p image }
 {}
