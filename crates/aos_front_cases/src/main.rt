@@ -5,7 +5,7 @@
 //! the `expression` or the `block` that it begins with, where as many productions are open round it as `nested` says; for
 //! the `shape` of that expression, and of the `name` behind the first token; for the `module` that it is, and what its
 //! `passes` and its `checks` come to; whether it and `other` have one tree, `trees`; and for the `order` of modules. Of the
-//! table `types`, in which `set` puts another row, the questions are `relation`, `fits`, `scalars` and `contained`. Of files,
+//! table `types`, in which `set` puts another row, the questions are `relation`, `fits`, `scalars`, `kinds` and `contained`. Of files,
 //! which are the sections with a point in their names, they are `conditions` and, with their places, `places`. Of a text of
 //! `words` it is the command that they are.
 #![tactic(auto)]

@@ -5,7 +5,7 @@ use crate::conditions::{Style, told_conditions};
 use crate::orders::told_order;
 use crate::parts::{told_block, told_expression, told_module, told_name, told_shape};
 use crate::passes::told_passes;
-use crate::relations::{told_contained, told_fits, told_relation, told_scalars};
+use crate::relations::{told_contained, told_fits, told_kinds, told_relation, told_scalars};
 use crate::tokens::told_tokens;
 use crate::trees::told_trees;
 use crate::untold::{Untold, told_instead};
@@ -36,7 +36,10 @@ fn is_question_of_text(name: &str) -> bool {
 }
 
 fn is_question_of_types(name: &str) -> bool {
-    matches!(name, "relation" | "fits" | "scalars" | "contained")
+    matches!(
+        name,
+        "relation" | "fits" | "scalars" | "kinds" | "contained"
+    )
 }
 
 fn is_question_of_files(name: &str) -> bool {
@@ -110,6 +113,7 @@ fn told_of_types(
         "relation" => told_relation(alloc, table, line, text),
         "fits" => told_fits(alloc, table, text),
         "scalars" => told_scalars(alloc, table, line, text),
+        "kinds" => told_kinds(alloc, table, line, text),
         _ => told_contained(alloc, table, line, text),
     }
 }

@@ -1,8 +1,10 @@
-// The relations between types of a table, their scalars, and whether they contain themselves.
+// The relations between types of a table, their scalars, the kinds of their cells, and whether they contain themselves.
 
 use crate::types::{set, type_of, types_of};
 use crate::untold::Untold;
 use aos_base::NoMemory;
+use aos_code::Kind;
+use aos_layout::shape;
 use aos_types::{TypeId, Types};
 use std::alloc::{AllocError, Global};
 
@@ -73,6 +75,39 @@ pub fn told_scalars(alloc: Global, table: &str, line: &str, word: &str) -> Resul
         Some(count) => Ok(count.to_string(alloc)?),
         None => Ok(String::from_str(alloc, "too many")?),
     }
+}
+
+// The kinds of the cells of a type that has no more scalars than it may have, where no type of the table contains itself.
+fn kinds(alloc: Global, types: &Types, id: TypeId) -> Result<Vec<Kind>, Untold> {
+    if (id.0 as usize) < types.len() && types.none_contains_itself(alloc)? {
+        if types.leaves(id).is_none() {
+            return Err(Untold::Malformed);
+        }
+        let kinds = shape(alloc, types, id)?;
+        Ok(kinds)
+    } else {
+        Err(Untold::Malformed)
+    }
+}
+
+fn letter(kind: Kind) -> char {
+    match kind {
+        Kind::N => 'n',
+        Kind::R => 'r',
+        Kind::C => 'c',
+        Kind::A => 'a',
+    }
+}
+
+/// The kinds of a type's cells, a letter for each: of a number n, of a reference r, of a procedure value c, and of a place a.
+pub fn told_kinds(alloc: Global, table: &str, line: &str, word: &str) -> Result<String, Untold> {
+    let types = changed(alloc, table, line)?;
+    let kinds = kinds(alloc, &types, type_of(table, word))?;
+    let mut out = String::new(alloc);
+    for kind in &kinds {
+        out.push(letter(*kind))?;
+    }
+    Ok(out)
 }
 
 /// Whether a type contains itself.

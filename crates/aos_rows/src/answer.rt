@@ -4,6 +4,7 @@ ghost use Rattle.std.specs.Prelude.{◌≡◌, ◌≢◌, OnOk, string_len};
 ghost use Rattle.aos_dev.specs.MemSink.{sink_bytes};
 
 use crate::given::{replay_words, shelf_by, shelf_of, sink_fails, wanted, words_of};
+use crate::lending::add_lending;
 use crate::probes::Restless;
 use aos::aos;
 use aos_base::NoMemory;
@@ -202,6 +203,7 @@ pub fn add_differences<R: AllocGlobal + Threads + Wait + Sync>(
     match command.name.as_str() {
         "meet" => return add_meeting(rt, told, sections, command, behind),
         "unkept" => return add_unkept(rt, told, sections, command, behind),
+        "lending" => return add_lending(rt, told, command, behind),
         _ => {}
     }
     let Ok(answer) = answer_to(rt, rt.alloc(), sections, command, &OpenGate) else {

@@ -8,7 +8,16 @@ use std::alloc::{AllocError, Global};
 pub fn is_command(section: &Section) -> bool {
     matches!(
         section.name.as_str(),
-        "run" | "replay" | "watch" | "check" | "list" | "logged" | "meet" | "unkept" | "words"
+        "run"
+            | "replay"
+            | "watch"
+            | "check"
+            | "list"
+            | "logged"
+            | "meet"
+            | "unkept"
+            | "lending"
+            | "words"
     )
 }
 
@@ -39,6 +48,7 @@ fn sink_fail(text: &str) -> Option<(u64, u32)> {
 fn is_known(section: &Section) -> bool {
     match section.name.as_str() {
         "check" | "list" => section.text.is_empty(),
+        "lending" => section.text.parse::<u32>().is_ok(),
         "shelf-fails" => section.text.parse::<u64>().is_ok(),
         "out-fails" | "err-fails" => sink_fail(section.text.as_str()).is_some(),
         _ => is_command(section) || is_wanted(section) || is_file(section),

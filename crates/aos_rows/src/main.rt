@@ -11,6 +11,8 @@
 //! - `meet OPTIONS` does so behind a gate at which workers 0 and 1 wait for each other, where they have to meet and both to
 //!   make steps.
 //! - `unkept OPTIONS` runs them over sinks that keep nothing, of which the status alone is told.
+//! - `lending PAIRS` runs the module that the command `gen` makes of so many pairs, by two workers alone: they make some turns by
+//!   loans, and what is written is `out`.
 //!
 //! Behind a command stands what is wanted of it: `out`, `err` and `status`, which are nothing, nothing and 0 where they don't
 //! stand there. Of `logged` and `meet` both the run and the replay answer so, and the replay's `err` is meant.
@@ -20,6 +22,7 @@
 
 mod answer;
 mod given;
+mod lending;
 mod probes;
 
 use crate::answer::add_differences;
