@@ -197,7 +197,7 @@ class Names(unittest.TestCase):
         self.assertFalse(self.names.is_there("aos_base/src/text.rt", "Po"))
 
     def test_moved_places_are_mended(self):
-        for old, new in (("`aos_gone/src/awaits.rt`: `await_of`", "`aos_check_stat/src/awaits.rt`: `await_of`"),
+        for old, new in (("`aos_gone/src/awaits.rt`: `await_of`", "`aos_check_parts/src/awaits.rt`: `await_of`"),
                          ("`aos_base/src/text.rt`: `Pos`, `NowhereAtAll`", "`aos_base/src/text.rt`: `Pos`, `NowhereAtAll`")):
             self.assertEqual(self.names.CITED.sub(self.names.mended, "| %s | x |" % old), "| %s | x |" % new)
 
@@ -207,7 +207,7 @@ class Names(unittest.TestCase):
 
     def test_names_in_files(self):
         text = "(`%s` in `crates/%s/src/awaits.rt`)"
-        self.assertEqual(self.names.NAMED.sub(self.names.renamed, text % ("await_of", "aos_gone")), text % ("await_of", "aos_check_stat"))
+        self.assertEqual(self.names.NAMED.sub(self.names.renamed, text % ("await_of", "aos_gone")), text % ("await_of", "aos_check_parts"))
         self.assertEqual(self.names.NAMED.sub(self.names.renamed, text % ("nothing_so", "aos_gone")), text % ("nothing_so", "aos_gone"))
 
     def test_each_crate_has_a_layer(self):

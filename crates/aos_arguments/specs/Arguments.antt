@@ -17,14 +17,14 @@ use Rattle.aos_symbols.specs.declared.env.Env.{Env}
 use Rattle.aos_symbols.specs.Breaches.{breach}
 use Rattle.aos_symbols.specs.Judged.{Judged, judged}
 use Rattle.aos_symbols.specs.Env as env
-use Rattle.aos_operators.specs.declared.known.Class.{Class}
-use Rattle.aos_operators.specs.declared.known.Class.TheVariants.{Unknown, Constant, Variable, ReadOnly, Computed, Procedure}
-use Rattle.aos_operators.specs.declared.known.Known.{Known}
-use Rattle.aos_operators.specs.Known.{Answer, is, passes, object_number}
-use Rattle.aos_operators.specs.Kinds.{has_parts, is_opened, is_record_type, is_value}
-use Rattle.aos_operators.specs.Places.{place_in}
-use Rattle.aos_rules.specs.Assignable.{is_assignable, typed_for}
-use Rattle.aos_rules.specs.Arrays.{is_array, is_characters, string_in, text_for, has_room, rows_in}
+use Rattle.aos_known.specs.declared.known.Class.{Class}
+use Rattle.aos_known.specs.declared.known.Class.TheVariants.{Unknown, Constant, Variable, ReadOnly, Computed, Procedure}
+use Rattle.aos_known.specs.declared.known.Known.{Known}
+use Rattle.aos_known.specs.Known.{Answer, is, passes, object_number}
+use Rattle.aos_known.specs.Kinds.{has_parts, is_opened, is_record_type, is_value}
+use Rattle.aos_known.specs.Places.{place_in}
+use Rattle.aos_values.specs.Assignable.{is_assignable, typed_for}
+use Rattle.aos_values.specs.Arrays.{is_array, is_characters, string_in, text_for, has_room, rows_in}
 use Rattle.aos_arguments.specs.Filled.{filled_index, filled_place}
 
 -- The rule that an argument breaks, if it breaks one.

@@ -18,9 +18,9 @@ use Rattle.aos_symbols.specs.declared.scope.Constant.{Constant}
 use Rattle.aos_symbols.specs.Scope.{Scope}
 use Rattle.aos_symbols.specs.Env as env
 use Rattle.aos_symbols.specs.Home.{Home, character, texts_of}
-use Rattle.aos_operators.specs.declared.known.Class.TheVariants.{Variable}
-use Rattle.aos_rules.specs.Arrays.{is_characters, length_of}
-use Rattle.aos_rules.specs.Signatures.{formal}
+use Rattle.aos_known.specs.declared.known.Class.TheVariants.{Variable}
+use Rattle.aos_values.specs.Arrays.{is_characters, length_of}
+use Rattle.aos_values.specs.Signatures.{formal}
 
 -- the largest number that is given of these
 abbrev pub most : {A : Type 0} → (A → ℕ) → List A → ℕ

@@ -10,12 +10,12 @@ use Rattle.aos_symbols.specs.declared.env.Env.{Env}
 use Rattle.aos_symbols.specs.declared.breach.Breach.{Breach}
 use Rattle.aos_symbols.specs.Breaches.{breach_unless}
 use Rattle.aos_symbols.specs.Judged.{Judged, judged, kept}
-use Rattle.aos_operators.specs.declared.known.Class.{Class}
-use Rattle.aos_operators.specs.declared.known.Class.TheVariants.{Variable, Computed}
+use Rattle.aos_known.specs.declared.known.Class.{Class}
+use Rattle.aos_known.specs.declared.known.Class.TheVariants.{Variable, Computed}
 use Rattle.aos_operators.specs.declared.operations.Step.{Step}
-use Rattle.aos_operators.specs.Known.{Answer, passes, is_number, constant_answer, answered, nothing, refused}
+use Rattle.aos_known.specs.Known.{Answer, passes, is_number, constant_answer, answered, nothing, refused}
 use Rattle.aos_operators.specs.Operations as op
-use Rattle.aos_operators.specs.Kinds as kinds
+use Rattle.aos_known.specs.Kinds as kinds
 use Rattle.aos_arguments.specs.declared.functions.Limit.{Limit}
 use Rattle.aos_arguments.specs.declared.functions.Limit.TheVariants as which
 use Rattle.aos_arguments.specs.declared.functions.Taking.{Taking}

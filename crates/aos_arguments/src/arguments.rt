@@ -4,23 +4,23 @@ ghost use Rattle.std.specs.Prelude.{◌≡◌, OnOk, IfOk};
 ghost use Rattle.aos_types.specs.Table as table;
 ghost use Rattle.aos_typed.specs.Seen.{seen_place};
 ghost use Rattle.aos_symbols.specs.Breaches.{first_after};
-ghost use Rattle.aos_operators.specs.Seen.{seen_answer};
+ghost use Rattle.aos_known.specs.Seen.{seen_answer};
 ghost use Rattle.aos_arguments.specs.Arguments as judge;
 ghost use Rattle.aos_arguments.specs.Seen.{seen_given, seen_handing};
 
 use crate::filled::{filled_index, filled_place};
 use aos_base::Pos;
-use aos_made::{MadeArgument, MadeArguments, MadePlace};
-use aos_operators::{
+use aos_known::{
     Answer, Class, Known, has_parts, is_opened, is_record_type, is_value, made_place_in,
     object_number, open_dimensions,
 };
-use aos_rules::{
-    has_room, is_array, is_assignable, is_characters, rows_in, string_in, text_for, typed_for,
-};
+use aos_made::{MadeArgument, MadeArguments, MadePlace};
 use aos_symbols::{ARGUMENT_TYPE, Breach, Env, NO_VARIABLE, NOT_BUILT, READ_ONLY, note};
 use aos_typed::{TPlace, TextConstant, open_array};
 use aos_types::{MOST_SCALARS, Parameter, TypeId, TypeRow};
+use aos_values::{
+    has_room, is_array, is_assignable, is_characters, rows_in, string_in, text_for, typed_for,
+};
 use std::alloc::{AllocError, Global};
 
 fn broken_unless(rule: u16, is_kept: bool) -> Option<u16>

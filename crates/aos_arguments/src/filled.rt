@@ -5,12 +5,12 @@ ghost use Rattle.std.specs.List.{flat_map};
 ghost use Rattle.aos_typed.specs.Seen.{seen_place};
 ghost use Rattle.aos_arguments.specs.Filled as judge;
 
+use aos_known::{Class, Known};
 use aos_made::MadePlace;
-use aos_operators::{Class, Known};
-use aos_rules::{is_characters, length_of};
 use aos_symbols::{Constant, Env, Home, Scope};
 use aos_typed::{Literal, TextConstant};
 use aos_types::{Parameter, Signature, TypeId, TypeRow};
+use aos_values::{is_characters, length_of};
 use std::alloc::{AllocError, Global};
 
 /// The length of the array of characters that a parameter is by value, and 0 of another parameter.

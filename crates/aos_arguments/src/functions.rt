@@ -3,17 +3,17 @@
 ghost use Rattle.std.specs.Prelude.{◌≡◌, OnOk, IfOk, map};
 ghost use Rattle.aos_typed.specs.Seen.{seen_callee, seen_expr};
 ghost use Rattle.aos_symbols.specs.Breaches.{first_after};
-ghost use Rattle.aos_operators.specs.Seen.{seen_answer};
+ghost use Rattle.aos_known.specs.Seen.{seen_answer};
 ghost use Rattle.aos_arguments.specs.Functions as judge;
 ghost use Rattle.aos_arguments.specs.Seen.{seen_given, seen_handing};
 
 use crate::arguments::Handing;
 use aos_base::Pos;
-use aos_made::{MadeArguments, MadeCallee, Typed};
-use aos_operators::operations::{self, Step};
-use aos_operators::{
+use aos_known::{
     Answer, Class, answered, constant_answer, is_number, may_be_value, nothing, refused,
 };
+use aos_made::{MadeArguments, MadeCallee, Typed};
+use aos_operators::operations::{self, Step};
 use aos_symbols::{
     ARGUMENT_TYPE, Breach, CALL_IN_AWAIT, Env, Function, Meaning, NOT_BUILT, OTHER_KIND, note,
 };

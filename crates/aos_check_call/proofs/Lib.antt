@@ -1,5 +1,1 @@
-mod Endings
-pub mod Places
-pub mod Changed
-pub mod CallTyping
-pub mod Keeping
+mod Brackets

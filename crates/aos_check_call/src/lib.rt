@@ -1,12 +1,8 @@
-//! Calls as statements: of procedures and methods, of the predeclared procedures, and of those of module Out.
+//! Calls of procedures and methods as statements.
 #![tactic(auto)]
 
-mod calls;
 mod methods;
-mod news;
-mod out;
 mod procedures;
-mod routines;
-mod texts;
 
-pub use calls::called;
+pub use methods::called_value;
+pub use procedures::{called_in_module, performed};

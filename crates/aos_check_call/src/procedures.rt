@@ -87,7 +87,7 @@ pub fn perform(
 }
 
 /// What stands behind the name of a procedure, in a call that begins at a place.
-#[tactic(auto, using(crate::proofs::Endings::ended_noted, crate::proofs::Endings::ended_answer))]
+#[tactic(auto, using(aos_stat_rules::proofs::Endings::ended_noted, aos_stat_rules::proofs::Endings::ended_answer))]
 pub fn performed(
     alloc: Global,
     found: &mut Option<Breach>,

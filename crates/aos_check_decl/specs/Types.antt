@@ -20,7 +20,7 @@ use Rattle.aos_symbols.specs.declared.env.Env.{Env}
 use Rattle.aos_symbols.specs.Breaches.{breach}
 use Rattle.aos_symbols.specs.Judged.{Judged, judged, kept, bind, walk}
 use Rattle.aos_symbols.specs.Scope.{empty}
-pub use Rattle.aos_rules.specs.TypeNames.{no_type, type_meant, type_found, type_of_out, type_in_module, qualified_type, named_type}
+pub use Rattle.aos_values.specs.TypeNames.{no_type, type_meant, type_found, type_of_out, type_in_module, qualified_type, named_type}
 use Rattle.aos_check_decl.specs.Variables.{constant_def}
 use Rattle.aos_made_types.specs.Formals.{procedure_in}
 use Rattle.aos_check_expr.specs.Expressions.{constant, no_place}

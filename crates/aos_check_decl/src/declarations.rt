@@ -10,10 +10,10 @@ use crate::types::type_in;
 use aos_base::NoMemory;
 use aos_check_expr::constant;
 use aos_check_types::defined_type;
-use aos_rules::named_type;
 use aos_symbols::{Breach, Constant, Env, NIL};
 use aos_tree::{ConstDef, Decl, TypeDef, TypeExpr, VarDef};
 use aos_types::{TypeId, TypeRow};
+use aos_values::named_type;
 use std::alloc::{AllocError, Global};
 
 /// A constant, with its value where its expression is constant and breaks no rule.

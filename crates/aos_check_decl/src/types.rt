@@ -13,11 +13,11 @@ use aos_made_types::{
     add_all_fields, add_fields, add_types, base_in, known_record, own_types, place_arrays,
     place_object, place_open, pointer_behind, procedure_type,
 };
-use aos_rules::{named_type, no_type};
 use aos_symbols::{Breach, Env, NOT_CONSTANT, OBJECT_INSIDE, OPEN_ARRAY, Scope, note};
 use aos_tree::{Decl, Expr, Fields, Items as Parts, Qualident, TypeExpr, VarDef};
 use aos_typed::Literal;
 use aos_types::{Items, MOST_SCALARS, TypeId};
+use aos_values::{named_type, no_type};
 use std::alloc::{AllocError, Global};
 
 /// A rule that a type breaks; nothing of it is known.

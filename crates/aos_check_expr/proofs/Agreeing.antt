@@ -15,9 +15,9 @@ use Rattle.aos_typed.specs.Program.{Parameter}
 use Rattle.aos_types.specs.declared.signature.Parameter.{Parameter as Formal}
 use Rattle.aos_types.specs.declared.signature.Gives.{Gives}
 use Rattle.aos_types.specs.declared.signature.Gives.TheVariants as gives
-use Rattle.aos_operators.specs.Known.{type_as}
+use Rattle.aos_known.specs.Known.{type_as}
 use Rattle.aos_types.specs.Signature.{same_type, same_kind, same_parameters, same_result}
-use Rattle.aos_operators.proofs.Types.{not_both, same_type as same_number}
+use Rattle.aos_known.proofs.Types.{not_both, same_type as same_number}
 use Rattle.aos_check_expr.proofs.Objects.{either_is}
 use Rattle.aos_check_expr.proofs.Opens.{OpensFall, open_is, next_dimensions, next_element}
 use Rattle.aos_check_expr.proofs.Whole.{AreFormalsOf, IsResultOf}

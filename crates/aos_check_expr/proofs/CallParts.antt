@@ -19,9 +19,9 @@ use Rattle.aos_symbols.specs.declared.env.Env.{Env}
 use Rattle.aos_symbols.specs.Judged.{Judged, bind}
 use Rattle.aos_symbols.proofs.Each.{Each}
 use Rattle.aos_symbols.proofs.Holds.{Holds, holds_bind}
-use Rattle.aos_operators.proofs.Inside.{Inside}
+use Rattle.aos_known.proofs.Inside.{Inside}
 use Rattle.aos_operators.specs.declared.operations.Step.{Step}
-use Rattle.aos_operators.specs.Known.{Answer, is_integer}
+use Rattle.aos_known.specs.Known.{Answer, is_integer}
 use Rattle.aos_operators.specs.Operations as op
 use Rattle.aos_operators.proofs.Good.{IsGood, MayBe, greatest_good, least_good}
 use Rattle.aos_operators.proofs.Sound.{IsStep, TestsOne, applied_step, applied_tests, converted_step, converted_tests}

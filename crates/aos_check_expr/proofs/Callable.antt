@@ -27,17 +27,17 @@ use Rattle.aos_symbols.specs.Env as env
 use Rattle.aos_symbols.specs.Env.{nil}
 use Rattle.aos_symbols.proofs.Each.{Each}
 use Rattle.aos_symbols.proofs.Told.{IsTold, basic as basic_told, of_any, defined, IsFormalType, IsResultType}
-use Rattle.aos_operators.specs.declared.known.Class.{Class}
-use Rattle.aos_operators.specs.declared.known.Class.TheVariants as class
-use Rattle.aos_operators.specs.declared.known.Known.{Known}
-use Rattle.aos_operators.specs.Known.{Answer, is_nil, is_basic, object_number, type_as, as_procedure}
+use Rattle.aos_known.specs.declared.known.Class.{Class}
+use Rattle.aos_known.specs.declared.known.Class.TheVariants as class
+use Rattle.aos_known.specs.declared.known.Known.{Known}
+use Rattle.aos_known.specs.Known.{Answer, is_nil, is_basic, object_number, type_as, as_procedure}
 use Rattle.aos_types.specs.Signature.{same_signature, same_parameters}
-use Rattle.aos_operators.proofs.Inside.{Inside, IsOf, IsNamed}
+use Rattle.aos_known.proofs.Inside.{Inside, IsOf, IsNamed}
 use Rattle.aos_types.specs.Signature as signatures
-use Rattle.aos_operators.proofs.Types.{not_both, as_named, id_as, id_above}
+use Rattle.aos_known.proofs.Types.{not_both, as_named, id_as, id_above}
 use Rattle.aos_operators.proofs.Sound.{IsScalar, IsClosedPlace, IsOpenPlace, IsWholeRead, IsCallable, IsOther, IsSound}
-use Rattle.aos_rules.specs.Signatures.{formal, given_by, row_signature, type_signature}
-use Rattle.aos_rules.specs.Assignable as assignable
+use Rattle.aos_values.specs.Signatures.{formal, given_by, row_signature, type_signature}
+use Rattle.aos_values.specs.Assignable as assignable
 use Rattle.aos_designators.specs.Designators as desig
 use Rattle.aos_check_expr.proofs.Whole.{IsWhole, IsParameterType, AreParameters, IsResultOf, IsSigned, parameter_type, told_element, opened_row, many_types, no_row}
 use Rattle.aos_check_expr.proofs.Naming.{IsNaming}

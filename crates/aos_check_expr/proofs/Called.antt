@@ -16,9 +16,9 @@ use Rattle.aos_types.specs.declared.signature.Signature.{Signature}
 use Rattle.aos_symbols.specs.declared.env.Method.{Method}
 use Rattle.aos_symbols.specs.declared.env.Env.{Env}
 use Rattle.aos_symbols.specs.Env as env
-use Rattle.aos_operators.proofs.Inside.{Inside, IsOf, IsCalled}
-use Rattle.aos_operators.specs.Known.{object_number, type_as}
-use Rattle.aos_operators.proofs.Types.{not_both, id_above}
+use Rattle.aos_known.proofs.Inside.{Inside, IsOf, IsCalled}
+use Rattle.aos_known.specs.Known.{object_number, type_as}
+use Rattle.aos_known.proofs.Types.{not_both, id_above}
 use Rattle.aos_designators.specs.declared.designators.Head.{Head}
 use Rattle.aos_designators.specs.declared.methods.Heading.{Heading}
 use Rattle.aos_designators.specs.declared.methods.Heading.TheVariants as heading

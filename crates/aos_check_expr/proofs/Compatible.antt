@@ -16,11 +16,11 @@ use Rattle.aos_typed.specs.WellTyped.{FitsObject, target, target_in, is_whole}
 use Rattle.aos_symbols.specs.declared.env.Env.{Env}
 use Rattle.aos_symbols.specs.Env as env
 use Rattle.aos_symbols.specs.Env.{nil, any}
-use Rattle.aos_operators.proofs.Inside.{Inside}
-use Rattle.aos_operators.specs.Known.{is, is_basic, is_integer, is_long_text, fits_type, type_as}
-use Rattle.aos_operators.proofs.Types.{not_both, same_type, integer_basic}
+use Rattle.aos_known.proofs.Inside.{Inside}
+use Rattle.aos_known.specs.Known.{is, is_basic, is_integer, is_long_text, fits_type, type_as}
+use Rattle.aos_known.proofs.Types.{not_both, same_type, integer_basic}
 use Rattle.aos_operators.proofs.Sound.{TakesObject}
-use Rattle.aos_rules.specs.Assignable as assignable
+use Rattle.aos_values.specs.Assignable as assignable
 use Rattle.aos_designators.specs.Designators as desig
 use Rattle.aos_check_expr.proofs.Whole.{IsWhole, IsWritten}
 use Rattle.aos_check_expr.proofs.Objects.{either_is, first_is, IsMadeAs, IsReference, row_high, high_target, pointer_kind, object_kind, reference_kind, reference_typed, fits_itself}

@@ -19,9 +19,9 @@ use Rattle.aos_symbols.specs.Home.{Home, character, between_quotes, texts_of}
 use Rattle.aos_symbols.proofs.Each.{Each, each_at, implied}
 use Rattle.aos_symbols.proofs.Found.{some_found}
 use Rattle.aos_symbols.proofs.Told.{get_front}
-use Rattle.aos_operators.proofs.Inside.{Inside}
+use Rattle.aos_known.proofs.Inside.{Inside}
 use Rattle.aos_arguments.specs.Filled.{most, value_length, signature_length, home_length, row_length, longest, named_texts, is_same, filled_index, filled, home_filled, named_filled, all_filled, filled_place, filled_texts}
-use Rattle.aos_rules.specs.Signatures.{formal, given_by, row_signature, type_signature}
+use Rattle.aos_values.specs.Signatures.{formal, given_by, row_signature, type_signature}
 use Rattle.aos_designators.specs.declared.methods.Heading.{Heading}
 use Rattle.aos_designators.specs.declared.methods.Heading.TheVariants as heading
 use Rattle.aos_check_expr.specs.Expressions.{signature_of}

@@ -9,7 +9,7 @@ use Rattle.aos_symbols.specs.declared.breach.Breach.{Breach}
 use Rattle.aos_symbols.specs.Breaches.{first_after}
 use Rattle.aos_symbols.specs.Judged.{Judged, kept, bind}
 use Rattle.aos_symbols.proofs.Keeping.{after_more, after_two}
-use Rattle.aos_operators.specs.Known.{Answer}
+use Rattle.aos_known.specs.Known.{Answer}
 use Rattle.aos_arguments.specs.Arguments.{Handing, handed}
 use Rattle.aos_check_expr.specs.Expressions.{desig_alone, handed_from}
 

@@ -8,8 +8,8 @@ use Rattle.aos_types.specs.declared.signature.Signature.{Signature}
 use Rattle.aos_symbols.specs.declared.env.Method.{Method}
 use Rattle.aos_symbols.specs.declared.env.Env.{Env}
 use Rattle.aos_symbols.specs.Env as env
-use Rattle.aos_operators.specs.Known.{object_number}
-use Rattle.aos_operators.proofs.Inside.{Inside, AreArguments, IsInitialized}
+use Rattle.aos_known.specs.Known.{object_number}
+use Rattle.aos_known.proofs.Inside.{Inside, AreArguments, IsInitialized}
 use Rattle.aos_check_expr.proofs.Whole.{IsWhole, AreParameters}
 
 module _ (p : Inside) (e : Env) (whole : IsWhole p e) (t : TypeId) (object : is_object (row_of e.types t) ≡ true) where

@@ -6,9 +6,9 @@ use Rattle.aos_typed.specs.WellTyped.{IsProcedural}
 use Rattle.aos_types.specs.declared.signature.Signature.{Signature}
 use Rattle.aos_symbols.specs.declared.env.Env.{Env}
 use Rattle.aos_symbols.specs.Env as env
-use Rattle.aos_operators.specs.declared.known.Class.{Class}
-use Rattle.aos_operators.specs.declared.known.Class.TheVariants as class
-use Rattle.aos_operators.proofs.Inside.{Inside, IsOf}
+use Rattle.aos_known.specs.declared.known.Class.{Class}
+use Rattle.aos_known.specs.declared.known.Class.TheVariants as class
+use Rattle.aos_known.proofs.Inside.{Inside, IsOf}
 use Rattle.aos_operators.proofs.Stored.{IsStored, IsMade}
 use Rattle.aos_check_expr.proofs.Whole.{IsSigned}
 

@@ -19,9 +19,9 @@ use Rattle.aos_typed.specs.WellTyped.{FitsObject, target, target_in, is_any as i
 use Rattle.aos_symbols.specs.declared.env.Env.{Env}
 use Rattle.aos_symbols.specs.Env as env
 use Rattle.aos_symbols.specs.Env.{nil, any, text}
-use Rattle.aos_operators.proofs.Inside.{Inside, IsOf}
-use Rattle.aos_operators.specs.Known.{Answer, is, is_basic, is_of_any, type_as}
-use Rattle.aos_operators.proofs.Types.{not_both, same_type, basic_cases, integer_cases, as_named, id_above}
+use Rattle.aos_known.proofs.Inside.{Inside, IsOf}
+use Rattle.aos_known.specs.Known.{Answer, is, is_basic, is_of_any, type_as}
+use Rattle.aos_known.proofs.Types.{not_both, same_type, basic_cases, integer_cases, as_named, id_above}
 use Rattle.aos_operators.proofs.Sound.{IsScalar, IsClosedPlace, IsOpenPlace, IsWholeRead, IsOther, IsObject, IsCallable, IsNamedAs, IsRoutine, TakesObject, IsSound}
 use Rattle.aos_designators.specs.Designators as desig
 use Rattle.aos_check_expr.proofs.Whole.{IsWhole, IsWritten, no_row}

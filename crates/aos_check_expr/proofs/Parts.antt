@@ -22,14 +22,14 @@ use Rattle.aos_symbols.specs.Breaches.{breach_unless}
 use Rattle.aos_symbols.specs.Judged.{Judged}
 use Rattle.aos_symbols.specs.Env.{set}
 use Rattle.aos_symbols.proofs.Holds.{Holds, none_left, none_right, test_is, broken}
-use Rattle.aos_operators.proofs.Inside.{Inside, IsOf}
-use Rattle.aos_operators.specs.declared.known.Class.{Class}
-use Rattle.aos_operators.specs.declared.known.Class.TheVariants.{Unknown, Constant, Variable, ReadOnly, Computed, Procedure}
+use Rattle.aos_known.proofs.Inside.{Inside, IsOf}
+use Rattle.aos_known.specs.declared.known.Class.{Class}
+use Rattle.aos_known.specs.declared.known.Class.TheVariants.{Unknown, Constant, Variable, ReadOnly, Computed, Procedure}
 use Rattle.aos_operators.specs.declared.operations.Single.TheVariants as single
 use Rattle.aos_operators.specs.declared.operations.Joint.TheVariants as joint
 use Rattle.aos_operators.specs.declared.operations.Step.{Step}
 use Rattle.aos_operators.specs.declared.operations.Operation.{Operation}
-use Rattle.aos_operators.specs.Known.{Answer, is_number, is_lost, lost, answered, constant_answer, type_of_literal, type_of}
+use Rattle.aos_known.specs.Known.{Answer, is_number, is_lost, lost, answered, constant_answer, type_of_literal, type_of}
 use Rattle.aos_operators.specs.Operations as op
 use Rattle.aos_operators.proofs.Stored.{IsStored, IsMade, not_stored, made_of_one, made_of, made_kept}
 use Rattle.aos_operators.proofs.Good.{IsGood, IsSet, MayBe, IsKnownClass, number_good, set_type, set_good, set_given, single_good, joint_good, class_of_one_known, class_of_known}

@@ -34,19 +34,19 @@ use Rattle.aos_symbols.proofs.Each.{Each}
 use Rattle.aos_symbols.proofs.Found.{some_found}
 use Rattle.aos_symbols.proofs.Told.{basic as basic_told, of_any, defined}
 use Rattle.aos_symbols.proofs.Holds.{Holds, holds_bind, broken, test_is, none_left, none_right}
-use Rattle.aos_operators.specs.declared.known.Class.{Class}
-use Rattle.aos_operators.specs.declared.known.Class.TheVariants.{Unknown, Constant, Variable, ReadOnly, Computed, Procedure as ClassOf}
-use Rattle.aos_operators.specs.Known.{Answer, is_basic, is_integer, is_long_text, is, passes, fits_type, object_number, type_as, type_of, as_procedure, refused_value}
-use Rattle.aos_operators.proofs.Inside.{Inside, IsPlaceOf, AreRows, AreVariables, AreArguments, IsCalled, IsOf, IsNamed}
-use Rattle.aos_operators.proofs.Types.{same_type, id_above, as_named, as_basic, fits_includes, wider, includes_itself, integer_basic}
+use Rattle.aos_known.specs.declared.known.Class.{Class}
+use Rattle.aos_known.specs.declared.known.Class.TheVariants.{Unknown, Constant, Variable, ReadOnly, Computed, Procedure as ClassOf}
+use Rattle.aos_known.specs.Known.{Answer, is_basic, is_integer, is_long_text, is, passes, fits_type, object_number, type_as, type_of, as_procedure, refused_value}
+use Rattle.aos_known.proofs.Inside.{Inside, IsPlaceOf, AreRows, AreVariables, AreArguments, IsCalled, IsOf, IsNamed}
+use Rattle.aos_known.proofs.Types.{same_type, id_above, as_named, as_basic, fits_includes, wider, includes_itself, integer_basic}
 use Rattle.aos_operators.proofs.Good.{IsGood, IsKnownClass}
 use Rattle.aos_operators.proofs.Stored.{IsStored}
 use Rattle.aos_operators.proofs.Sound.{not_both, IsScalar, IsClosedPlace, IsOpenPlace, IsWholeRead, IsOther, IsSound, scalar_of}
-use Rattle.aos_operators.specs.Kinds.{has_parts, is_opened, is_record_type, is_reference, is_procedural, is_value}
-use Rattle.aos_operators.specs.Places.{place_in}
-use Rattle.aos_rules.specs.Assignable.{is_compatible, is_assignable, typed_for}
+use Rattle.aos_known.specs.Kinds.{has_parts, is_opened, is_record_type, is_reference, is_procedural, is_value}
+use Rattle.aos_known.specs.Places.{place_in}
+use Rattle.aos_values.specs.Assignable.{is_compatible, is_assignable, typed_for}
 use Rattle.aos_arguments.specs.Arguments.{names_type, with_type, Given, Scalar, Whole, Opening, Handing, given_as, listed}
-use Rattle.aos_rules.specs.Arrays as arrays
+use Rattle.aos_values.specs.Arrays as arrays
 use Rattle.aos_arguments.specs.Arguments as judge
 use Rattle.aos_arguments.specs.Filled.{value_length, longest, filled_index, filled_place}
 use Rattle.aos_designators.specs.declared.methods.Heading.{Heading}

@@ -21,9 +21,9 @@ use Rattle.aos_symbols.specs.declared.env.Env.{Env}
 use Rattle.aos_symbols.specs.Env as env
 use Rattle.aos_symbols.specs.Env.{nil}
 use Rattle.aos_symbols.proofs.Told.{IsTold, defined, IsTarget}
-use Rattle.aos_operators.proofs.Inside.{Inside, IsOf}
-use Rattle.aos_operators.specs.Known.{is, is_basic, is_of_any, type_as, object_number}
-use Rattle.aos_operators.proofs.Types.{not_both, same_type, as_named, id_above}
+use Rattle.aos_known.proofs.Inside.{Inside, IsOf}
+use Rattle.aos_known.specs.Known.{is, is_basic, is_of_any, type_as, object_number}
+use Rattle.aos_known.proofs.Types.{not_both, same_type, as_named, id_above}
 use Rattle.aos_operators.proofs.Sound.{IsObject, TakesObject}
 use Rattle.aos_designators.specs.Designators as desig
 use Rattle.aos_check_expr.proofs.Opens.{OpensFall, open_is, next_dimensions, next_element}

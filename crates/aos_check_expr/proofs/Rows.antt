@@ -18,7 +18,7 @@ use Rattle.aos_tree.specs.declared.expr.Selector.{Selector, Row_of-Expr, end_of-
 use Rattle.aos_tree.specs.declared.expr.Selector.TheVariants as s
 use Rattle.aos_symbols.specs.declared.env.Env.{Env}
 use Rattle.aos_symbols.specs.Judged.{Judged, bind, walk}
-use Rattle.aos_operators.specs.Known.{Answer, Spot}
+use Rattle.aos_known.specs.Known.{Answer, Spot}
 use Rattle.aos_operators.specs.Operations.{no_elements}
 use Rattle.aos_operators.specs.Forms.{added, is_test, signed, opposite, whole_set, with_element, with_span}
 use Rattle.aos_rules.specs.Relations.{tested, related_by}

@@ -19,9 +19,9 @@ use Rattle.aos_symbols.specs.Scope.{Scope, find}
 use Rattle.aos_symbols.specs.Env as env
 use Rattle.aos_symbols.specs.Env.{nil}
 use Rattle.aos_symbols.proofs.Told.{IsTold}
-use Rattle.aos_operators.proofs.Inside.{Inside, IsOf}
-use Rattle.aos_operators.specs.Known.{is_basic, is_of_any, object_number, type_as}
-use Rattle.aos_operators.proofs.Types.{not_both, as_named, id_as, id_above}
+use Rattle.aos_known.proofs.Inside.{Inside, IsOf}
+use Rattle.aos_known.specs.Known.{is_basic, is_of_any, object_number, type_as}
+use Rattle.aos_known.proofs.Types.{not_both, as_named, id_as, id_above}
 use Rattle.aos_operators.proofs.Sound.{IsObject}
 use Rattle.aos_designators.specs.Designators as desig
 use Rattle.aos_check_expr.proofs.Whole.{IsTyped, closed, IsFieldScope, IsWhole}

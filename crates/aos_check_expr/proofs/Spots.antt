@@ -41,12 +41,12 @@ use Rattle.aos_symbols.proofs.Each.{each_at}
 use Rattle.aos_symbols.proofs.Holds.{Holds, holds_bind, broken}
 use Rattle.aos_symbols.proofs.Lookups.{IsPredeclared, itself, IsOfAll, lookup_is, member_is}
 use Rattle.aos_symbols.proofs.Told.{IsTold, basic as basic_told, of_any, defined}
-use Rattle.aos_operators.proofs.Inside.{Inside, IsPlaceOf, AreRows, IsOf, IsNamed}
-use Rattle.aos_operators.specs.declared.known.Class.{Class}
-use Rattle.aos_operators.specs.declared.known.Class.TheVariants.{Unknown, Constant, Variable, ReadOnly, Computed, Procedure as ClassOf}
-use Rattle.aos_operators.specs.declared.known.Known.{Known}
-use Rattle.aos_operators.specs.Known.{Answer, Spot, Held, Stands, Value, is_basic, is_number, is_lost, object_number, value_class, type_as, type_of, read_from, known_as, spot_of, answered, constant_answer, nothing}
-use Rattle.aos_operators.proofs.Types.{includes_itself, as_basic, id_as}
+use Rattle.aos_known.proofs.Inside.{Inside, IsPlaceOf, AreRows, IsOf, IsNamed}
+use Rattle.aos_known.specs.declared.known.Class.{Class}
+use Rattle.aos_known.specs.declared.known.Class.TheVariants.{Unknown, Constant, Variable, ReadOnly, Computed, Procedure as ClassOf}
+use Rattle.aos_known.specs.declared.known.Known.{Known}
+use Rattle.aos_known.specs.Known.{Answer, Spot, Held, Stands, Value, is_basic, is_number, is_lost, object_number, value_class, type_as, type_of, read_from, known_as, spot_of, answered, constant_answer, nothing}
+use Rattle.aos_known.proofs.Types.{includes_itself, as_basic, id_as}
 use Rattle.aos_operators.proofs.Stored.{IsStored, not_stored}
 use Rattle.aos_operators.proofs.Good.{IsGood, HasGood, IsKnownClass}
 use Rattle.aos_operators.proofs.Sound.{not_both, IsScalar, IsClosedPlace, IsOpenPlace, IsWholeRead, IsOther, IsObject, IsSound, IsPlain, plain_sound, sound_number}

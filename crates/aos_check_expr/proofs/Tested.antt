@@ -19,16 +19,16 @@ use Rattle.aos_symbols.specs.declared.env.Env.{Env}
 use Rattle.aos_symbols.specs.Env as env
 use Rattle.aos_symbols.specs.Env.{boolean, nil}
 use Rattle.aos_symbols.proofs.Holds.{Holds, holds_bind, none_left, none_right, test_is, broken}
-use Rattle.aos_operators.proofs.Inside.{Inside, IsPlaceOf, IsOf, IsNamed}
-use Rattle.aos_operators.specs.declared.known.Class.TheVariants.{Computed}
+use Rattle.aos_known.proofs.Inside.{Inside, IsPlaceOf, IsOf, IsNamed}
+use Rattle.aos_known.specs.declared.known.Class.TheVariants.{Computed}
 use Rattle.aos_operators.specs.declared.operations.Operation.{Operation}
-use Rattle.aos_operators.specs.Known.{Answer, is, is_basic, is_of_any, is_lost, is_nil, type_as, answered, as_procedure, object_number}
+use Rattle.aos_known.specs.Known.{Answer, is, is_basic, is_of_any, is_lost, is_nil, type_as, answered, as_procedure, object_number}
 use Rattle.aos_operators.specs.Operations as op
-use Rattle.aos_operators.proofs.Types.{not_both, same_type}
+use Rattle.aos_known.proofs.Types.{not_both, same_type}
 use Rattle.aos_operators.proofs.Good.{IsGood, IsKnownClass, joint_good, class_of_known}
 use Rattle.aos_operators.proofs.Stored.{IsMade, not_stored, made_of}
 use Rattle.aos_operators.proofs.Sound.{IsScalar, IsClosedPlace, IsOpenPlace, IsWholeRead, IsOther, IsSound, plain_sound, answered_plain}
-use Rattle.aos_rules.specs.TypeNames.{last_name}
+use Rattle.aos_values.specs.TypeNames.{last_name}
 use Rattle.aos_designators.specs.Designators as desig
 use Rattle.aos_check_expr.specs.Expressions as judge
 use Rattle.aos_check_expr.proofs.Naming.{naming_made}

@@ -31,16 +31,16 @@ use Rattle.aos_symbols.specs.Env.{text_constant}
 use Rattle.aos_symbols.proofs.Holds.{Holds, holds_bind, holds_walk, broken, test_is}
 use Rattle.aos_base.specs.Number.{if_within}
 use Rattle.aos_base.specs.Operators.{natural}
-use Rattle.aos_operators.proofs.Inside.{IsOf, AreRows}
-use Rattle.aos_operators.specs.declared.known.Class.{Class}
-use Rattle.aos_operators.specs.declared.known.Class.TheVariants.{Unknown, Constant, Variable, ReadOnly, Computed, Procedure}
-use Rattle.aos_operators.specs.Known.{Answer, Spot, read_from, is_number, is_boolean, is_char, is_lost, constant_answer}
+use Rattle.aos_known.proofs.Inside.{IsOf, AreRows}
+use Rattle.aos_known.specs.declared.known.Class.{Class}
+use Rattle.aos_known.specs.declared.known.Class.TheVariants.{Unknown, Constant, Variable, ReadOnly, Computed, Procedure}
+use Rattle.aos_known.specs.Known.{Answer, Spot, read_from, is_number, is_boolean, is_char, is_lost, constant_answer}
 use Rattle.aos_operators.specs.Operations as op
 use Rattle.aos_operators.proofs.Good.{IsKnownClass, within_if, natural_below}
-pub use Rattle.aos_operators.proofs.Types.{wider}
+pub use Rattle.aos_known.proofs.Types.{wider}
 pub use Rattle.aos_operators.proofs.Good.{IsGood, HasGood}
 pub use Rattle.aos_operators.proofs.Sound.{IsSound, sound_number, sound_char, sound_boolean}
-pub use Rattle.aos_operators.proofs.Inside.{Inside}
+pub use Rattle.aos_known.proofs.Inside.{Inside}
 use Rattle.aos_designators.specs.declared.designators.Head.{Head}
 use Rattle.aos_designators.specs.declared.methods.Heading.{Heading}
 use Rattle.aos_designators.specs.declared.methods.Heading.TheVariants as heading

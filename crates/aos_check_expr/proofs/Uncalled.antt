@@ -50,15 +50,15 @@ use Rattle.aos_symbols.specs.declared.env.Env.{Env}
 use Rattle.aos_symbols.specs.Judged.{Judged, bind}
 use Rattle.aos_symbols.specs.Env as env
 use Rattle.aos_symbols.proofs.Each.{Each}
-use Rattle.aos_operators.specs.declared.known.Class.{Class}
-use Rattle.aos_operators.specs.declared.known.Class.TheVariants.{Unknown, Constant, Variable, ReadOnly, Computed, Procedure}
+use Rattle.aos_known.specs.declared.known.Class.{Class}
+use Rattle.aos_known.specs.declared.known.Class.TheVariants.{Unknown, Constant, Variable, ReadOnly, Computed, Procedure}
 use Rattle.aos_operators.specs.declared.operations.Single.{Single}
 use Rattle.aos_operators.specs.declared.operations.Single.TheVariants as single
 use Rattle.aos_operators.specs.declared.operations.Joint.{Joint}
 use Rattle.aos_operators.specs.declared.operations.Joint.TheVariants as joint
 use Rattle.aos_operators.specs.declared.operations.Step.{Step}
 use Rattle.aos_operators.specs.declared.operations.Operation.{Operation}
-use Rattle.aos_operators.specs.Known.{Answer, Spot, Held, Stands, Value, read_from, type_as, typed_as, is_basic, is_nil, is_number, as_procedure}
+use Rattle.aos_known.specs.Known.{Answer, Spot, Held, Stands, Value, read_from, type_as, typed_as, is_basic, is_nil, is_number, as_procedure}
 use Rattle.aos_operators.specs.Operations as op
 use Rattle.aos_arguments.specs.declared.functions.Taking.TheVariants as taking
 use Rattle.aos_arguments.specs.Arguments.{Given}

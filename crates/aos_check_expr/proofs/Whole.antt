@@ -39,10 +39,10 @@ use Rattle.aos_symbols.specs.Env as env
 use Rattle.aos_symbols.specs.Env.{nil, text}
 use Rattle.aos_symbols.proofs.Each.{Each}
 use Rattle.aos_symbols.proofs.Told.{IsTold, basic as basic_told, of_any, defined, IsKnown, PartsAreTold}
-use Rattle.aos_operators.proofs.Inside.{Inside, IsPlaceOf, AreRows, AreVariables}
-use Rattle.aos_operators.specs.Known.{Spot, is_basic, object_number, type_as, type_of}
+use Rattle.aos_known.proofs.Inside.{Inside, IsPlaceOf, AreRows, AreVariables}
+use Rattle.aos_known.specs.Known.{Spot, is_basic, object_number, type_as, type_of}
 use Rattle.aos_operators.proofs.Good.{HasGood}
-use Rattle.aos_operators.proofs.Types.{not_both, id_as}
+use Rattle.aos_known.proofs.Types.{not_both, id_as}
 use Rattle.aos_arguments.specs.Filled.{filled_texts}
 use Rattle.aos_designators.specs.Designators as desig
 use Rattle.aos_check_expr.proofs.Opens.{OpensFall, OpensStand, IsVariableNumber, some_there, behind_all}

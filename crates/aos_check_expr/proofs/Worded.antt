@@ -34,19 +34,19 @@ use Rattle.aos_symbols.proofs.Each.{Each, all_of}
 use Rattle.aos_symbols.proofs.Found.{some_found}
 use Rattle.aos_symbols.proofs.Told.{IsLength, get_front}
 use Rattle.aos_symbols.proofs.Holds.{Holds, none_left, none_right, test_is}
-use Rattle.aos_operators.proofs.Inside.{Inside, IsPlaceOf, AreRows, AreVariables, IsOf}
-use Rattle.aos_operators.specs.declared.known.Class.{Class}
-use Rattle.aos_operators.specs.declared.known.Class.TheVariants.{Unknown, Constant}
-use Rattle.aos_operators.specs.declared.known.Known.{Known}
+use Rattle.aos_known.proofs.Inside.{Inside, IsPlaceOf, AreRows, AreVariables, IsOf}
+use Rattle.aos_known.specs.declared.known.Class.{Class}
+use Rattle.aos_known.specs.declared.known.Class.TheVariants.{Unknown, Constant}
+use Rattle.aos_known.specs.declared.known.Known.{Known}
 use Rattle.aos_operators.specs.declared.operations.Joint.TheVariants as joint
-use Rattle.aos_operators.specs.Known.{Answer, is_basic, is_lost, type_as}
+use Rattle.aos_known.specs.Known.{Answer, is_basic, is_lost, type_as}
 use Rattle.aos_operators.specs.Operations as op
-use Rattle.aos_operators.proofs.Types.{same_type}
+use Rattle.aos_known.proofs.Types.{same_type}
 use Rattle.aos_operators.proofs.Good.{IsGood, MayBe, IsKnownClass, natural_below, joint_good, class_of_known}
 use Rattle.aos_operators.proofs.Stored.{IsMade, not_stored, made_of}
 use Rattle.aos_operators.proofs.Sound.{not_both, IsScalar, IsClosedPlace, IsOpenPlace, IsWholeRead, IsOther, IsObject, IsRoutine, IsSound, basic_some, plain_sound, answered_plain}
-use Rattle.aos_operators.specs.Places.{place_in, rows_of}
-use Rattle.aos_operators.specs.Kinds.{is_opened}
+use Rattle.aos_known.specs.Places.{place_in, rows_of}
+use Rattle.aos_known.specs.Kinds.{is_opened}
 use Rattle.aos_check_expr.specs.Expressions as judge
 use Rattle.aos_check_expr.proofs.Opens.{closed_row, closed_dimensions, closed_element, next_dimensions, next_element}
 use Rattle.aos_check_expr.proofs.Naming.{naming_made}

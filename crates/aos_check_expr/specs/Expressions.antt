@@ -39,18 +39,19 @@ use Rattle.aos_symbols.specs.declared.env.Env.{Env}
 use Rattle.aos_symbols.specs.Breaches.{breach, breach_unless}
 use Rattle.aos_symbols.specs.Judged.{Judged, judged, kept, bind, walk}
 use Rattle.aos_symbols.specs.Env as env
-use Rattle.aos_operators.specs.declared.known.Class.{Class}
-use Rattle.aos_operators.specs.declared.known.Class.TheVariants.{Unknown, Constant, Variable, ReadOnly, Computed, Procedure}
+use Rattle.aos_known.specs.declared.known.Class.{Class}
+use Rattle.aos_known.specs.declared.known.Class.TheVariants.{Unknown, Constant, Variable, ReadOnly, Computed, Procedure}
 use Rattle.aos_operators.specs.declared.operations.Step.{Step}
-use Rattle.aos_operators.specs.Known.{Answer, Spot, is_boolean, is_integer, constant_answer}
+use Rattle.aos_known.specs.Known.{Answer, Spot, is_boolean, is_integer, constant_answer}
 use Rattle.aos_operators.specs.Operations as op
 pub use Rattle.aos_operators.specs.Forms.{not_yet, number, character, string, added, multiplied, is_test, signed, opposite, with_element, with_span, whole_set, enclosed}
 use Rattle.aos_arguments.specs.declared.functions.Taking.TheVariants as taking
-use Rattle.aos_rules.specs.Signatures.{type_signature}
-pub use Rattle.aos_rules.specs.Arrays.{is_array, length_of, lengths_from, open_rows, array_rows, length_behind, len_typed, len_answer, number_in, has_dimension, is_dimension, len_alone, len_in, is_characters, string_in, is_text, is_only_text, may_be_text, are_texts, string_rows, rows_in, text_rows, has_room, text_for}
+use Rattle.aos_values.specs.Signatures.{type_signature}
+pub use Rattle.aos_values.specs.Arrays.{is_array, length_of, lengths_from, open_rows, array_rows, number_in, is_characters, string_in, is_text, is_only_text, may_be_text, are_texts, string_rows, rows_in, text_rows, has_room, text_for}
+pub use Rattle.aos_rules.specs.Lengths.{length_behind, len_typed, len_answer, has_dimension, is_dimension, len_alone, len_in}
 pub use Rattle.aos_arguments.specs.Arguments.{Handing, nothing_handed}
 use Rattle.aos_arguments.specs.Arguments.{handed}
-pub use Rattle.aos_rules.specs.TypeNames.{named_type, known_type}
+pub use Rattle.aos_values.specs.TypeNames.{named_type, known_type}
 pub use Rattle.aos_rules.specs.Relations.{test_typed, may_test, tested_with, tested, compares_texts, relation_in, constants_related, texts_class, texts_related, may_be_pointer, may_be_object, are_comparable, is_the_reference, compares_objects, is_the_procedure, may_be_procedure, compares_procedures, procedure_operand, procedures_related, operation_of, related_by}
 pub use Rattle.aos_arguments.specs.Functions.{limit_in, limit_value, limit_of, one_argument, two_arguments, step_in, function_typed, function_class, function_answer, function_breaches, function_told}
 use Rattle.aos_designators.specs.declared.designators.Head.{Head}

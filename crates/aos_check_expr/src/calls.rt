@@ -4,14 +4,14 @@ ghost use Rattle.std.specs.Prelude.{◌≡◌, OnOk, IfOk};
 ghost use Rattle.std.specs.Option.{option_copied};
 ghost use Rattle.aos_symbols.specs.Breaches.{first_after};
 ghost use Rattle.aos_symbols.specs.Judged.{bind};
-ghost use Rattle.aos_operators.specs.Seen.{seen_answer, seen_spot};
+ghost use Rattle.aos_known.specs.Seen.{seen_answer, seen_spot};
 ghost use Rattle.aos_designators.specs.Designators as designators;
 ghost use Rattle.aos_check_expr.specs.Expressions as judge;
 
 use aos_arguments::{Limit, limit_meant};
 use aos_base::Pos;
 use aos_designators::{Head, guarded, is_module, member, named, plain, refused_at};
-use aos_operators::{Answer, Spot, refused};
+use aos_known::{Answer, Spot, refused};
 use aos_symbols::{
     ARGUMENT_COUNT, ARGUMENT_TYPE, Breach, Env, Lookup, Meaning, NOT_BUILT, NOT_EXPORTED, UNKNOWN,
     WRONG_CALL,

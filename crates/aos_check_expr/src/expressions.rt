@@ -5,7 +5,7 @@ ghost use Rattle.aos_typed.specs.Seen.{seen_callee};
 ghost use Rattle.aos_symbols.specs.Breaches.{first_after};
 ghost use Rattle.aos_symbols.specs.Judged.{walk};
 ghost use Rattle.aos_operators.specs.Operations as operations;
-ghost use Rattle.aos_operators.specs.Seen.{seen_answer, seen_spot};
+ghost use Rattle.aos_known.specs.Seen.{seen_answer, seen_spot};
 ghost use Rattle.aos_designators.specs.Seen.{seen_bound, seen_part};
 ghost use Rattle.aos_arguments.specs.Seen.{seen_handing};
 ghost use Rattle.aos_check_expr.specs.Expressions as judge;
@@ -21,14 +21,13 @@ use aos_designators::{
     Bound, Head, Heading, Part, bound_part, element as element_of, followed_part, guarded,
     is_module, is_of_module, named, plain, pointed, read, selected, spot_of_part,
 };
+use aos_known::{Answer, Spot, constant_answer, is_integer, refused, refused_value, spot_of};
 use aos_made::MadeCallee;
 use aos_operators::forms::{
     added, byte_of, character, enclosed, is_test, multiplied, number, opposite, signed, string,
     whole_set, with_element, with_span,
 };
-use aos_operators::{
-    Answer, Spot, constant_answer, is_integer, operations, refused, refused_value, spot_of,
-};
+use aos_operators::operations;
 use aos_rules::{len_alone, len_in, related, tested};
 use aos_symbols::{
     ARGUMENT_COUNT, Breach, Env, Function, Lookup, Meaning, NOT_CONSTANT, Symbol, WRONG_CALL, note,

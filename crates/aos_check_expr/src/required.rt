@@ -3,13 +3,14 @@
 ghost use Rattle.std.specs.Prelude.{◌≡◌, OnOk, IfOk};
 ghost use Rattle.aos_typed.specs.Seen.{seen_expr};
 ghost use Rattle.aos_symbols.specs.Breaches.{first_after};
-ghost use Rattle.aos_operators.specs.Known as known;
+ghost use Rattle.aos_known.specs.Known as known;
 ghost use Rattle.aos_check_expr.specs.Expressions as judge;
 
 use crate::expressions::expr;
 use aos_base::Pos;
+use aos_known::{Class, is_boolean, is_char, is_number};
 use aos_made::Typed;
-use aos_operators::{Class, is_boolean, is_char, is_number, operations};
+use aos_operators::operations;
 use aos_symbols::{Breach, Env, NO_CONDITION, NOT_CONSTANT, note};
 use aos_tree::Expr;
 use aos_typed::Literal;

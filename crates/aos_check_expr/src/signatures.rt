@@ -5,9 +5,9 @@ ghost use Rattle.aos_symbols.specs.Env as scopes;
 ghost use Rattle.aos_check_expr.specs.Expressions as judge;
 
 use aos_designators::Heading;
-use aos_rules::type_signature;
 use aos_symbols::Env;
 use aos_types::{Items, Parameter, Signature};
+use aos_values::type_signature;
 use std::alloc::{AllocError, Global};
 
 /// The same parameters once more.

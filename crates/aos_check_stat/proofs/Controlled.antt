@@ -31,13 +31,13 @@ use Rattle.aos_symbols.specs.Breaches.{breach, breach_unless, first_after}
 use Rattle.aos_symbols.specs.Judged.{Judged, judged, kept, bind, walk}
 use Rattle.aos_symbols.specs.Env as env
 use Rattle.aos_symbols.proofs.Holds.{Holds, holds_bind, holds_walk, none_left, none_right, none_first, test_is, broken}
-use Rattle.aos_operators.specs.declared.known.Class.{Class}
-use Rattle.aos_operators.specs.declared.known.Class.TheVariants.{Constant}
-use Rattle.aos_operators.specs.Known.{Answer, is_number, is_char, fits, type_as, type_of_literal, width_of}
+use Rattle.aos_known.specs.declared.known.Class.{Class}
+use Rattle.aos_known.specs.declared.known.Class.TheVariants.{Constant}
+use Rattle.aos_known.specs.Known.{Answer, is_number, is_char, fits, type_as, type_of_literal, width_of}
 use Rattle.aos_operators.specs.Operations.{number}
 use Rattle.aos_operators.proofs.Good.{IsGood, HasGood, good_number}
-use Rattle.aos_operators.proofs.Inside.{Inside, IsOf}
-use Rattle.aos_operators.proofs.Types.{as_integer, integer_basic, wider, fits_includes}
+use Rattle.aos_known.proofs.Inside.{Inside, IsOf}
+use Rattle.aos_known.proofs.Types.{as_integer, integer_basic, wider, fits_includes}
 use Rattle.aos_operators.proofs.Sound.{IsSound, sound_number, sound_char}
 use Rattle.aos_designators.specs.Designators as desig
 use Rattle.aos_check_expr.specs.Expressions.{constant_class, expr}
@@ -46,8 +46,8 @@ use Rattle.aos_check_expr.proofs.Spots.{IsTyped, closed, opened, plain_head}
 use Rattle.aos_check_expr.proofs.Typing.{IsWhole, expr_sound, constant_good}
 use Rattle.aos_check_stat.specs.Bodies.{Control, Labels, lost, control, control_found, control_meant, control_rule, fitting, is_step, step_breaches, step_in, step_of, is_selector, selector, is_label, range_of, label_value, label_range, with_label, label_in}
 use Rattle.aos_stat_rules.proofs.Apart.{Behind, none_behind, one_behind, apart_push}
-use Rattle.aos_check_call.proofs.Places.{some_breach, fits_basic}
-use Rattle.aos_check_call.proofs.Changed.{one_within}
+use Rattle.aos_check_stat.proofs.Places.{some_breach, fits_basic}
+use Rattle.aos_check_stat.proofs.Changed.{one_within}
 
 -- labels behind others, no two of which have a value together
 pub record AreMore (ls all : Labels) : Type 0 where

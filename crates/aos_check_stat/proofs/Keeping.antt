@@ -27,20 +27,20 @@ use Rattle.aos_symbols.specs.Judged.{Judged, judged, kept, bind, walk}
 use Rattle.aos_symbols.specs.Spelling.{is_active, is_priority}
 use Rattle.aos_symbols.specs.Env as env
 use Rattle.aos_symbols.proofs.Holds.{Holds, holds_bind, holds_walk, none_left, none_right, test_is}
-use Rattle.aos_operators.specs.declared.known.Class.{Class}
-use Rattle.aos_operators.specs.declared.known.Class.TheVariants.{Constant}
-use Rattle.aos_operators.specs.Known.{Answer, Spot, Held, Stands, Value, fits, type_of, type_of_literal, width_of}
-use Rattle.aos_operators.specs.Kinds.{has_parts}
-use Rattle.aos_operators.specs.Places.{place_of, place_in}
-use Rattle.aos_rules.specs.Assignable.{typed_for}
-use Rattle.aos_rules.specs.TypeNames.{known_type}
+use Rattle.aos_known.specs.declared.known.Class.{Class}
+use Rattle.aos_known.specs.declared.known.Class.TheVariants.{Constant}
+use Rattle.aos_known.specs.Known.{Answer, Spot, Held, Stands, Value, fits, type_of, type_of_literal, width_of}
+use Rattle.aos_known.specs.Kinds.{has_parts}
+use Rattle.aos_known.specs.Places.{place_of, place_in}
+use Rattle.aos_values.specs.Assignable.{typed_for}
+use Rattle.aos_values.specs.TypeNames.{known_type}
 use Rattle.aos_designators.specs.Designators as desig
 use Rattle.aos_check_expr.specs.Expressions.{expr, condition, designator}
-use Rattle.aos_check_call.specs.Calls as calls
+use Rattle.aos_check_stat.specs.Called as calls
 use Rattle.aos_check_stat.specs.Bodies as judge
 use Rattle.aos_check_stat.specs.Bodies.{listed, put, modifier_breaches, are_exclusive, is_step, step_in}
-use Rattle.aos_check_call.proofs.Places.{some_breach}
-use Rattle.aos_check_call.proofs.Keeping.{MayKeep, called_keeps}
+use Rattle.aos_check_stat.proofs.Places.{some_breach}
+use Rattle.aos_check_stat.proofs.CallKeeping.{MayKeep, called_keeps}
 
 -- statements keep them, in a region or in none and in a LOOP or in none
 abbrev pub AreKept : (in_region in_loop : Bool) → List Stat → Type 0

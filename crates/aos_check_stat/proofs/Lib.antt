@@ -1,3 +1,7 @@
+pub mod Places
+pub mod Changed
+pub mod CallTyping
+pub mod CallKeeping
 pub mod Rows
 pub mod Controlled
 pub mod Narrowed

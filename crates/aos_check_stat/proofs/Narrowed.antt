@@ -24,12 +24,12 @@ use Rattle.aos_symbols.specs.declared.env.Narrowed.{Narrowed}
 use Rattle.aos_symbols.specs.declared.env.Env.{Env}
 use Rattle.aos_symbols.specs.Spelling.{word}
 use Rattle.aos_symbols.specs.Env as env
-use Rattle.aos_operators.specs.declared.known.Class.{Class}
-use Rattle.aos_operators.specs.declared.known.Class.TheVariants.{Unknown, Constant, Variable, ReadOnly, Computed, Procedure as ClassOf}
-use Rattle.aos_operators.specs.declared.known.Known.{Known}
-use Rattle.aos_operators.specs.Known.{Spot, Held, Stands, Value, known_as, value_class, read_from, object_number, type_as}
-use Rattle.aos_operators.proofs.Inside.{Inside, IsStatement, AreStatements}
-use Rattle.aos_operators.proofs.Types.{not_both}
+use Rattle.aos_known.specs.declared.known.Class.{Class}
+use Rattle.aos_known.specs.declared.known.Class.TheVariants.{Unknown, Constant, Variable, ReadOnly, Computed, Procedure as ClassOf}
+use Rattle.aos_known.specs.declared.known.Known.{Known}
+use Rattle.aos_known.specs.Known.{Spot, Held, Stands, Value, known_as, value_class, read_from, object_number, type_as}
+use Rattle.aos_known.proofs.Inside.{Inside, IsStatement, AreStatements}
+use Rattle.aos_known.proofs.Types.{not_both}
 use Rattle.aos_operators.proofs.Sound.{IsObject}
 use Rattle.aos_designators.specs.Designators as desig
 use Rattle.aos_check_expr.proofs.Objects.{of_any_type, sound_object, record_no_reference}

@@ -28,8 +28,8 @@ use Rattle.aos_symbols.specs.declared.breach.Breach.{Breach}
 use Rattle.aos_symbols.specs.Breaches.{first_after}
 use Rattle.aos_symbols.specs.Judged.{Judged, judged, kept, bind, walk}
 use Rattle.aos_symbols.proofs.Keeping.{after_more}
-use Rattle.aos_operators.specs.Known.{width_of}
-use Rattle.aos_rules.specs.TypeNames.{known_type}
+use Rattle.aos_known.specs.Known.{width_of}
+use Rattle.aos_values.specs.TypeNames.{known_type}
 use Rattle.aos_designators.specs.Designators.{guard}
 use Rattle.aos_check_expr.specs.Expressions.{condition}
 use Rattle.aos_check_stat.specs.Bodies.{listed, modifier_breaches, are_exclusive, within_block, Labels, label_in, selector, control, fitting, step_of, with_variable, narrowed_by, with_stat, stat_of, stat_in, stats_in, else_in, case_else_in, elsifs_in, cases_in}

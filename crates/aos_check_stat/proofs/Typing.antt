@@ -38,13 +38,13 @@ use Rattle.aos_symbols.specs.Breaches.{breach_unless}
 use Rattle.aos_symbols.specs.Judged.{Judged, judged, kept, bind, walk}
 use Rattle.aos_symbols.specs.Env as env
 use Rattle.aos_symbols.proofs.Holds.{Holds, holds_bind, holds_walk, none_left, none_right, test_is, broken}
-use Rattle.aos_operators.specs.Known.{Answer, Spot, passes, is as is_the, type_as, is_long_text, width_of}
-use Rattle.aos_operators.specs.Kinds.{has_parts, is_opened}
-use Rattle.aos_operators.specs.Places.{place_of, place_in}
-use Rattle.aos_operators.proofs.Inside.{Inside, IsOf, IsStatement, AreStatements, AreArms, AreCases}
-use Rattle.aos_rules.specs.Assignable as assignable
-use Rattle.aos_rules.specs.Arrays.{is_opening}
-use Rattle.aos_rules.specs.TypeNames.{known_type}
+use Rattle.aos_known.specs.Known.{Answer, Spot, passes, is as is_the, type_as, is_long_text, width_of}
+use Rattle.aos_known.specs.Kinds.{has_parts, is_opened}
+use Rattle.aos_known.specs.Places.{place_of, place_in}
+use Rattle.aos_known.proofs.Inside.{Inside, IsOf, IsStatement, AreStatements, AreArms, AreCases}
+use Rattle.aos_values.specs.Assignable as assignable
+use Rattle.aos_values.specs.Arrays.{is_opening}
+use Rattle.aos_values.specs.TypeNames.{known_type}
 use Rattle.aos_designators.specs.declared.designators.Head.{Head}
 use Rattle.aos_designators.specs.Designators as desig
 use Rattle.aos_designators.specs.Designators.{assigned}
@@ -55,12 +55,12 @@ use Rattle.aos_check_expr.proofs.Spots.{IsResultOf, IsSpot, Part, MayFind, plain
 use Rattle.aos_check_expr.proofs.Whole.{many_types}
 use Rattle.aos_check_expr.proofs.Typing.{IsWhole, IsSound, expr_sound, expr_part, condition_sound}
 use Rattle.aos_check_expr.proofs.Uncalled.{condition_calm}
-use Rattle.aos_check_call.specs.Calls as calls
+use Rattle.aos_check_stat.specs.Called as calls
 use Rattle.aos_check_stat.specs.Bodies as judge
 use Rattle.aos_check_stat.specs.Bodies.{listed, put, modifier_breaches, are_exclusive}
-use Rattle.aos_check_call.proofs.Places.{MayBe as MayBeOf, some_breach, not_long, not_nil, not_named, IsRead, read_sound, IsAssigned, assigned_sound, told_typed, copying, putting}
-use Rattle.aos_check_call.proofs.Changed.{place_changed}
-use Rattle.aos_check_call.proofs.CallTyping.{called_sound}
+use Rattle.aos_check_stat.proofs.Places.{MayBe as MayBeOf, some_breach, not_long, not_nil, not_named, IsRead, read_sound, IsAssigned, assigned_sound, told_typed, copying, putting}
+use Rattle.aos_check_stat.proofs.Changed.{place_changed}
+use Rattle.aos_check_stat.proofs.CallTyping.{called_sound}
 use Rattle.aos_stat_rules.proofs.Apart.{between}
 use Rattle.aos_check_stat.proofs.Narrowed.{whole_within, region_whole, condition_whole, narrows_on, with_typed}
 use Rattle.aos_check_stat.proofs.Controlled.{IsControl, AreMore, control_sound, fitting_sound, step_sound, selector_sound, labels_sound}

@@ -1,5 +1,5 @@
 -- Statements whose parts are given as lists.
-use Rattle.std.specs.Prelude.{ℤ, List, [], ◌∷◌, drop, length, Bool, true, false, Option, Some, None}
+use Rattle.std.specs.Prelude.{List, [], ◌∷◌, drop, length, Bool, true, false, Option, Some, None}
 use Rattle.aos_base.specs.declared.text.Pos.{Pos}
 use Rattle.aos_tree.specs.declared.name.Name.{Name}
 use Rattle.aos_tree.specs.declared.name.Qualident.{Qualident}
@@ -11,23 +11,14 @@ use Rattle.aos_tree.specs.declared.stat.Case.TheVariants as case
 use Rattle.aos_tree.specs.declared.stat.StatSeq.{StatSeq}
 use Rattle.aos_tree.specs.declared.stat.Stat.{Stat as TreeStat, items-the_row-Stat}
 use Rattle.aos_types.specs.declared.row.TypeId.{TypeId}
-use Rattle.aos_typed.specs.Program.{Expr as Typed, Stat, If, Case, While, Repeat, Loop, For, Block, Arms, Otherwise, Arm, Cases, NoElse, Else, OfLabels}
+use Rattle.aos_typed.specs.Program.{Stat, If, Case, While, Repeat, Loop, For, Block, Arms, Otherwise, Arm, Cases, NoElse, Else, OfLabels}
 use Rattle.aos_symbols.specs.declared.env.Env.{Env}
 use Rattle.aos_symbols.specs.Judged.{Judged, judged, kept, bind, walk}
-use Rattle.aos_typed.specs.Seen.{seen_place, seen_expr}
-use Rattle.aos_operators.specs.Known.{width_of}
-use Rattle.aos_rules.specs.TypeNames.{known_type}
+use Rattle.aos_known.specs.Known.{width_of}
+use Rattle.aos_values.specs.TypeNames.{known_type}
 use Rattle.aos_designators.specs.Designators.{guard}
 use Rattle.aos_check_expr.specs.Expressions.{condition}
-use Rattle.aos_check_stat.specs.declared.loops.Counted.{Counted}
-use Rattle.aos_check_stat.specs.Bodies.{listed, modifier_breaches, are_exclusive, within_block, Labels, label_in, selector, Control, control, fitting, step_of, with_variable, narrowed_by, with_stat, stat_in}
-
--- what stands before DO in a FOR: its variable with its type, its first and last values, and its step
-abbrev pub Counts : Type 0
-Counts = Control × Typed × Typed × ℤ
-
-abbrev pub seen_counted : Counted → Counts
-seen_counted c = ((seen_place c.variable, c.of), seen_expr c.first, seen_expr c.last, c.step)
+use Rattle.aos_check_stat.specs.Bodies.{listed, modifier_breaches, are_exclusive, within_block, Labels, label_in, selector, control, fitting, step_of, with_variable, narrowed_by, with_stat, stat_in}
 
 module _ (e : Env) where
   abbrev pub listed_in : Bool → List TreeStat → Judged (List Stat)
@@ -50,11 +41,6 @@ module _ (e : Env) where
   block_of in_loop b =
       bind (judged (modifier_breaches e.here.text false b.modifiers) []) (λ none. bind (walk (stat_in (within_block b.modifiers e) in_loop) none b.body.stats) (λ body.
       kept (Some (Block b.pos (are_exclusive e.here.text b.modifiers) (listed body)))))
-
-  abbrev pub counting : Name → Pos → (from to : TreeExpr) → Option TreeExpr → Judged Counts
-  counting n q from to by =
-      bind (control e n) (λ c. bind (fitting e c.1 31 q from) (λ a. bind (fitting e c.1 48 n.pos to) (λ b.
-      bind (step_of e n.pos c.1 by) (λ step. kept (c, a, b, step)))))
 
   abbrev pub for_of : Bool → Pos → Name → Pos → (from to : TreeExpr) → Option TreeExpr → List TreeStat → Judged (Option Stat)
   for_of in_loop p n q from to by ss =

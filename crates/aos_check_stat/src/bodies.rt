@@ -5,8 +5,8 @@ ghost use Rattle.aos_typed.specs.Seen.{seen_stat, seen_stats};
 ghost use Rattle.aos_symbols.specs.Breaches.{first_after};
 ghost use Rattle.aos_check_stat.specs.Bodies as judge;
 
-use crate::modifiers::refuse_of_body;
 use crate::statements::stats_in;
+use aos_check_parts::refuse_of_body;
 use aos_stat_rules::are_exclusive;
 use aos_symbols::{Breach, Env};
 use aos_tree::{Block, Boxed};

@@ -1,15 +1,10 @@
 //! Which rules bodies break, and their statements in the typed program.
 #![tactic(auto)]
 
-mod awaits;
 pub mod bodies;
-mod boxed;
-mod labels;
-mod loops;
-mod modifiers;
-mod returns;
+mod calls;
 mod statements;
 
+pub use aos_check_parts::priority_of;
 pub use aos_stat_rules::are_exclusive;
 pub use bodies::body_of;
-pub use modifiers::priority_of;

@@ -10,17 +10,15 @@ ghost use Rattle.aos_check_stat.specs.Bodies as judge;
 ghost use Rattle.aos_check_stat.specs.Listed as listed;
 ghost use Rattle.aos_made_stat.specs.Onto.{onto};
 
-use crate::awaits::await_of;
-use crate::boxed::{condition, expr};
-use crate::labels::{labels_in, selector};
-use crate::loops::{Counted, counting};
-use crate::returns::return_of;
+use crate::calls::called;
 use aos_base::Pos;
-use aos_check_call::called;
 use aos_check_expr::designator;
+use aos_check_parts::{
+    Counted, await_of, condition, counting, expr, labels_in, return_of, selector,
+};
 use aos_designators::refuse_assigned;
+use aos_known::width_of;
 use aos_made_stat::{MadeArms, MadeCases, MadeElse, MadeStat, MadeStats};
-use aos_operators::width_of;
 use aos_stat_rules::{
     Labels, are_exclusive, assigned_stat, enter_block, enter_with, exit_of, guarded_variable,
     leave_block, leave_with, put, refuse_modifiers, refuse_unfit, with_stat,

@@ -18,7 +18,7 @@ use Rattle.aos_symbols.specs.Env as env
 use Rattle.aos_symbols.specs.Env.{nil}
 use Rattle.aos_check_types.specs.declared.aliases.Target.{Target}
 use Rattle.aos_check_types.specs.declared.aliases.Target.TheVariants.{Own, Of, Nothing}
-use Rattle.aos_rules.specs.TypeNames.{named_type}
+use Rattle.aos_values.specs.TypeNames.{named_type}
 
 abbrev pub target_of : Option TypeId → Target
 target_of None = Nothing

@@ -9,15 +9,15 @@ ghost use Rattle.aos_symbols.specs.Env as env_of;
 ghost use Rattle.aos_check_types.specs.Told.{Told, Tells};
 ghost use Rattle.aos_check_types.specs.Aliases as judge;
 ghost use Rattle.aos_check_types.specs.Ahead as far;
-ghost use Rattle.aos_rules.specs.TypeNames as types;
+ghost use Rattle.aos_values.specs.TypeNames as types;
 
 use crate::places::next;
 use aos_base::NoMemory;
 use aos_entries::inner_parts;
-use aos_rules::named_type;
 use aos_symbols::{Breach, Env, NIL, NOT_BUILT, note};
 use aos_tree::{Decl, Qualident, TypeDef, TypeExpr};
 use aos_types::{TypeId, TypeRow, Types};
+use aos_values::named_type;
 use std::alloc::{AllocError, Global};
 
 /// What the number of a type's definition leads to: itself, another type, or none that is known.

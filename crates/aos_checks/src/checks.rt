@@ -3,7 +3,7 @@
 ghost use Rattle.std.specs.Prelude.{◌≡◌, ◌≤◌, length, map, OnOk, IfOk, IfErr};
 ghost use Rattle.aos_typed.specs.Seen.{seen_stat};
 ghost use Rattle.aos_symbols.specs.Outcome.{went, refused, passed, refusal_of};
-ghost use Rattle.aos_operators.specs.Seen.{seen_answer};
+ghost use Rattle.aos_known.specs.Seen.{seen_answer};
 ghost use Rattle.aos_check_expr.specs.Expressions as expressions;
 ghost use Rattle.aos_check_stat.specs.Bodies as bodies;
 ghost use Rattle.aos_check_decl.specs.Pass as declarations;
@@ -15,7 +15,7 @@ use aos_base::Refusal;
 use aos_check_decl::declare as declare_noting;
 use aos_check_expr::expr as expr_noting;
 use aos_check_stat::body_of;
-use aos_operators::Answer;
+use aos_known::Answer;
 use aos_symbols::{Breach, Env, Home};
 use aos_tree::{Block, Boxed, Expr, Items, Module};
 use aos_typed::TStat;

@@ -17,7 +17,7 @@ use Rattle.aos_symbols.specs.declared.env.Env.{Env}
 use Rattle.aos_symbols.specs.Home.{Home}
 use Rattle.aos_symbols.specs.Scope.{Named, Scope, find, methods_of}
 use Rattle.aos_symbols.specs.Env as env
-use Rattle.aos_operators.specs.Known.{object_number}
+use Rattle.aos_known.specs.Known.{object_number}
 use Rattle.aos_check_expr.proofs.Opens.{OpensFall}
 use Rattle.aos_types.specs.Signature.{same_type, same_kind, same_parameters, same_result, may_stand}
 use Rattle.aos_check_decl.proofs.Typing.{AreReady}

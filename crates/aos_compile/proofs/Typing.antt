@@ -15,7 +15,7 @@ use Rattle.aos_symbols.specs.Outcome as outcome
 use Rattle.aos_symbols.specs.Outcome.{went, in_turn}
 use Rattle.aos_symbols.proofs.Each.{Each, all_of}
 use Rattle.aos_symbols.proofs.Holds.{then_went, same_went}
-use Rattle.aos_operators.specs.Known.{object_number}
+use Rattle.aos_known.specs.Known.{object_number}
 use Rattle.aos_compile.specs.Modules.{World, no_modules, program_of}
 use Rattle.aos_reading.specs.Files.{Source, trees_from, load_order, named}
 use Rattle.aos_compile.specs.Files.{loaded, in_order, modules, whole}

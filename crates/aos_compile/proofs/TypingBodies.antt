@@ -21,8 +21,8 @@ use Rattle.aos_symbols.specs.Home.{Home, signature_in}
 use Rattle.aos_symbols.specs.Env as env
 use Rattle.aos_symbols.proofs.Each.{Each, joined}
 use Rattle.aos_symbols.proofs.Holds.{Holds, holds_bind}
-use Rattle.aos_operators.specs.Known.{object_number}
-use Rattle.aos_operators.proofs.Inside.{Inside}
+use Rattle.aos_known.specs.Known.{object_number}
+use Rattle.aos_known.proofs.Inside.{Inside}
 use Rattle.aos_designators.specs.Designators as desig
 use Rattle.aos_check_expr.proofs.Whole.{IsTyped, IsSearched, IsWhole}
 use Rattle.aos_check_decl.proofs.Typing.{HasHeading}

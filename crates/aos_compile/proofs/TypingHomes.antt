@@ -17,7 +17,7 @@ use Rattle.aos_symbols.specs.Home.{Home, texts_of, object_of}
 use Rattle.aos_symbols.specs.Env.{object_among}
 use Rattle.aos_symbols.proofs.Each.{Each, implied}
 use Rattle.aos_symbols.proofs.Told.{IsKnown, GoOn, known_on, FieldsAgree}
-use Rattle.aos_operators.specs.Known.{type_of}
+use Rattle.aos_known.specs.Known.{type_of}
 use Rattle.aos_check_decl.proofs.Typing.{AreGood, AreReady, variable_cells}
 use Rattle.aos_compile.proofs.TypingFields.{fields_on}
 use Rattle.aos_compile.proofs.TypingOutlook.{among_one}

@@ -16,10 +16,10 @@ use Rattle.aos_symbols.specs.Env as env
 use Rattle.aos_symbols.specs.Env.{basic_rows}
 use Rattle.aos_symbols.proofs.Each.{each_at}
 use Rattle.aos_symbols.proofs.Told.{IsTold, IsKnown}
-use Rattle.aos_operators.specs.Known.{type_as, type_of}
-use Rattle.aos_operators.proofs.Inside.{Inside, IsPlaceOf}
+use Rattle.aos_known.specs.Known.{type_as, type_of}
+use Rattle.aos_known.proofs.Inside.{Inside, IsPlaceOf}
 use Rattle.aos_operators.proofs.Sound.{not_both}
-use Rattle.aos_operators.specs.Kinds.{is_opened}
+use Rattle.aos_known.specs.Kinds.{is_opened}
 use Rattle.aos_designators.specs.Designators as desig
 use Rattle.aos_check_expr.proofs.Opens.{some_there}
 use Rattle.aos_check_expr.proofs.Whole.{IsTyped, closed, opened, IsWhole, IsParameterType, parameter_type, elements_id}

@@ -27,7 +27,7 @@ use Rattle.aos_symbols.specs.declared.env.Env.{Env}
 use Rattle.aos_symbols.specs.Home.{Home}
 use Rattle.aos_symbols.specs.Env as env
 use Rattle.aos_symbols.specs.Env.{chain_by, chain_behind, chain}
-use Rattle.aos_operators.specs.Known.{object_number}
+use Rattle.aos_known.specs.Known.{object_number}
 use Rattle.aos_symbols.proofs.Told.{get_front}
 use Rattle.aos_check_decl.proofs.Typing.{AreReady}
 use Rattle.aos_check_types.proofs.TypingLists.{set_other}

@@ -39,8 +39,8 @@ use Rattle.aos_symbols.specs.Env.{object_among}
 use Rattle.aos_symbols.proofs.Each.{Each, all_of, joined, implied, each_at}
 use Rattle.aos_symbols.proofs.Holds.{none_left, none_right, passed_went, then_went, same_went}
 use Rattle.aos_symbols.proofs.Told.{get_front, get_end, FieldsAgree}
-use Rattle.aos_operators.specs.Known.{object_number}
-use Rattle.aos_operators.proofs.Inside.{Inside}
+use Rattle.aos_known.specs.Known.{object_number}
+use Rattle.aos_known.proofs.Inside.{Inside}
 use Rattle.aos_check_expr.proofs.Opens.{some_there, stand_fall}
 use Rattle.aos_check_expr.proofs.Whole.{IsWhole}
 use Rattle.aos_check_types.specs.Methods.{defined_type, method_breaches, type_breaches, definition_breaches}

@@ -11,7 +11,7 @@ use Rattle.aos_typed.specs.Program.{Body, Variable, Parameter, Program}
 use Rattle.aos_typed.specs.WellTyped.{AreStatements, IsType, IsVariableType, IsResult, IsProcedure, IsPattern, IsBeside as IsBesideRow}
 use Rattle.aos_symbols.proofs.Each.{Each, all_of}
 use Rattle.aos_symbols.proofs.Told.{IsFormalType, IsResultType}
-use Rattle.aos_operators.specs.Known.{type_as}
+use Rattle.aos_known.specs.Known.{type_as}
 use Rattle.aos_check_decl.proofs.Typing.{AreReady}
 use Rattle.aos_compile.specs.Modules.{object_procedure, formal_of, pattern, body_beside}
 use Rattle.aos_compile.proofs.TypingTypes.{IsFlat, basic_flat, number_is, told_number}

@@ -22,7 +22,7 @@ use Rattle.aos_symbols.specs.Scope.{Scope}
 use Rattle.aos_symbols.specs.Env.{basic_rows}
 use Rattle.aos_symbols.proofs.Each.{Each, all_of}
 use Rattle.aos_symbols.proofs.Told.{IsKnown}
-use Rattle.aos_operators.specs.Known.{type_as, type_of}
+use Rattle.aos_known.specs.Known.{type_as, type_of}
 use Rattle.aos_check_expr.proofs.Whole.{AreFormalsOf, AreParameters, IsResultOf, IsSigned, parameter_type}
 use Rattle.aos_check_decl.proofs.Typing.{IsThere, IsResult as IsScalarType, IsHeading}
 use Rattle.aos_variables.specs.Parts.{variables_of, variable_of, parameter_of, result_of}

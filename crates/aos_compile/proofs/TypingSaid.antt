@@ -23,7 +23,7 @@ use Rattle.aos_symbols.specs.Scope.{Scope, find}
 use Rattle.aos_symbols.specs.Env as env
 use Rattle.aos_symbols.proofs.Each.{Each}
 use Rattle.aos_symbols.proofs.Holds.{Holds, holds_bind}
-use Rattle.aos_operators.specs.Known.{object_number}
+use Rattle.aos_known.specs.Known.{object_number}
 use Rattle.aos_check_expr.proofs.Whole.{IsWhole}
 use Rattle.aos_check_types.specs.Methods.{defined_type}
 use Rattle.aos_check_decl.proofs.Typing.{IsHeading, HasHeading}

@@ -13,7 +13,7 @@ use Rattle.aos_typed.specs.Numbers.{id_of}
 use Rattle.aos_typed.specs.Program.{Variable}
 use Rattle.aos_symbols.proofs.Each.{Each}
 use Rattle.aos_symbols.proofs.Told.{IsTold, basic, of_any, defined, IsKnown}
-use Rattle.aos_operators.specs.Known.{type_of}
+use Rattle.aos_known.specs.Known.{type_of}
 use Rattle.aos_check_types.proofs.TypingTables.{scalars_stay}
 use Rattle.aos_check_decl.proofs.Typing.{variable_cells}
 use Rattle.aos_compile.proofs.TypingTypes.{RowsStay, number_is, told_number}

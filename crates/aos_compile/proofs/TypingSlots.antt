@@ -23,7 +23,7 @@ use Rattle.aos_symbols.specs.Spelling.{word}
 use Rattle.aos_symbols.specs.Env as env
 use Rattle.aos_symbols.specs.Env.{object_among}
 use Rattle.aos_symbols.proofs.Told.{get_front}
-use Rattle.aos_operators.specs.Known.{object_number}
+use Rattle.aos_known.specs.Known.{object_number}
 use Rattle.aos_check_expr.proofs.Opens.{some_there, stand_fall}
 use Rattle.aos_check_types.specs.Methods.{method_breaches}
 use Rattle.aos_check_decl.proofs.Typing.{AreReady, HasHeading}

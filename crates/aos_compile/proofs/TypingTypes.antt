@@ -16,8 +16,8 @@ use Rattle.aos_typed.specs.WellTyped.{IsType, IsVariableType}
 use Rattle.aos_symbols.specs.Env.{any, nil, basic_rows}
 use Rattle.aos_symbols.proofs.Each.{Each}
 use Rattle.aos_symbols.proofs.Told.{IsTold, basic, of_any, defined, IsKnown, AreToldParts}
-use Rattle.aos_operators.specs.Known.{type_as, type_of}
-use Rattle.aos_operators.proofs.Types.{same_type, integer_cases, basic_cases, id_above}
+use Rattle.aos_known.specs.Known.{type_as, type_of}
+use Rattle.aos_known.proofs.Types.{same_type, integer_cases, basic_cases, id_above}
 use Rattle.aos_check_expr.proofs.Opens.{IsVariableNumber, IsOpenAt, some_there}
 use Rattle.aos_check_decl.proofs.Typing.{AreReady, IsThere}
 

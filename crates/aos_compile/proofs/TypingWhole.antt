@@ -28,8 +28,8 @@ use Rattle.aos_symbols.specs.Env as env
 use Rattle.aos_symbols.specs.Spelling.{word}
 use Rattle.aos_symbols.proofs.Each.{Each, each_at}
 use Rattle.aos_symbols.proofs.Told.{IsTold, IsKnown, FieldsAgree}
-use Rattle.aos_operators.specs.Known.{object_number, type_of}
-use Rattle.aos_operators.proofs.Inside.{Inside}
+use Rattle.aos_known.specs.Known.{object_number, type_of}
+use Rattle.aos_known.proofs.Inside.{Inside}
 use Rattle.aos_arguments.specs.Filled.{filled_texts}
 use Rattle.aos_designators.specs.Designators as desig
 use Rattle.aos_check_expr.proofs.Opens.{some_there}

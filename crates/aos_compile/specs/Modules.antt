@@ -30,7 +30,7 @@ use Rattle.aos_symbols.specs.Home.{Home, slot_at, texts_of}
 use Rattle.aos_arguments.specs.Filled.{filled_texts}
 use Rattle.aos_check_names.specs.Names.{name_breaches}
 use Rattle.aos_symbols.specs.Env as env
-use Rattle.aos_operators.specs.Known.{type_as}
+use Rattle.aos_known.specs.Known.{type_as}
 use Rattle.aos_check_types.specs.Methods.{defined_type}
 use Rattle.aos_check_decl.specs.Pass.{declare}
 use Rattle.aos_variables.specs.Parts.{spelling, field_spellings, variables_of, variable_of, parameter_of, result_of, first_scope}

@@ -25,7 +25,7 @@ use crate::procedures::{is_exclusive_body, module_procedures};
 use aos_base::{NoMemory, Pos, Refusal};
 use aos_check_decl::declare;
 use aos_check_names::check_names;
-use aos_operators::type_of;
+use aos_known::type_of;
 use aos_reading::CompileErr;
 use aos_symbols::{Breach, Env, Home};
 use aos_tree::{Items, Module};

@@ -27,12 +27,12 @@ use Rattle.aos_symbols.specs.Breaches.{breach, breach_unless}
 use Rattle.aos_symbols.specs.Judged.{Judged, judged, kept, bind}
 use Rattle.aos_symbols.specs.Spelling.{word, is_among, procedures_of_out}
 use Rattle.aos_symbols.specs.Env as env
-use Rattle.aos_operators.specs.declared.known.Class.{Class}
-use Rattle.aos_operators.specs.declared.known.Class.TheVariants.{Unknown, Constant, Variable, ReadOnly, Computed, Procedure}
-use Rattle.aos_operators.specs.Known.{Answer, Spot, Held, Stands, Value, passes, is_basic, is_number, object_number, type_as, unknown, constant_answer, answered, nothing, spot_of, read_from, known_as, value_class, lost}
-pub use Rattle.aos_operators.specs.Known.{refused, refused_value, refused_variable}
-pub use Rattle.aos_operators.specs.Kinds.{has_parts, is_opened, is_record_type, is_pointer_type, is_object_type, is_reference, is_procedural, is_value, is_built, pointed_in, pointed, made_as, made_number, has_dynamic_type, is_extension, may_test}
-pub use Rattle.aos_operators.specs.Places.{place_of, place_in, is_passed, rows_of}
+use Rattle.aos_known.specs.declared.known.Class.{Class}
+use Rattle.aos_known.specs.declared.known.Class.TheVariants.{Unknown, Constant, Variable, ReadOnly, Computed, Procedure}
+use Rattle.aos_known.specs.Known.{Answer, Spot, Held, Stands, Value, passes, is_basic, is_number, object_number, type_as, unknown, constant_answer, answered, nothing, spot_of, read_from, known_as, value_class, lost}
+pub use Rattle.aos_known.specs.Known.{refused, refused_value, refused_variable}
+pub use Rattle.aos_known.specs.Kinds.{has_parts, is_opened, is_record_type, is_pointer_type, is_object_type, is_reference, is_procedural, is_value, is_built, pointed_in, pointed, made_as, made_number, has_dynamic_type, is_extension, may_test}
+pub use Rattle.aos_known.specs.Places.{place_of, place_in, is_passed, rows_of}
 use Rattle.aos_designators.specs.declared.designators.Head.{Head}
 
 -- A head is what is found of a name, the name, and where the designator begins.

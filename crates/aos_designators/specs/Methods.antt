@@ -15,7 +15,7 @@ use Rattle.aos_symbols.specs.declared.env.Lookup.TheVariants.{Unknown as NoName,
 use Rattle.aos_symbols.specs.declared.env.Env.{Env}
 use Rattle.aos_symbols.specs.Judged.{Judged, kept, bind}
 use Rattle.aos_symbols.specs.Env as env
-use Rattle.aos_operators.specs.Known.{Spot, is, object_number, read_from}
+use Rattle.aos_known.specs.Known.{Spot, is, object_number, read_from}
 use Rattle.aos_designators.specs.declared.designators.Head.{Head}
 use Rattle.aos_designators.specs.declared.methods.Heading.{Heading}
 use Rattle.aos_designators.specs.declared.methods.Heading.TheVariants as heading

@@ -1,6 +1,6 @@
 -- What the code's methods and parts of designators are seen as.
 use Rattle.aos_typed.specs.Seen.{seen_callee}
-use Rattle.aos_operators.specs.Seen.{seen_spot}
+use Rattle.aos_known.specs.Seen.{seen_spot}
 use Rattle.aos_designators.specs.declared.methods.Bound.{Bound as CodeBound}
 use Rattle.aos_designators.specs.declared.methods.Part.{Part as CodePart}
 use Rattle.aos_designators.specs.declared.methods.Part.TheVariants as code_part

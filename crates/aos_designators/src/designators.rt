@@ -3,18 +3,18 @@
 ghost use Rattle.std.specs.Prelude.{◌≡◌, OnOk, IfOk};
 ghost use Rattle.aos_typed.specs.Seen.{seen_expr};
 ghost use Rattle.aos_symbols.specs.Breaches.{breach_unless, first_after};
-ghost use Rattle.aos_operators.specs.Known as known;
-ghost use Rattle.aos_operators.specs.Seen.{seen_answer, seen_spot};
+ghost use Rattle.aos_known.specs.Known as known;
+ghost use Rattle.aos_known.specs.Seen.{seen_answer, seen_spot};
 ghost use Rattle.aos_designators.specs.Designators as judge;
 
 use crate::references::guarded_spot;
 use crate::variables::{is_of_module, place_of_variable};
 use aos_base::Pos;
-use aos_made::Typed;
-use aos_operators::{
+use aos_known::{
     Answer, Class, Held, Known, Spot, answered, constant_answer, is_built, known_as, nothing,
     read_from, refused, refused_value, refused_variable, spot_of, unknown,
 };
+use aos_made::Typed;
 use aos_symbols::{
     Breach, Env, Lookup, Meaning, NO_VARIABLE, NOT_BUILT, NOT_CONSTANT, NOT_EXPORTED, Narrowed,
     OTHER_KIND, Open, READ_ONLY, Symbol, UNKNOWN, WRONG_CALL, WRONG_SELF, is_procedure_of_out,

@@ -3,7 +3,7 @@
 ghost use Rattle.std.specs.Prelude.{◌≡◌, OnOk, IfOk, option_and_then, option_map};
 ghost use Rattle.aos_typed.specs.Seen.{seen_callee, seen_expr};
 ghost use Rattle.aos_symbols.specs.Breaches.{first_after};
-ghost use Rattle.aos_operators.specs.Seen.{seen_spot};
+ghost use Rattle.aos_known.specs.Seen.{seen_spot};
 ghost use Rattle.aos_designators.specs.Designators as designators;
 ghost use Rattle.aos_designators.specs.Methods as judge;
 ghost use Rattle.aos_designators.specs.Seen.{seen_bound, seen_part};
@@ -15,8 +15,8 @@ use crate::designators::{
 use crate::selectors::{field, followed};
 use crate::variables::is_of_module;
 use aos_base::Pos;
+use aos_known::{Spot, is_object_type, is_procedural, object_number, read_from};
 use aos_made::{MadeCallee, Typed};
-use aos_operators::{Spot, is_object_type, is_procedural, object_number, read_from};
 use aos_symbols::{
     Breach, Env, Lookup, Meaning, Method, NOT_EXPORTED, WRONG_CALL, WRONG_SELECTOR, WRONG_SELF,
 };

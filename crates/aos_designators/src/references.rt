@@ -4,17 +4,17 @@ ghost use Rattle.std.specs.Prelude.{◌≡◌, IfOk, OnOk};
 ghost use Rattle.aos_typed.specs.Program.{Guarded};
 ghost use Rattle.aos_typed.specs.Seen.{seen_expr, seen_place};
 ghost use Rattle.aos_symbols.specs.Breaches.{first_after};
-ghost use Rattle.aos_operators.specs.Known as known;
-ghost use Rattle.aos_operators.specs.Seen.{seen_held, seen_spot};
+ghost use Rattle.aos_known.specs.Known as known;
+ghost use Rattle.aos_known.specs.Seen.{seen_held, seen_spot};
 ghost use Rattle.aos_designators.specs.Designators as judge;
 
 use crate::designators::{refused_at, refused_variable_at};
 use aos_base::Pos;
-use aos_made::{MadePlace, MadeRows, Typed};
-use aos_operators::{
+use aos_known::{
     Class, Held, Spot, holds_passed, is_opened, is_record_type, known_as, made_number, may_test,
     object_number, open_dimensions, read_from, target_of, type_as, value_class,
 };
+use aos_made::{MadePlace, MadeRows, Typed};
 use aos_symbols::{Breach, Env, NOT_BUILT, WRONG_CALL, WRONG_TEST};
 use aos_types::TypeId;
 use std::alloc::{AllocError, Global};

@@ -5,18 +5,18 @@ ghost use Rattle.aos_typed.specs.Program.{Index, Of, Row};
 ghost use Rattle.aos_typed.specs.Program.{Field as FieldOf};
 ghost use Rattle.aos_typed.specs.Seen.{seen_expr};
 ghost use Rattle.aos_symbols.specs.Breaches.{first_after};
-ghost use Rattle.aos_operators.specs.Known as known;
-ghost use Rattle.aos_operators.specs.Seen.{seen_answer, seen_held, seen_spot};
+ghost use Rattle.aos_known.specs.Known as known;
+ghost use Rattle.aos_known.specs.Seen.{seen_answer, seen_held, seen_spot};
 ghost use Rattle.aos_designators.specs.Designators as judge;
 
 use crate::designators::refused_variable_at;
 use crate::references::{followed_class, followed_spot, through, unknown_part};
 use aos_base::Pos;
-use aos_made::{MadePlace, MadeRows, Typed};
-use aos_operators::{
+use aos_known::{
     Answer, Class, Held, Spot, is_basic, is_built, is_number, is_object_type, is_record_type,
     known_as, read_from, rows_of, target_of, type_as,
 };
+use aos_made::{MadePlace, MadeRows, Typed};
 use aos_symbols::{Breach, Env, Field, NOT_BUILT, NOT_EXPORTED, WRONG_SELECTOR};
 use aos_tree::{Export, Name};
 use aos_typed::open_array;

@@ -4,8 +4,8 @@ ghost use Rattle.std.specs.Prelude.{◌≡◌, IfOk};
 ghost use Rattle.aos_typed.specs.Seen.{seen_place};
 ghost use Rattle.aos_designators.specs.Designators as judge;
 
+use aos_known::{is_opened, open_dimensions, type_as};
 use aos_made::{MadePlace, MadeRows, Typed};
-use aos_operators::{is_opened, open_dimensions, type_as};
 use aos_symbols::{Env, Open, Symbol};
 use aos_types::{Parameter, TypeId};
 use std::alloc::{AllocError, Global};

@@ -18,7 +18,7 @@ use Rattle.aos_types.specs.declared.signature.Gives.TheVariants as gives
 use Rattle.aos_types.specs.declared.signature.Signature.{Signature}
 use Rattle.aos_symbols.specs.Judged.{Judged, kept, bind, walk}
 use Rattle.aos_symbols.specs.Spelling.{is_word}
-use Rattle.aos_rules.specs.TypeNames.{named_type}
+use Rattle.aos_values.specs.TypeNames.{named_type}
 use Rattle.aos_made_types.specs.Met.{Met, met, refused_type, placed, claiming}
 
 -- open arrays within one another, as many as there are places of ARRAY

@@ -20,7 +20,7 @@ use Rattle.aos_symbols.specs.Scope.{Scope, with_name, with_variable}
 use Rattle.aos_symbols.specs.Home.{add_record}
 use Rattle.aos_entries.specs.Entries.{entry}
 use Rattle.aos_symbols.specs.Env as env
-use Rattle.aos_rules.specs.TypeNames.{named_type}
+use Rattle.aos_values.specs.TypeNames.{named_type}
 pub use Rattle.aos_made_types.specs.Met.{Met, met, placed, claiming}
 
 pub record FieldsMet : Type 0 where

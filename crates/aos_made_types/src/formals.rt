@@ -9,10 +9,10 @@ ghost use Rattle.aos_made_types.specs.Formals as judge;
 
 use crate::rows::{claim, place_row};
 use aos_base::{NoMemory, Pos};
-use aos_rules::{named_type, no_type};
 use aos_symbols::{Breach, Claim, Env, WRONG_MODIFIER, is_word};
 use aos_tree::{Formals, Name, Qualident, Section};
 use aos_types::{Gives, Items, Parameter, Signature, TypeId, TypeRow};
+use aos_values::{named_type, no_type};
 use std::alloc::{AllocError, Global};
 
 /// An open array of elements of this type, where it is known.

@@ -10,10 +10,10 @@ ghost use Rattle.aos_made_types.specs.Records as judge;
 use crate::rows::{claim, place_row};
 use aos_base::{NoMemory, Pos};
 use aos_entries::declare;
-use aos_rules::named_type;
 use aos_symbols::{BASIC_TYPES, Breach, Claim, Env, Meaning, Scope, WRONG_BASE, note};
 use aos_tree::{Def, Fields, Qualident};
 use aos_types::{Items, TypeId, TypeRow};
+use aos_values::named_type;
 use std::alloc::{AllocError, Global};
 
 /// The next field of a record.

@@ -22,15 +22,15 @@ use Rattle.aos_typed.specs.declared.tree.TType.TheVariants as type
 use Rattle.aos_typed.specs.Value.{Integer, Boolean, Character, Elements}
 use Rattle.aos_typed.specs.WellTyped.{IsLiteral}
 use Rattle.aos_symbols.specs.Env.{shortint, integer, longint, hugeint, char, set, text}
-use Rattle.aos_operators.specs.declared.known.Class.{Class}
-use Rattle.aos_operators.specs.declared.known.Class.TheVariants.{Unknown, Constant, Variable, ReadOnly, Computed, Procedure}
+use Rattle.aos_known.specs.declared.known.Class.{Class}
+use Rattle.aos_known.specs.declared.known.Class.TheVariants.{Unknown, Constant, Variable, ReadOnly, Computed, Procedure}
 use Rattle.aos_operators.specs.declared.operations.Single.{Single}
 use Rattle.aos_operators.specs.declared.operations.Single.TheVariants as single
 use Rattle.aos_operators.specs.declared.operations.Joint.{Joint}
 use Rattle.aos_operators.specs.declared.operations.Joint.TheVariants as joint
-use Rattle.aos_operators.specs.Known.{is_basic, is_integer, is, width_of_type, least_of, greatest_of, type_of_literal, type_as}
+use Rattle.aos_known.specs.Known.{is_basic, is_integer, is, width_of_type, least_of, greatest_of, type_of_literal, type_as}
 use Rattle.aos_operators.specs.Operations.{number, literal_given, computed_one, computed, codes_alone, single_value, joint_value, class_of_one, class_behind, class_of, greatest_value, least_value}
-use Rattle.aos_operators.proofs.Types.{within_wider, most_includes}
+use Rattle.aos_known.proofs.Types.{within_wider, most_includes}
 
 -- a literal is of the type of its value; a string constant may have more characters than one, or none
 abbrev pub IsGood : Literal → Type 0

@@ -29,16 +29,16 @@ use Rattle.aos_symbols.specs.declared.scope.Function.{Function}
 use Rattle.aos_symbols.specs.declared.scope.Function.TheVariants as function
 use Rattle.aos_symbols.specs.Env.{shortint, integer, longint, hugeint, boolean, char, set, nil, text}
 use Rattle.aos_types.specs.Table.{row_of, is_open, is_procedure}
-use Rattle.aos_operators.proofs.Inside.{Inside, IsPlaceOf, AreRows, AreVariables, IsOf, IsNamed}
-use Rattle.aos_operators.specs.declared.known.Class.{Class}
-use Rattle.aos_operators.specs.declared.known.Class.TheVariants.{Unknown, Constant, Variable, ReadOnly, Computed, Procedure}
+use Rattle.aos_known.proofs.Inside.{Inside, IsPlaceOf, AreRows, AreVariables, IsOf, IsNamed}
+use Rattle.aos_known.specs.declared.known.Class.{Class}
+use Rattle.aos_known.specs.declared.known.Class.TheVariants.{Unknown, Constant, Variable, ReadOnly, Computed, Procedure}
 use Rattle.aos_operators.specs.declared.operations.Joint.TheVariants as joint
 use Rattle.aos_operators.specs.declared.operations.Step.{Step}
 use Rattle.aos_operators.specs.declared.operations.Operation.{Operation}
-use Rattle.aos_operators.specs.Known.{Answer, is_nil, is_lost, is_basic, is_integer, is, is_number, is_boolean, is_char, is_set, larger, width_of_type, width_of, least_of, greatest_of, type_of_literal, type_as, answered}
+use Rattle.aos_known.specs.Known.{Answer, is_nil, is_lost, is_basic, is_integer, is, is_number, is_boolean, is_char, is_set, larger, width_of_type, width_of, least_of, greatest_of, type_of_literal, type_as, answered}
 use Rattle.aos_operators.specs.Operations as op
-pub use Rattle.aos_operators.proofs.Types.{not_both}
-use Rattle.aos_operators.proofs.Types.{most_includes, includes_itself, integer_itself, as_basic, wider, same_type, integer_cases, basic_cases, integer_basic, as_integer, order_includes}
+pub use Rattle.aos_known.proofs.Types.{not_both}
+use Rattle.aos_known.proofs.Types.{most_includes, includes_itself, integer_itself, as_basic, wider, same_type, integer_cases, basic_cases, integer_basic, as_integer, order_includes}
 use Rattle.aos_operators.proofs.Stored.{IsMade, made_of_one, made_of}
 use Rattle.aos_operators.proofs.Good.{IsGood, IsKnownClass, literal_kind, single_good, joint_good, class_of_one_known, class_of_known}
 use Rattle.aos_operators.specs.Forms.{is_test}

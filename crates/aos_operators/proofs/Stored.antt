@@ -1,8 +1,8 @@
 -- Classes of variables, which may be written or only be read, and of procedures that are named. What is made of other parts is neither.
 use Rattle.std.proofs.Common.{Bool, true, false, Some, None}
 use Rattle.aos_typed.specs.declared.tree.Literal.{Literal}
-use Rattle.aos_operators.specs.declared.known.Class.{Class}
-use Rattle.aos_operators.specs.declared.known.Class.TheVariants.{Unknown, Constant, Variable, ReadOnly, Computed, Procedure}
+use Rattle.aos_known.specs.declared.known.Class.{Class}
+use Rattle.aos_known.specs.declared.known.Class.TheVariants.{Unknown, Constant, Variable, ReadOnly, Computed, Procedure}
 use Rattle.aos_operators.specs.declared.operations.Single.{Single}
 use Rattle.aos_operators.specs.declared.operations.Joint.{Joint}
 use Rattle.aos_operators.specs.Operations as op

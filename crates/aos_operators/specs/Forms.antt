@@ -10,7 +10,7 @@ use Rattle.aos_typed.specs.declared.tree.Literal.TheVariants as literal
 use Rattle.aos_typed.specs.declared.tree.TextConstant.{TextConstant}
 use Rattle.aos_symbols.specs.Breaches.{breach_unless}
 use Rattle.aos_symbols.specs.Judged.{Judged, judged, kept}
-use Rattle.aos_operators.specs.Known.{Answer, constant_answer, refused}
+use Rattle.aos_known.specs.Known.{Answer, constant_answer, refused}
 use Rattle.aos_operators.specs.Operations as op
 
 -- Forms without parts.

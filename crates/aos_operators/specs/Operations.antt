@@ -34,15 +34,15 @@ use Rattle.aos_symbols.specs.declared.scope.Function.TheVariants as function
 use Rattle.aos_symbols.specs.Breaches.{breach_unless}
 use Rattle.aos_symbols.specs.Judged.{Judged, judged}
 use Rattle.aos_symbols.specs.Env.{shortint, integer, longint, hugeint, boolean, char, set}
-use Rattle.aos_operators.specs.declared.known.Class.{Class}
-use Rattle.aos_operators.specs.declared.known.Class.TheVariants.{Unknown, Constant, Variable, ReadOnly, Computed, Procedure}
+use Rattle.aos_known.specs.declared.known.Class.{Class}
+use Rattle.aos_known.specs.declared.known.Class.TheVariants.{Unknown, Constant, Variable, ReadOnly, Computed, Procedure}
 use Rattle.aos_operators.specs.declared.operations.Single.{Single}
 use Rattle.aos_operators.specs.declared.operations.Single.TheVariants as single
 use Rattle.aos_operators.specs.declared.operations.Joint.{Joint}
 use Rattle.aos_operators.specs.declared.operations.Joint.TheVariants as joint
 use Rattle.aos_operators.specs.declared.operations.Step.{Step}
 use Rattle.aos_operators.specs.declared.operations.Operation.{Operation}
-use Rattle.aos_operators.specs.Known.{Answer, is_integer, width_of_type, is_number, is_boolean, is_char, is_set, is, larger, width_of, next, previous, least_of, greatest_of, lost, answered, constant_answer}
+use Rattle.aos_known.specs.Known.{Answer, is_integer, width_of_type, is_number, is_boolean, is_char, is_set, is, larger, width_of, next, previous, least_of, greatest_of, lost, answered, constant_answer}
 
 -- Constants.
 

@@ -9,11 +9,11 @@ ghost use Rattle.aos_base.specs.Operators.{natural};
 ghost use Rattle.aos_symbols.specs.Breaches.{first_after};
 ghost use Rattle.aos_symbols.specs.Judged.{kept};
 ghost use Rattle.aos_operators.specs.Forms as judge;
-ghost use Rattle.aos_operators.specs.Seen.{seen_answer};
+ghost use Rattle.aos_known.specs.Seen.{seen_answer};
 
-use crate::known::{Answer, constant_answer, refused};
 use crate::operations;
 use aos_base::Pos;
+use aos_known::{Answer, constant_answer, refused};
 use aos_symbols::{Breach, NOT_BUILT};
 use aos_tree::{AddOp, MulOp, RelationOp, Sign};
 use aos_typed::{Literal, TextConstant};

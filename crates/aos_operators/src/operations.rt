@@ -6,15 +6,15 @@ ghost use Rattle.aos_base.specs.Operators.{natural};
 ghost use Rattle.aos_typed.specs.Seen.{seen_expr};
 ghost use Rattle.aos_typed.specs.Value as value;
 ghost use Rattle.aos_symbols.specs.Breaches.{breach_unless, first_after};
-ghost use Rattle.aos_operators.specs.Known.{larger as larger_of, lost as lost_breaches};
+ghost use Rattle.aos_known.specs.Known.{larger as larger_of, lost as lost_breaches};
 ghost use Rattle.aos_operators.specs.Operations as judge;
-ghost use Rattle.aos_operators.specs.Seen.{seen_answer};
+ghost use Rattle.aos_known.specs.Seen.{seen_answer};
 
-use crate::known::{
-    Answer, Class, answered, constant_answer, greatest_of, is_boolean, is_char, is_integer,
-    is_number, is_set, larger, least_of, lost, next, previous, width_of, width_of_type,
-};
 use aos_base::{Binary, Given, Pos, Relation, Unary, Width, apply_binary, apply_unary, truth};
+use aos_known::{
+    Answer, Class, answered, constant_answer, greatest_of, is_boolean, is_char, is_integer,
+    is_number, is_set, least_of, lost, next, previous, width_of, width_of_type,
+};
 use aos_made::Typed;
 use aos_symbols::{
     ARGUMENT_TYPE, BOOLEAN, Breach, CHAR, Function, HUGEINT, INTEGER, LONGINT, SET, SHORTINT,
@@ -532,6 +532,16 @@ fn are_sets(a: Option<TypeId>, b: Option<TypeId>) -> bool
     ensures { result ≡ judge.are_sets a b }
 {
     is_set(a) && is_set(b)
+}
+
+/// The larger of two integer types.
+fn larger(a: Option<TypeId>, b: Option<TypeId>) -> Option<TypeId>
+    ensures { result ≡ larger_of a b }
+{
+    match (a, b) {
+        (Some(a), Some(b)) => Some(if a.0 < b.0 { b } else { a }),
+        _ => None,
+    }
 }
 
 /// An operator on numbers, or another on sets, whose result is of the larger type.

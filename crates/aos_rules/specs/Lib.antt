@@ -1,5 +1,2 @@
-pub mod Signatures
-pub mod Assignable
-pub mod Arrays
+pub mod Lengths
 pub mod Relations
-pub mod TypeNames

@@ -16,17 +16,17 @@ use Rattle.aos_symbols.specs.declared.env.Env.{Env}
 use Rattle.aos_symbols.specs.Breaches.{breach_unless}
 use Rattle.aos_symbols.specs.Judged.{Judged, judged, bind}
 use Rattle.aos_symbols.specs.Env as env
-use Rattle.aos_operators.specs.declared.known.Class.{Class}
-use Rattle.aos_operators.specs.declared.known.Class.TheVariants.{Constant, Computed}
-use Rattle.aos_operators.specs.declared.known.Known.{Known}
+use Rattle.aos_known.specs.declared.known.Class.{Class}
+use Rattle.aos_known.specs.declared.known.Class.TheVariants.{Constant, Computed}
+use Rattle.aos_known.specs.declared.known.Known.{Known}
 use Rattle.aos_operators.specs.declared.operations.Joint.TheVariants as joint
 use Rattle.aos_operators.specs.declared.operations.Operation.{Operation}
-use Rattle.aos_operators.specs.Known.{Answer, passes, is, is_of_any, object_number, answered, nothing, as_procedure, refused_value}
+use Rattle.aos_known.specs.Known.{Answer, passes, is, is_of_any, object_number, answered, nothing, as_procedure, refused_value}
 use Rattle.aos_operators.specs.Operations as op
-use Rattle.aos_operators.specs.Kinds as kinds
-use Rattle.aos_operators.specs.Places as places
-use Rattle.aos_rules.specs.TypeNames.{known_type}
-pub use Rattle.aos_rules.specs.Arrays.{is_characters, string_in, is_text, is_only_text, may_be_text, are_texts, string_rows, rows_in, text_rows, has_room, text_for}
+use Rattle.aos_known.specs.Kinds as kinds
+use Rattle.aos_known.specs.Places as places
+use Rattle.aos_values.specs.TypeNames.{known_type}
+pub use Rattle.aos_values.specs.Arrays.{is_characters, string_in, is_text, is_only_text, may_be_text, are_texts, string_rows, rows_in, text_rows, has_room, text_for}
 
 -- Type tests: the right operand is the name of a type. They are no constants.
 

@@ -2,12 +2,13 @@
 
 ghost use Rattle.std.specs.Prelude.{◌≡◌, IfOk, OnOk};
 ghost use Rattle.aos_symbols.specs.Breaches.{first_after};
-ghost use Rattle.aos_operators.specs.Seen.{seen_answer};
+ghost use Rattle.aos_known.specs.Seen.{seen_answer};
 ghost use Rattle.aos_rules.specs.Relations as judge;
 
 use crate::texts::relation_in;
 use aos_base::Pos;
-use aos_operators::{Answer, as_procedure, is_procedural, operations};
+use aos_known::{Answer, as_procedure, is_procedural};
+use aos_operators::operations;
 use aos_symbols::{Breach, Env, NIL};
 use aos_tree::RelationOp;
 use aos_types::TypeId;

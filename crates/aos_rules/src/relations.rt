@@ -3,23 +3,23 @@
 ghost use Rattle.std.specs.Prelude.{◌≡◌, OnOk, IfOk};
 ghost use Rattle.aos_symbols.specs.Breaches.{first_after};
 ghost use Rattle.aos_typed.specs.Seen.{seen_expr};
-ghost use Rattle.aos_operators.specs.Seen.{seen_answer};
+ghost use Rattle.aos_known.specs.Seen.{seen_answer};
 ghost use Rattle.aos_rules.specs.Relations as judge;
 
 use crate::procedures::{compares_procedures, procedures_related};
 use crate::texts::{compares_texts, relation_in, texts_related};
-use crate::type_names::known_type;
 use aos_base::Pos;
-use aos_made::Typed;
-use aos_operators::operations::{self, Operation};
-use aos_operators::{
+use aos_known::{
     Answer, Class, answered, is_object_type, is_of_any, is_pointer_type, is_record_type,
     is_reference, made_number, made_place_in, may_test, nothing, object_number, reads_passed,
     refused_value,
 };
+use aos_made::Typed;
+use aos_operators::operations::{self, Operation};
 use aos_symbols::{BOOLEAN, Breach, Env, WRONG_TEST, note};
 use aos_tree::{Qualident, RelationOp};
 use aos_types::TypeId;
+use aos_values::known_type;
 use std::alloc::{AllocError, Global};
 
 /// A type test of an operand with a type.

@@ -27,12 +27,12 @@ use Rattle.aos_symbols.specs.Judged.{Judged, judged, kept, bind}
 use Rattle.aos_symbols.specs.Env as env
 use Rattle.aos_types.specs.declared.row.TypeId.{TypeId}
 use Rattle.aos_typed.specs.Open.{open_dimensions}
-use Rattle.aos_operators.specs.declared.known.Class.{Class}
-use Rattle.aos_operators.specs.declared.known.Class.TheVariants.{Unknown, Constant, Variable, ReadOnly}
-use Rattle.aos_operators.specs.Known.{Answer, Spot, passes, is_number, is_set, fits, width_of}
-use Rattle.aos_operators.specs.Places.{place_of}
-use Rattle.aos_rules.specs.Assignable as assignable
-use Rattle.aos_rules.specs.Arrays.{is_characters, is_opening, text_rows, array_rows, text_for, has_room}
+use Rattle.aos_known.specs.declared.known.Class.{Class}
+use Rattle.aos_known.specs.declared.known.Class.TheVariants.{Unknown, Constant, Variable, ReadOnly}
+use Rattle.aos_known.specs.Known.{Answer, Spot, passes, is_number, is_set, fits, width_of}
+use Rattle.aos_known.specs.Places.{place_of}
+use Rattle.aos_values.specs.Assignable as assignable
+use Rattle.aos_values.specs.Arrays.{is_characters, is_opening, text_rows, array_rows, text_for, has_room}
 use Rattle.aos_designators.specs.Designators as desig
 use Rattle.aos_designators.specs.Designators.{written}
 use Rattle.aos_designators.specs.Methods.{Part, spot_of_part}

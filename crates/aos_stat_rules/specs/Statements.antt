@@ -30,15 +30,14 @@ use Rattle.aos_symbols.specs.Judged.{Judged, judged, kept, bind}
 use Rattle.aos_symbols.specs.Spelling.{is_word, is_active, is_priority}
 use Rattle.aos_symbols.specs.Env as env
 use Rattle.aos_types.specs.declared.row.TypeId.{TypeId}
-use Rattle.aos_operators.specs.declared.known.Class.{Class}
-use Rattle.aos_operators.specs.declared.known.Class.TheVariants.{Unknown, Constant}
-use Rattle.aos_operators.specs.Known.{Answer, Spot, Held, Stands, Value, is_number, is_char, fits, type_of, type_of_literal}
-use Rattle.aos_operators.specs.Operations.{number}
-use Rattle.aos_operators.specs.Kinds.{has_parts}
-use Rattle.aos_operators.specs.Places.{place_of, place_in}
-use Rattle.aos_rules.specs.Arrays.{number_in}
-use Rattle.aos_rules.specs.Assignable as assignable
-use Rattle.aos_rules.specs.TypeNames.{known_type}
+use Rattle.aos_known.specs.declared.known.Class.{Class}
+use Rattle.aos_known.specs.declared.known.Class.TheVariants.{Unknown, Constant}
+use Rattle.aos_known.specs.Known.{Answer, Spot, Held, Stands, Value, is_number, is_char, fits, type_of, type_of_literal}
+use Rattle.aos_known.specs.Kinds.{has_parts}
+use Rattle.aos_known.specs.Places.{place_of, place_in}
+use Rattle.aos_values.specs.Arrays.{number_in}
+use Rattle.aos_values.specs.Assignable as assignable
+use Rattle.aos_values.specs.TypeNames.{known_type}
 use Rattle.aos_designators.specs.declared.designators.Head.{Head}
 use Rattle.aos_designators.specs.Designators as desig
 use Rattle.aos_designators.specs.Designators.{written}

@@ -3,22 +3,22 @@
 ghost use Rattle.std.specs.Prelude.{◌≡◌, OnOk, IfOk, option_map};
 ghost use Rattle.aos_typed.specs.Seen.{seen_stat};
 ghost use Rattle.aos_symbols.specs.Breaches.{first_after};
-ghost use Rattle.aos_operators.specs.Known.{passes};
-ghost use Rattle.aos_operators.specs.Seen.{seen_answer, seen_spot};
-ghost use Rattle.aos_rules.specs.Arrays as arrays;
+ghost use Rattle.aos_known.specs.Known.{passes};
+ghost use Rattle.aos_known.specs.Seen.{seen_answer, seen_spot};
+ghost use Rattle.aos_values.specs.Arrays as arrays;
 ghost use Rattle.aos_stat_rules.specs.Calls as judge;
 ghost use Rattle.aos_stat_rules.specs.Statements as statements;
 
 use aos_base::Pos;
 use aos_designators::refuse_written;
+use aos_known::{Answer, Known, Spot, has_parts, place_in, place_of, type_of};
 use aos_made::MadePlace;
 use aos_made_stat::MadeStat;
-use aos_operators::{Answer, Known, Spot, has_parts, place_in, place_of, type_of};
-use aos_rules::{
-    array_rows, has_room, is_assignable, is_characters, is_opening, text_for, text_rows, typed_for,
-};
 use aos_symbols::{ARGUMENT_TYPE, Breach, Env, UNFIT, note};
 use aos_typed::TextConstant;
+use aos_values::{
+    array_rows, has_room, is_assignable, is_characters, is_opening, text_for, text_rows, typed_for,
+};
 use std::alloc::{AllocError, Global};
 
 /// The string constant that is stored in an array of characters.

@@ -2,12 +2,12 @@
 
 ghost use Rattle.std.specs.Prelude.{◌≡◌};
 ghost use Rattle.aos_symbols.specs.Breaches.{first_after};
-ghost use Rattle.aos_operators.specs.Seen.{seen_spot};
+ghost use Rattle.aos_known.specs.Seen.{seen_spot};
 ghost use Rattle.aos_stat_rules.specs.Calls as judge;
 
 use aos_base::Pos;
 use aos_designators::refuse_written;
-use aos_operators::{Class, Spot, fits, is_number, is_set, width_of};
+use aos_known::{Class, Spot, fits, is_number, is_set, width_of};
 use aos_symbols::{ARGUMENT_TYPE, Breach, Routine, note};
 use aos_typed::{Change, Literal};
 use aos_types::TypeId;

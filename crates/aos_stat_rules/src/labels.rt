@@ -8,7 +8,7 @@ ghost use Rattle.aos_stat_rules.specs.Statements as judge;
 ghost use Rattle.aos_stat_rules.specs.Taken.{AreTaken};
 
 use aos_base::Pos;
-use aos_operators::{is_char, is_number};
+use aos_known::{is_char, is_number};
 use aos_symbols::{Breach, WRONG_LABEL, note};
 use aos_typed::LabelRange;
 use aos_types::TypeId;

@@ -11,8 +11,8 @@ ghost use Rattle.aos_stat_rules.specs.Statements as judge;
 use crate::withs::is_lone_self;
 use aos_base::Pos;
 use aos_designators::{access, place_of_variable, refuse_written};
+use aos_known::{Class, fits, is_number, type_of_literal};
 use aos_made::MadePlace;
-use aos_operators::{Class, fits, is_number, type_of_literal};
 use aos_symbols::{
     Breach, Env, Lookup, Meaning, NOT_BUILT, NOT_EXPORTED, Symbol, UNKNOWN, WRONG_FOR, WRONG_SELF,
     note,

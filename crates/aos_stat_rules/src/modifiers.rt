@@ -7,10 +7,10 @@ ghost use Rattle.aos_symbols.specs.Spelling as spelling;
 ghost use Rattle.aos_stat_rules.specs.Statements as judge;
 
 use aos_base::{Pos, Priority};
-use aos_operators::Class;
-use aos_rules::number_in;
+use aos_known::Class;
 use aos_symbols::{Breach, Env, NOT_BUILT, WRONG_MODIFIER, is_active, is_priority, is_word, note};
 use aos_tree::Modifier;
+use aos_values::number_in;
 
 /// Whether a modifier is SAFE, which isn't built.
 fn is_safe(text: &[u8], modifier: &Modifier) -> bool

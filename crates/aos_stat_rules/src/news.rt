@@ -6,7 +6,7 @@ ghost use Rattle.aos_stat_rules.specs.Calls as judge;
 
 use aos_base::Pos;
 use aos_designators::refuse_written;
-use aos_operators::{Class, is_number, is_object_type, is_pointer_type, made_number, target_of};
+use aos_known::{Class, is_number, is_object_type, is_pointer_type, made_number, target_of};
 use aos_symbols::{ARGUMENT_COUNT, Breach, Env, Method, WRONG_NEW, note};
 use aos_typed::open_array;
 use aos_types::TypeId;

@@ -3,17 +3,17 @@
 ghost use Rattle.std.specs.Prelude.{◌≡◌, OnOk, IfOk};
 ghost use Rattle.aos_typed.specs.Seen.{seen_stat, seen_stats};
 ghost use Rattle.aos_symbols.specs.Breaches.{first_after};
-ghost use Rattle.aos_operators.specs.Seen.{seen_held, seen_spot};
+ghost use Rattle.aos_known.specs.Seen.{seen_held, seen_spot};
 ghost use Rattle.aos_stat_rules.specs.Statements as judge;
 
 use aos_base::Pos;
 use aos_designators::{Head, guard, is_module, member, named, plain, refused_at};
+use aos_known::{Held, Spot};
 use aos_made_stat::{MadeStat, MadeStats};
-use aos_operators::{Held, Spot};
-use aos_rules::known_type;
 use aos_symbols::{Breach, Env, Lookup, Meaning, Narrowed, WRONG_SELF, WRONG_WITH};
 use aos_tree::{Items, Qualident};
 use aos_types::TypeId;
+use aos_values::known_type;
 use std::alloc::{AllocError, Global};
 
 fn may_be_variable(lookup: Lookup) -> bool

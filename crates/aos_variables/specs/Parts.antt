@@ -19,7 +19,7 @@ use Rattle.aos_types.specs.declared.signature.Gives.TheVariants as gives
 use Rattle.aos_symbols.specs.Spelling.{word}
 use Rattle.aos_symbols.specs.Declarations.{type_defs, single_variables}
 use Rattle.aos_symbols.specs.Scope.{Scope}
-use Rattle.aos_operators.specs.Known.{type_of}
+use Rattle.aos_known.specs.Known.{type_of}
 use Rattle.aos_unnamed.specs.Unnamed.{is_given}
 
 -- a name as the typed program has it: none where it was given, else its bytes, which are those of ASCII letters, digits and _

@@ -10,7 +10,7 @@ ghost use Rattle.aos_variables.specs.Parts as judge;
 
 use crate::names::{number_behind, spelling_of};
 use crate::variables::variables_from;
-use aos_operators::type_of;
+use aos_known::type_of;
 use aos_symbols::Scope;
 use aos_tree::{Decl, Formals, Name, Proc};
 use aos_typed::{TParameter, TType, TVariable};

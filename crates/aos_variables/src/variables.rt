@@ -8,7 +8,7 @@ ghost use Rattle.aos_symbols.specs.Declarations.{single_variables};
 ghost use Rattle.aos_variables.specs.Parts as judge;
 
 use crate::names::{number_behind, spelling_of};
-use aos_operators::type_of;
+use aos_known::type_of;
 use aos_symbols::{Env, Scope};
 use aos_tree::{Decl, Def, VarDef};
 use aos_typed::TVariable;

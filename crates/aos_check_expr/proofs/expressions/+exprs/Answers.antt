@@ -6,9 +6,9 @@ use Rattle.aos_tree.specs.declared.expr.Expr.{out-Expr}
 use Rattle.aos_tree.specs.declared.expr.Elem.{out-Elem}
 use Rattle.aos_symbols.specs.Breaches.{first_after}
 use Rattle.aos_symbols.specs.Judged.{Judged, walk}
-use Rattle.aos_operators.specs.Known.{Answer}
+use Rattle.aos_known.specs.Known.{Answer}
 use Rattle.aos_operators.specs.Operations.{no_elements}
-use Rattle.aos_operators.specs.Seen.{seen_answer, seen_spot}
+use Rattle.aos_known.specs.Seen.{seen_answer, seen_spot}
 use Rattle.aos_designators.specs.Designators.{read}
 use Rattle.aos_check_expr.specs.Expressions as judge
 use Rattle.aos_check_expr.proofs.Rows.{two_items, factor_desig, factor_set, factor_not, element_as, element_is}

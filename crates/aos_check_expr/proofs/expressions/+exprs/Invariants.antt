@@ -3,7 +3,7 @@ use Rattle.std.proofs.Common.{◌≡◌, drop, length, map, true}
 use Rattle.aos_symbols.specs.Breaches.{first_after}
 use Rattle.aos_symbols.specs.Judged.{walk}
 use Rattle.aos_operators.specs.Operations.{no_elements}
-use Rattle.aos_operators.specs.Seen.{seen_answer, seen_spot}
+use Rattle.aos_known.specs.Seen.{seen_answer, seen_spot}
 use Rattle.aos_arguments.specs.Seen.{seen_handing}
 use Rattle.aos_designators.specs.Seen.{seen_part}
 use Rattle.aos_check_expr.specs.Expressions as judge

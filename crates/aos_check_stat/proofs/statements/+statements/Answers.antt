@@ -6,8 +6,8 @@ use Rattle.aos_typed.specs.Program.{Arms, Arm, While, Repeat, Loop, For, Block}
 use Rattle.aos_typed.specs.Seen.{seen_stat, cases_of}
 use Rattle.aos_symbols.specs.Breaches.{first_after}
 use Rattle.aos_symbols.proofs.Keeping.{after_more}
-use Rattle.aos_operators.specs.Known.{width_of}
-use Rattle.aos_rules.specs.TypeNames.{known_type}
+use Rattle.aos_known.specs.Known.{width_of}
+use Rattle.aos_values.specs.TypeNames.{known_type}
 use Rattle.aos_check_expr.specs.Expressions.{condition}
 use Rattle.aos_check_stat.specs.Bodies as judge
 use Rattle.aos_check_stat.specs.Bodies.{listed}

@@ -1,6 +1,6 @@
 use Rattle.std.proofs.Common.{◌≡◌, drop}
 use Rattle.std.specs.List.{fold}
-use Rattle.aos_operators.specs.Seen.{seen_spot}
+use Rattle.aos_known.specs.Seen.{seen_spot}
 use Rattle.aos_designators.specs.Designators as judge
 use Rattle.aos_designators.proofs.designators.narrowed.Given as goal
 

@@ -1,0 +1,3 @@
+pub mod Inside
+pub mod Types
+pub mod First

@@ -1,0 +1,4 @@
+pub mod Known
+pub mod Seen
+pub mod Kinds
+pub mod Places

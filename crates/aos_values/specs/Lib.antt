@@ -1,0 +1,4 @@
+pub mod Signatures
+pub mod Assignable
+pub mod Arrays
+pub mod TypeNames
