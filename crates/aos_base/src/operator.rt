@@ -23,7 +23,7 @@ pub enum Unary {
     /// The elements that a set hasn't.
     Compl,
     /// The number itself; trap 14 where it isn't from the first of these to the second.
-    Range(i64, i64),
+    Range(i32, i32),
 }
 
 /// An operator on two numbers. A set is a number from 0 to 2^32 - 1, whose bits are its elements.
@@ -136,10 +136,10 @@ fn capital(n: u32) -> u32
 }
 
 /// The number, where it is in these bounds, else trap 14.
-fn ranged(low: i64, high: i64, a: i64) -> Given
+fn ranged(low: i32, high: i32, a: i64) -> Given
     ensures { result ≡ unary_of (Unary.Range low high) a }
 {
-    if low <= a && a <= high {
+    if i64::from(low) <= a && a <= i64::from(high) {
         Given::Number(a)
     } else {
         Given::Trap(14)

@@ -326,8 +326,7 @@ fn object_of(
     })
 }
 
-/// Puts what stands beside a module's types behind those before it.
-fn join_objects(
+fn put_objects(
     alloc: Global,
     env: &Env<'_>,
     all: &mut Vec<TObject>,
@@ -343,6 +342,21 @@ fn join_objects(
         all.push(object_of(alloc, env, number, beside)?)?;
     }
     Ok(())
+}
+
+/// Puts what stands beside a module's types behind those before it. There is room for all of it at first, so that those before it are
+/// moved once at most.
+fn join_objects(
+    alloc: Global,
+    env: &Env<'_>,
+    all: &mut Vec<TObject>,
+    objects: Vec<Beside>,
+) -> Result<(), AllocError>
+    ensures { OnOk result (map seen_object all.new.items ≡ map seen_object all.old.items
+        ++ judge.objects_from env.now (length (map seen_object all.old.items)) (map seen_beside objects.items)) }
+{
+    all.reserve(objects.len())?;
+    put_objects(alloc, env, all, objects)
 }
 
 /// Puts a module, whose environment and bodies these are, behind those before it, with what stands beside its types.

@@ -13,6 +13,9 @@ use aos_emit_expr::{next_place, number_of, put};
 use aos_typed::{LabelRange, LabelRow, TCase};
 use std::alloc::{AllocError, Global};
 
+// For how many instructions there is room for each label: at most 14 of the search, one behind an arm, and one more.
+const FOR_LABEL: usize = 16;
+
 // The labels of an arm that have a value.
 fn add_rows(rows: &mut Vec<LabelRow>, labels: &[LabelRange], arm: u32) -> Result<(), AllocError>
     ensures { OnOk result (rows.new.items ≡ rows.old.items ++ rows_to arm labels.now) }
@@ -86,7 +89,7 @@ fn put_label(
 }
 
 // The search in two halves. The jump over the lower one is told its target when that is known.
-#[cycle(put_search)]
+#[cycle(put_part)]
 fn put_halves(
     code: &mut Vec<Instr>,
     rows: &[LabelRow],
@@ -101,15 +104,15 @@ fn put_halves(
     let half = rows.len() / 2;
     let middle = code.len() + 3;
     put_bound(code, Relation::Less, &rows[half].labels.low, level, 0)?;
-    put_search(code, &rows[..half], deep, other, level)?;
+    put_part(code, &rows[..half], deep, other, level)?;
     let end = next_place(code)?;
     code[middle] = Instr::JumpFalse(end);
-    put_search(code, &rows[half..], deep, other, level)
+    put_part(code, &rows[half..], deep, other, level)
 }
 
-/// The search in so many rows, or fewer, whose jumps lead to the numbers of arms.
-#[cycle(put_search)]
-pub fn put_search(
+// The search in so many rows, or fewer, whose jumps lead to the numbers of arms.
+#[cycle(put_part)]
+fn put_part(
     code: &mut Vec<Instr>,
     rows: &[LabelRow],
     deep: usize,
@@ -126,6 +129,22 @@ pub fn put_search(
         put_label(code, &rows[0].labels, level, rows[0].arm)?;
     }
     put(code, Instr::Jump(other))
+}
+
+/// The search in so many rows, or fewer, whose jumps lead to the numbers of arms. There is room for all of it at first: it is most of
+/// the code of a long CASE, which would be there twice while it is moved to where it has room.
+pub fn put_search(
+    code: &mut Vec<Instr>,
+    rows: &[LabelRow],
+    deep: usize,
+    other: u32,
+    level: u32,
+) -> Result<(), AllocError>
+    ensures { OnOk result (code.new.items ≡ code.old.items ++
+        search_code (λ n. n) other (halved deep rows.now) level (length code.old.items)) }
+{
+    code.reserve(rows.len().saturating_mul(FOR_LABEL))?;
+    put_part(code, rows, deep, other, level)
 }
 
 // Where an arm begins; the last place is that of what is behind the arms.

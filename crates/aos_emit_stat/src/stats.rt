@@ -32,12 +32,13 @@ fn emit_head(
     at: Pos,
     width: Width,
     variable: &TPlace,
-    from: &TExpr,
-    to: &TExpr,
+    from: &Box<TExpr>,
+    to: &Box<TExpr>,
     level: u32,
 ) -> Result<(), AllocError>
     ensures { OnOk result (Adds
-        (λ p own q n. for_head p own at width q (seen_expr from.now) (seen_expr to.now) n level)
+        (λ p own q n.
+        for_head p own at width q (seen_expr from.now.value) (seen_expr to.now.value) n level)
         scope.now code.old.items code.new.items (seen_place variable.now)) }
 {
     emit_begin(code, at)?;
@@ -291,15 +292,15 @@ fn emit_for(
     at: Pos,
     width: Width,
     variable: &TPlace,
-    from: &TExpr,
-    to: &TExpr,
+    from: &Box<TExpr>,
+    to: &Box<TExpr>,
     step: &i64,
     body: &[TStat],
     level: u32,
 ) -> Result<(), AllocError>
     ensures { OnOk result (AddsStat scope.now code.old.items code.new.items level
-        (For at width (seen_place variable.now) (seen_expr from.now) (seen_expr to.now) step.now
-        (seen_stats body.now))) }
+        (For at width (seen_place variable.now) (seen_expr from.now.value) (seen_expr to.now.value)
+        step.now (seen_stats body.now))) }
 {
     emit_head(scope, code, at, width, variable, from, to, level)?;
     emit_rounds(scope, code, at, width, variable, step, body, level)

@@ -120,9 +120,16 @@ fn keeping(name: &str, number: u32, kind: Kind) -> Option<Instr> {
     }
 }
 
+// The test of a range. Bounds from 2^31 on are none.
+fn range(first: u32, second: u32) -> Option<Instr> {
+    let low = i32::try_from(first).ok()?;
+    let high = i32::try_from(second).ok()?;
+    Some(Instr::Unary(Unary::Range(low, high)))
+}
+
 fn of_two_numbers(name: &str, first: u32, second: u32) -> Option<Instr> {
     match name {
-        "range" => Some(Instr::Unary(Unary::Range(i64::from(first), i64::from(second)))),
+        "range" => range(first, second),
         "module" => Some(Instr::Module(first, second)),
         "offset" => Some(Instr::Offset(first, second)),
         "index" => Some(Instr::Index(first, second)),

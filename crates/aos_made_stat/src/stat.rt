@@ -190,8 +190,8 @@ impl MadeStat {
             (seen_expr first) (seen_expr last) step (seen_stats body)) }
     {
         let place = place.take();
-        let first = first.take();
-        let last = last.take();
+        let first = first.part(alloc)?;
+        let last = last.part(alloc)?;
         let body = body.take();
         MadeStat::new(alloc, TStat::For(at, width, place, first, last, step, body))
     }

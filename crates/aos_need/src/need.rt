@@ -353,9 +353,10 @@ fn new_need(place: &TPlace, arguments: &[TArgument]) -> Result<u32, AllocError>
 }
 
 // FOR without its statements: its last value, its first one, the test and the step.
-fn for_need(place: &TPlace, from: &TExpr, to: &TExpr) -> Result<u32, AllocError>
+fn for_need(place: &TPlace, from: &Box<TExpr>, to: &Box<TExpr>) -> Result<u32, AllocError>
     ensures { IfOk result (λ n. n ≡ around_need (need_of.place_need (seen_place place.now))
-        (need_of.value_need (seen_expr from.now)) (need_of.value_need (seen_expr to.now))) }
+        (need_of.value_need (seen_expr from.now.value))
+        (need_of.value_need (seen_expr to.now.value))) }
 {
     let first = value_need(to)?.max(assign_need(place, from)?);
     let step = above(1, place_need(place)?.max(2))?;
@@ -420,9 +421,15 @@ fn behind_need(first: Front<'_>, body: &[TStat]) -> Result<u32, AllocError>
 }
 
 #[cycle(stat_need)]
-fn rounds_need(place: &TPlace, from: &TExpr, to: &TExpr, body: &[TStat]) -> Result<u32, AllocError>
+fn rounds_need(
+    place: &TPlace,
+    from: &Box<TExpr>,
+    to: &Box<TExpr>,
+    body: &[TStat],
+) -> Result<u32, AllocError>
     ensures { IfOk result (λ n. n ≡ max (around_need (need_of.place_need (seen_place place.now))
-        (need_of.value_need (seen_expr from.now)) (need_of.value_need (seen_expr to.now)))
+        (need_of.value_need (seen_expr from.now.value))
+        (need_of.value_need (seen_expr to.now.value)))
         (need_of.stats_need (seen_stats body.now))) }
 {
     let around = for_need(place, from, to)?;

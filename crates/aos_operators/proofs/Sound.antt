@@ -302,7 +302,7 @@ module _ (p : Inside) where
 
   -- a number that is moved into an integer type
   into_type : (u : TypeId) (x : Expr) → is_integer u ≡ true → IsOf p x (type.Integer W64) → IsOf p (op.single_typed (op.into (Some u)) x) (type_as u)
-  into_type u x i h = (h, subst (λ t. HasRange t (least_of (width_of_type u)) (greatest_of (width_of_type u))) (sym (as_integer u i)) (range_of (width_of_type u)))
+  into_type u x i h = integer_cases (λ t. IsOf p (op.single_typed (op.into (Some t)) x) (type_as t)) (h, range_of W8) (h, range_of W16) (h, range_of W32) h u i
 
   pub converted_step : (u : TypeId) → is_integer u ≡ true → IsStep (op.converted u)
   converted_step u i t x b h k = (u, refl, integer_basic u i, into_type u x i (as_number t x h k))

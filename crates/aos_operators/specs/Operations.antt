@@ -292,9 +292,14 @@ abbrev pub is_not : TypeId → Option TypeId → Bool
 is_not t None = true
 is_not t (Some u) = not (is t u)
 
--- into an integer type, where the value is in it
+-- into the integers of a width, where the value is in it; each is in the widest
+abbrev pub into_width : Width → Single
+into_width W64 = single.Same
+into_width w = single.On (one.Range (least_of w) (greatest_of w))
+
+-- into an integer type
 abbrev pub into : Option TypeId → Single
-into of = single.On (one.Range (least_of (width_of of)) (greatest_of (width_of of)))
+into of = into_width (width_of of)
 
 -- those of one value; ASH has two, MAX and MIN have a type, and LEN an array
 abbrev pub applied : Function → Option TypeId → Step

@@ -689,12 +689,23 @@ fn is_not(wanted: TypeId, of: Option<TypeId>) -> bool
     }
 }
 
+/// Into the integers of a width, which the value must be in; each is in the widest.
+fn within_width(width: Width) -> Single
+    ensures { result ≡ judge.into_width width }
+{
+    match width {
+        Width::W8 => Single::On(Unary::Range(-0x80, 0x7f)),
+        Width::W16 => Single::On(Unary::Range(-0x8000, 0x7fff)),
+        Width::W32 => Single::On(Unary::Range(-0x8000_0000, 0x7fff_ffff)),
+        Width::W64 => Single::Same,
+    }
+}
+
 /// Into an integer type, which the value must be in.
 fn within_type(of: Option<TypeId>) -> Single
     ensures { result ≡ judge.into of }
 {
-    let width = width_of(of);
-    Single::On(Unary::Range(least_of(width), greatest_of(width)))
+    within_width(width_of(of))
 }
 
 /// SHORT.

@@ -1,6 +1,7 @@
 -- A row of statements is seen as their list is, and so are those of arms and of arguments.
 use Rattle.std.proofs.Common.{◌≡◌, refl, sym, ap, ◌∙◌, ℤ, Bool}
 use Rattle.std.specs.declared.vec.Vec.{Vec}
+use Rattle.std.specs.declared.boxed.Box.{Box}
 use Rattle.std.specs.declared.alloc.Global.{Global}
 use Rattle.aos_base.specs.declared.text.Pos.{Pos}
 use Rattle.aos_base.specs.declared.number.Width.{Width}
@@ -57,8 +58,8 @@ repeat_seen at body e = ap (λ l. Repeat at l (seen_expr e)) (body_seen body)
 pub loop_seen : (at : Pos) (body : Vec TStat Global) → seen_stat (view.Loop at body) ≡ Loop at (seen_stats body.items)
 loop_seen at body = ap (λ l. Loop at l) (body_seen body)
 
-pub for_seen : (at : Pos) (w : Width) (p : TPlace) (from to : TExpr) (step : ℤ) (body : Vec TStat Global) → seen_stat (view.For at w p from to step body) ≡ For at w (seen_place p) (seen_expr from) (seen_expr to) step (seen_stats body.items)
-for_seen at w p from to step body = ap (λ l. For at w (seen_place p) (seen_expr from) (seen_expr to) step l) (body_seen body)
+pub for_seen : (at : Pos) (w : Width) (p : TPlace) (from to : Box TExpr Global) (step : ℤ) (body : Vec TStat Global) → seen_stat (view.For at w p from to step body) ≡ For at w (seen_place p) (seen_expr from.value) (seen_expr to.value) step (seen_stats body.items)
+for_seen at w p from to step body = ap (λ l. For at w (seen_place p) (seen_expr from.value) (seen_expr to.value) step l) (body_seen body)
 
 pub block_seen : (at : Pos) (exclusive : Bool) (body : Vec TStat Global) → seen_stat (view.Block at exclusive body) ≡ Block at exclusive (seen_stats body.items)
 block_seen at exclusive body = ap (λ l. Block at exclusive l) (body_seen body)

@@ -107,7 +107,7 @@ abbrev mutual
   seen_stat (stat.Repeat' at shape body e) = Repeat at (seen_row body) (seen_expr e)
   seen_stat (stat.Loop' at shape body) = Loop at (seen_row body)
   seen_stat (stat.Exit at) = Exit at
-  seen_stat (stat.For' at w p from to step shape body) = For at w (seen_place p) (seen_expr from) (seen_expr to) step (seen_row body)
+  seen_stat (stat.For' at w p from to step shape body) = For at w (seen_place p) (seen_expr from.value) (seen_expr to.value) step (seen_row body)
   seen_stat (stat.Block' at exclusive shape body) = Block at exclusive (seen_row body)
   seen_stat (stat.Await at n e) = Await at n (seen_expr e)
   seen_stat (stat.Assert at e code) = Assert at (seen_expr e) code

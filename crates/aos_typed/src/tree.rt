@@ -345,7 +345,7 @@ pub enum TStat {
     /// Leaves the innermost LOOP.
     Exit(Pos),
     /// FOR with an integer variable of this width: the value that it begins with, the last one, the step, and its statements.
-    For(Pos, Width, TPlace, TExpr, TExpr, i64, Vec<TStat>),
+    For(Pos, Width, TPlace, Box<TExpr>, Box<TExpr>, i64, Vec<TStat>),
     /// A block. One that is exclusive is a region of its body's lock: that of the object whose method or body it stands in, or else
     /// that of the module.
     Block(Pos, bool, Vec<TStat>),

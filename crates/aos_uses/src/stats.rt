@@ -192,12 +192,13 @@ fn for_uses(
     uses: &mut Vec<Use>,
     exclusive: bool,
     place: &TPlace,
-    from: &TExpr,
-    to: &TExpr,
+    from: &Box<TExpr>,
+    to: &Box<TExpr>,
 ) -> Result<(), AllocError>
     ensures { OnOk result (uses.new.items ≡ uses.old.items ++
         (written (seen_program dispatch.now) exclusive (seen_place place.now) ++
-        (expr_uses (seen_program dispatch.now) (seen_expr from.now) ++ expr_uses (seen_program dispatch.now) (seen_expr to.now)))) }
+        (expr_uses (seen_program dispatch.now) (seen_expr from.now.value) ++
+        expr_uses (seen_program dispatch.now) (seen_expr to.now.value)))) }
 {
     place_written(dispatch, uses, exclusive, place)?;
     value_uses(dispatch, uses, from)?;

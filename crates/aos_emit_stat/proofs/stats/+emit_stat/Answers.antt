@@ -117,7 +117,7 @@ emit_stat-returns-in-Loop t c =
 pub emit_stat-returns-in-For : goal.emit_stat-returns-in-For
 emit_stat-returns-in-For t c =
     let x = c.in-For in
-    let same = ap (λ l. For x.at x.of (seen_place x.variable) (seen_expr x.from) (seen_expr x.to) x.step (seen_stats l)) c.deref-in-For.ensures.value in
+    let same = ap (λ l. For x.at x.of (seen_place x.variable) (seen_expr x.from.value) (seen_expr x.to.value) x.step (seen_stats l)) c.deref-in-For.ensures.value in
     on_ok_weaker c.emit_for.result
     (emitted c.args.scope.now c.args.code.now.items c.emit_for.new.code.items c.args.level c.args.statement.now _ _ same (ap seen_stat x.is ∙ for_seen x.at x.of x.variable x.from x.to x.step x.body)) c.emit_for.ensures
 
@@ -151,7 +151,7 @@ emit_for-returns t c =
     let w = c.args.width in
     let q = seen_place c.args.variable.now in
     let d = c.args.level in
-    let head = for_head p own here w q (seen_expr c.args.from.now) (seen_expr c.args.to.now) (length base) d in
+    let head = for_head p own here w q (seen_expr c.args.from.now.value) (seen_expr c.args.to.now.value) (length base) d in
     let rounds : ℕ → List Instr = λ n. rounds_code p own here w q c.args.step.now (seen_stats c.args.body.now) n (pending c.args.scope.now) d in
     on_ok_weaker c.emit_rounds.result (followed base c.emit_head.new.code.items c.emit_rounds.new.code.items head rounds c.in_ok-emit_head.ensures) c.emit_rounds.ensures
 

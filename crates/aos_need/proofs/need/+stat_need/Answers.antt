@@ -104,7 +104,7 @@ pub stat_need-returns-in-For : goal.stat_need-returns-in-For
 stat_need-returns-in-For t c =
     let x = c.in-For in
     let place = place_need (seen_place x.place) in
-    let first = max (value_need (seen_expr x.to)) (assign_need place (value_need (seen_expr x.from))) in
+    let first = max (value_need (seen_expr x.to.value)) (assign_need place (value_need (seen_expr x.from.value))) in
     let step = assign_need place (max place 2) in
     let all =
     max_joined first step (stats_need (seen_stats c.deref-in-For.result.now))

@@ -117,7 +117,7 @@ pub stat_uses-returns-in_ok-for_uses-in-For : goal.stat_uses-returns-in_ok-for_u
 stat_uses-returns-in_ok-for_uses-in-For t c =
     let x = c.in-For in
     let p = seen_program c.args.dispatch.now in
-    let first = written p c.args.exclusive (seen_place x.place) ++ (expr_uses p (seen_expr x.from) ++ expr_uses p (seen_expr x.to)) in
+    let first = written p c.args.exclusive (seen_place x.place) ++ (expr_uses p (seen_expr x.from.value) ++ expr_uses p (seen_expr x.to.value)) in
     let all = ap (λ l. first ++ stats_uses p c.args.exclusive (seen_stats l)) c.deref-in-For.ensures.value in
     on_ok_weaker c.stats_uses-in-For.result (said_behind p c.args.exclusive c.args.uses.now.items _ _ first _ _ _ c.in_ok-for_uses-in-For.ensures all (ap seen_stat x.is ∙ for_seen x.field-0 x.field-1 x.place x.from x.to x.field-5 x.body)) c.stats_uses-in-For.ensures
 

@@ -12,12 +12,12 @@ pub returns : goal.returns
 returns c =
     let w = c.args.width in
     let place = c.take-place.result in
-    let first = c.take-first.result in
-    let last = c.take-last.result in
+    let first = c.in_ok-first.first in
+    let last = c.in_ok-last.last in
     let step = to_z w64 (of_z w64 c.args.step) in
     let body = c.take-body.result in
     made_seen c.new.result (view.For c.args.at w place first last step body)
     (For c.args.at w (seen_place c.args.place) (seen_expr c.args.first) (seen_expr c.args.last) c.args.step (seen_stats c.args.body))
     (for_seen c.args.at w place first last step body
-    ∙ (λ i. For c.args.at w (seen_place (c.take-place.ensures i)) (seen_expr (c.take-first.ensures i)) (seen_expr (c.take-last.ensures i)) (to_z-of_z w64 c.args.step c.ranges.step i) (seen_stats (c.take-body.ensures i))))
+    ∙ (λ i. For c.args.at w (seen_place (c.take-place.ensures i)) (seen_expr (c.in_ok-first.ensures i)) (seen_expr (c.in_ok-last.ensures i)) (to_z-of_z w64 c.args.step c.ranges.step i) (seen_stats (c.take-body.ensures i))))
     c.new.ensures

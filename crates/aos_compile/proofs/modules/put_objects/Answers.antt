@@ -5,7 +5,7 @@ use Rattle.aos_typed.specs.Seen.{seen_object}
 use Rattle.aos_compile.specs.Modules as judge
 use Rattle.aos_compile.specs.Seen.{seen_beside}
 use Rattle.aos_compile.proofs.Numbered.{numbered_more}
-use Rattle.aos_compile.proofs.modules.join_objects.Goals as goal
+use Rattle.aos_compile.proofs.modules.put_objects.Goals as goal
 
 pub loop-beside-preserved : goal.loop-beside-preserved
 loop-beside-preserved c =

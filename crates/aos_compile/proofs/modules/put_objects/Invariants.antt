@@ -3,7 +3,7 @@ use Rattle.std.proofs.Common.{◌≡◌, ◌++◌, length, map}
 use Rattle.aos_typed.specs.Seen.{seen_object}
 use Rattle.aos_compile.specs.Modules as judge
 use Rattle.aos_compile.specs.Seen.{seen_beside}
-use Rattle.aos_compile.proofs.modules.join_objects.Given as goal
+use Rattle.aos_compile.proofs.modules.put_objects.Given as goal
 
 abbrev pub invariant-loop-beside : goal.invariant-loop-beside
 invariant-loop-beside l =
