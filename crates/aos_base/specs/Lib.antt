@@ -5,8 +5,10 @@ pub mod Lock
 pub mod Priority
 pub mod Book
 pub mod Machine
+pub mod Frames
 pub mod Schedule
 pub mod Observation
 pub mod Question
 pub mod Rooted
+pub mod Shared
 pub mod Text

@@ -1,11 +1,11 @@
 -- An image as a machine: its memory, its frames, and the turns of an activity.
-use Rattle.std.specs.Prelude.{ℕ, zero, suc, ℤ, pos, negsuc, ◌+◌, List, [], ◌∷◌, ◌++◌, length, take, drop, Bool, true, false, not, ◌&&◌, Option, Some, None, map, sum_by, nat_lt, nat_eq, if◌then◌else◌, is_some, option_and_then, option_map, slice_get}
+use Rattle.std.specs.Prelude.{ℕ, zero, suc, ℤ, pos, negsuc, ◌+◌, List, [], ◌∷◌, ◌++◌, length, take, drop, Bool, true, false, not, ◌&&◌, Option, Some, None, map, nat_lt, nat_eq, if◌then◌else◌, is_some, option_and_then, option_map, slice_get}
 use Rattle.std.specs.List.{flat_map, list_all}
 use Rattle.std.specs.Option.{unwrap_or}
 use Rattle.aos_base.specs.declared.text.Pos.{Pos}
 use Rattle.aos_base.specs.declared.number.Relation.{Relation}
 use Rattle.aos_base.specs.declared.place.Root.{Root}
-use Rattle.aos_base.specs.declared.place.Root.TheVariants.{Frame as FrameRoot, Module as ModuleRoot, Object as ObjectRoot}
+use Rattle.aos_base.specs.declared.place.Root.TheVariants.{Frame as FrameRoot}
 use Rattle.aos_base.specs.declared.kernel.Did.{Did}
 use Rattle.aos_base.specs.declared.kernel.Did.TheVariants.{Went, Ended as NoFrame, Enter, Leave, Await, Start, Trapped}
 use Rattle.aos_base.specs.declared.kernel.LockName.{LockName}
@@ -20,7 +20,10 @@ use Rattle.aos_base.specs.Priority.{number_of, with_number}
 use Rattle.aos_base.specs.Text.{order, ended_within, cut_within}
 use Rattle.aos_base.specs.Book.{Where}
 use Rattle.aos_base.specs.Machine.{Turn, Machine, State, start_of}
-use Rattle.aos_base.specs.Rooted.{Made, Rooted, by_number, change_from_last, change_at, change_by_number, load, load_all, spliced}
+use Rattle.aos_base.specs.Frames.{Frames as FramesOf, change_frame, change_top, is_deep_by, begins_one, position_by, lowest_home_by, position_in_by}
+pub use Rattle.aos_base.specs.Frames.{all_frames, goes_on, puts, leaves, or_below}
+use Rattle.aos_base.specs.Rooted.{Made, Rooted, by_number, load, load_all, spliced}
+use Rattle.aos_base.specs.Shared.{rooted as rooted_in, store_with}
 use Rattle.aos_base.specs.Question.{Reads, Stores, Copies, PutsText, ComparesTexts, Calls, Ends, Makes, Starts, Enters, Leaves, Awaits, PutsInt, PutsChar, PutsString, PutsNothing, PutsLn, Places, Lengths, Opens, Sizes, Tests}
 use Rattle.aos_code.specs.declared.instr.Cell.{Cell}
 use Rattle.aos_code.specs.declared.instr.Cell.TheVariants.{Num, Ref, Call as CallCell, Place}
@@ -51,10 +54,8 @@ pub record Frame : Type 0 where
   pub keeps : Keeps
   pub stack : Stack
 
--- an activity's frames, the topmost first, and the bodies that are to follow once it has none
-pub record Frames : Type 0 where
-  pub following : List ℕ
-  pub frames : List Frame
+abbrev pub Frames : Type 0
+Frames = FramesOf Frame
 
 -- the lock of a frame's regions: that of the object on which its procedure is called, or else of the module in which that stands
 abbrev pub own_lock : (method : Bool) → (home object : ℕ) → LockName
@@ -81,17 +82,13 @@ first_cell A = Num (pos 0)
 -- The memory below the roots of an activity.
 
 abbrev pub rooted : List Frame → Memory → Rooted (List Cell)
-rooted fs mem = record { frames = map (λ f. f.cells) fs; modules = mem.modules; objects = mem.objects }
+rooted fs mem = rooted_in (map (λ f. f.cells) fs) mem
 
 abbrev pub frames_with : Root → (List Cell → List Cell) → List Frame → List Frame
-frames_with (FrameRoot d) g fs = change_from_last d (λ f. record f { cells = g f.cells }) fs
-frames_with (ModuleRoot m) g fs = fs
-frames_with (ObjectRoot o) g fs = fs
+frames_with r g fs = change_frame r (λ f. record f { cells = g f.cells }) fs
 
 abbrev pub memory_with : Root → (List Cell → List Cell) → Memory → Memory
-memory_with (FrameRoot d) g mem = mem
-memory_with (ModuleRoot m) g mem = record mem { modules = change_at m g mem.modules }
-memory_with (ObjectRoot o) g mem = record mem { objects = change_by_number o g mem.objects }
+memory_with r g mem = store_with r g mem
 
 -- so many cells, where there are so many
 abbrev pub if_all : ℕ → List Cell → Option (List Cell)
@@ -134,20 +131,22 @@ finds types Leaves f mem = f.is_open
 finds types (Awaits c) f mem = f.is_open
 finds types q f mem = true
 
+-- what asks a question: the instruction at a place of the topmost frame, with what is kept and the operands below its own, over the
+-- frames below and the memory
+pub record Asker : Type 0 where
+  pub at : ℕ
+  pub keeps : Keeps
+  pub stack : Stack
+  pub frame : Frame
+  pub below : List Frame
+  pub memory : Memory
+
+module _ (at : ℕ) (keeps : Keeps) (stack : Stack) where
+  abbrev pub asker : Frame → List Frame → Memory → Asker
+  asker f fs mem = record { at = at; keeps = keeps; stack = stack; frame = f; below = fs; memory = mem }
+
 -- an activity's frames, of which the topmost runs
 module _ (following : List ℕ) where
-  abbrev pub all_frames : List Frame → Frames
-  all_frames fs = record { following = following; frames = fs }
-
-  abbrev pub goes_on : List Frame → Memory → Turned
-  goes_on fs mem = record { store = mem; frames = all_frames fs; output = []; begun = false; left = Went }
-
-  abbrev pub puts : List ℕ → List Frame → Memory → Turned
-  puts bytes fs mem = record { store = mem; frames = all_frames fs; output = bytes; begun = false; left = Went }
-
-  abbrev pub leaves : Did → List Frame → Memory → Turned
-  leaves work fs mem = record { store = mem; frames = all_frames fs; output = []; begun = false; left = work }
-
   -- the frame goes on behind the instruction at this place, with these operands
   abbrev pub behind : ℕ → Keeps → Stack → Frame → Frame
   behind at k s f = record f { next = at + 1; stack = s; keeps = k }
@@ -156,43 +155,57 @@ module _ (following : List ℕ) where
   abbrev pub before : ℕ → Keeps → Stack → Frame → Frame
   before at k s f = record f { next = at; stack = s; keeps = k }
 
-  -- the instruction at this place stores cells, where there are such cells
-  abbrev pub writes : Bool → Addr → List Cell → ℕ → Keeps → Stack → Frame → List Frame → Memory → Turned
-  writes true a vs at k s f fs mem =
-      goes_on (frames_with a.root (spliced a.cell vs) (behind at k s f ∷ fs)) (memory_with a.root (spliced a.cell vs) mem)
-  writes false a vs at k s f fs mem = leaves (Trapped 16 0) (f ∷ fs) mem
+  -- what asks goes on behind its instruction, or stands at it, with these operands
+  abbrev pub going_on : Stack → Asker → List Frame
+  going_on s h = behind h.at h.keeps s h.frame ∷ h.below
 
-  abbrev pub reads : Kind → Option Cell → ℕ → Keeps → Stack → Frame → List Frame → Memory → Turned
-  reads kind None at k s f fs mem = leaves (Trapped 16 0) (f ∷ fs) mem
-  reads kind (Some v) at k s f fs mem =
-      if is_of kind v then goes_on (behind at k (v ∷ s) f ∷ fs) mem else leaves (Trapped 16 0) (f ∷ fs) mem
+  abbrev pub standing : Stack → Asker → List Frame
+  standing s h = before h.at h.keeps s h.frame ∷ h.below
 
-  abbrev pub copies : Option (List Cell) → Bool → Addr → ℕ → Keeps → Stack → Frame → List Frame → Memory → Turned
-  copies None there to at k s f fs mem = leaves (Trapped 16 0) (f ∷ fs) mem
-  copies (Some vs) there to at k s f fs mem = writes there to vs at k s f fs mem
+  -- or traps
+  abbrev pub fails : ℕ → Asker → Turned
+  fails n h = leaves following (Trapped n 0) (h.frame ∷ h.below) h.memory
+
+  -- what stands below its roots
+  abbrev pub roots : Asker → Rooted (List Cell)
+  roots h = rooted (h.frame ∷ h.below) h.memory
+
+  -- it stores cells, where there are such cells
+  abbrev pub writes : Bool → Addr → List Cell → Asker → Turned
+  writes true a vs h =
+      goes_on following (frames_with a.root (spliced a.cell vs) (going_on h.stack h)) (memory_with a.root (spliced a.cell vs) h.memory)
+  writes false a vs h = fails 16 h
+
+  abbrev pub reads : Kind → Option Cell → Asker → Turned
+  reads kind None h = fails 16 h
+  reads kind (Some v) h =
+      if is_of kind v then goes_on following (going_on (v ∷ h.stack) h) h.memory else fails 16 h
+
+  abbrev pub copies : Option (List Cell) → Bool → Addr → Asker → Turned
+  copies None there to h = fails 16 h
+  copies (Some vs) there to h = writes there to vs h
 
   -- the end of a frame, which hands its result to the one below
   abbrev pub with_result : Option Cell → List Frame → List Frame
   with_result None fs = fs
-  with_result (Some v) [] = []
-  with_result (Some v) (f ∷ fs) = record f { stack = v ∷ f.stack } ∷ fs
+  with_result (Some v) fs = change_top (λ f. record f { stack = v ∷ f.stack }) fs
 
   abbrev pub ends : Option Cell → List Frame → Memory → Turned
-  ends result fs mem = goes_on (with_result result fs) mem
+  ends result fs mem = goes_on following (with_result result fs) mem
 
-  abbrev pub prints : Option (List ℕ) → ℕ → Keeps → Stack → Frame → List Frame → Memory → Turned
-  prints None at k s f fs mem = leaves (Trapped 14 0) (f ∷ fs) mem
-  prints (Some bytes) at k s f fs mem = puts bytes (behind at k s f ∷ fs) mem
+  abbrev pub prints : Option (List ℕ) → Asker → Turned
+  prints None h = fails 14 h
+  prints (Some bytes) h = puts following bytes (going_on h.stack h) h.memory
 
   -- bytes that must be there
-  abbrev pub writes_out : Option (List ℕ) → ℕ → Keeps → Stack → Frame → List Frame → Memory → Turned
-  writes_out None at k s f fs mem = leaves (Trapped 16 0) (f ∷ fs) mem
-  writes_out (Some bytes) at k s f fs mem = puts bytes (behind at k s f ∷ fs) mem
+  abbrev pub writes_out : Option (List ℕ) → Asker → Turned
+  writes_out None h = fails 16 h
+  writes_out (Some bytes) h = puts following bytes (going_on h.stack h) h.memory
 
   -- an object is made, where the heap has room for it
-  abbrev pub makes : Bool → Made → List Cell → ℕ → Keeps → Stack → Frame → List Frame → Memory → Turned
-  makes true m cells at k s f fs mem = goes_on (behind at k (Ref (new_number mem) ∷ s) f ∷ fs) (with_object m cells mem)
-  makes false m cells at k s f fs mem = leaves (Trapped 12 0) (f ∷ fs) mem
+  abbrev pub makes : Bool → Made → List Cell → Asker → Turned
+  makes true m cells h = goes_on following (going_on (Ref (new_number h.memory) ∷ h.stack) h) (with_object m cells h.memory)
+  makes false m cells h = fails 12 h
 
   -- numbers that are to be lengths
   abbrev pub number_in : Cell → Option ℤ
@@ -215,21 +228,21 @@ module _ (following : List ℕ) where
   in_rows (n ∷ ns) vs = times n (in_rows ns vs)
 
   -- an object of a type, of these lengths, none of which may be below 1
-  abbrev pub makes_with : Option (List ℕ) → ℕ → TypeDesc → ℕ → Keeps → Stack → Frame → List Frame → Memory → Turned
-  makes_with None t d at k s f fs mem = leaves (Trapped 15 0) (f ∷ fs) mem
-  makes_with (Some ns) t d at k s f fs mem =
+  abbrev pub makes_with : Option (List ℕ) → ℕ → TypeDesc → Asker → Turned
+  makes_with None t d h = fails 15 h
+  makes_with (Some ns) t d h =
       let m : Made = record { type = t; lengths = ns } in
-      let cells = in_rows ns (map first_cell d.kinds.items) in makes (has_room m cells mem) m cells at k s f fs mem
+      let cells = in_rows ns (map first_cell d.kinds.items) in makes (has_room m cells h.memory) m cells h
 
-  abbrev pub makes_of : Option TypeDesc → Option (List ℤ) → ℕ → ℕ → Keeps → Stack → Frame → List Frame → Memory → Turned
-  makes_of None zs t at k s f fs mem = leaves (Trapped 16 0) (f ∷ fs) mem
-  makes_of (Some d) None t at k s f fs mem = leaves (Trapped 16 0) (f ∷ fs) mem
-  makes_of (Some d) (Some zs) t at k s f fs mem = makes_with (array_lengths zs) t d at k s f fs mem
+  abbrev pub makes_of : Option TypeDesc → Option (List ℤ) → ℕ → Asker → Turned
+  makes_of None zs t h = fails 16 h
+  makes_of (Some d) None t h = fails 16 h
+  makes_of (Some d) (Some zs) t h = makes_with (array_lengths zs) t d h
 
   -- an object's activity is left to the kernel
-  abbrev pub starts : Cell → ℕ → Keeps → Stack → Frame → List Frame → Memory → Turned
-  starts (Ref (suc o)) at k s f fs mem = leaves (Start (suc o)) (before at k (Ref (suc o) ∷ s) f ∷ fs) mem
-  starts v at k s f fs mem = leaves (Trapped 16 0) (f ∷ fs) mem
+  abbrev pub starts : Cell → Asker → Turned
+  starts (Ref (suc o)) h = leaves following (Start (suc o)) (standing (Ref (suc o) ∷ h.stack) h) h.memory
+  starts v h = fails 16 h
 
   -- Texts: the characters before the first 0X, or all where there is none.
 
@@ -263,24 +276,29 @@ module _ (following : List ℕ) where
   abbrev pub character_cells : List ℕ → List Cell
   character_cells cs = map (λ c. Num (pos c)) cs
 
-  abbrev pub stores_text : Option (List ℕ) → Addr → Rooted (List Cell) → ℕ → Keeps → Stack → Frame → List Frame → Memory → Turned
-  stores_text None to x at k s f fs mem = leaves (Trapped 15 0) (f ∷ fs) mem
-  stores_text (Some cs) to x at k s f fs mem =
-      writes (is_some (cells_at (length cs) to x)) to (character_cells cs) at k s f fs mem
+  abbrev pub stores_text : Option (List ℕ) → Addr → Rooted (List Cell) → Asker → Turned
+  stores_text None to x h = fails 15 h
+  stores_text (Some cs) to x h =
+      writes (is_some (cells_at (length cs) to x)) to (character_cells cs) h
 
   abbrev pub fitted : Bool → ℕ → List ℕ → Option (List ℕ)
   fitted true room cs = ended_within room cs
   fitted false room cs = Some (cut_within room cs)
 
-  abbrev pub puts_text : Bool → Option (List ℕ) → Option ℕ → Addr → Rooted (List Cell) → ℕ → Keeps → Stack → Frame → List Frame → Memory → Turned
-  puts_text strict None room to x at k s f fs mem = leaves (Trapped 16 0) (f ∷ fs) mem
-  puts_text strict (Some cs) None to x at k s f fs mem = leaves (Trapped 16 0) (f ∷ fs) mem
-  puts_text strict (Some cs) (Some room) to x at k s f fs mem = stores_text (fitted strict room cs) to x at k s f fs mem
+  -- a text that is to be stored, as far as it fits, where both the text and the room for it are known
+  abbrev pub fitted_in : Bool → Option (List ℕ) → Option ℕ → Option (Option (List ℕ))
+  fitted_in strict None room = None
+  fitted_in strict (Some cs) None = None
+  fitted_in strict (Some cs) (Some room) = Some (fitted strict room cs)
 
-  abbrev pub compares : Relation → Option (List ℕ) → Option (List ℕ) → ℕ → Keeps → Stack → Frame → List Frame → Memory → Turned
-  compares r (Some a) (Some b) at k s f fs mem = goes_on (behind at k (Num (flag (holds r (order a b) (pos 0))) ∷ s) f ∷ fs) mem
-  compares r (Some a) None at k s f fs mem = leaves (Trapped 16 0) (f ∷ fs) mem
-  compares r None b at k s f fs mem = leaves (Trapped 16 0) (f ∷ fs) mem
+  abbrev pub puts_text : Option (Option (List ℕ)) → Addr → Rooted (List Cell) → Asker → Turned
+  puts_text None to x h = fails 16 h
+  puts_text (Some text) to x h = stores_text text to x h
+
+  abbrev pub compares : Relation → Option (List ℕ) → Option (List ℕ) → Asker → Turned
+  compares r (Some a) (Some b) h = goes_on following (going_on (Num (flag (holds r (order a b) (pos 0))) ∷ h.stack) h) h.memory
+  compares r (Some a) None h = fails 16 h
+  compares r None b h = fails 16 h
 
   -- Calls.
 
@@ -340,74 +358,70 @@ module _ (following : List ℕ) where
         stack = [];
       }
 
-  -- an activity has 512 frames and 65,536 scalars in them at most
   abbrev pub is_deep : Frame → List Frame → Bool
-  is_deep g fs = if nat_lt (length fs) 512 then nat_lt 65536 (g.counted + sum_by (λ f. f.counted) fs) else true
+  is_deep g fs = is_deep_by (λ f. f.counted) g fs
 
-  abbrev pub enters : Bool → Frame → ℕ → Keeps → Stack → Frame → List Frame → Memory → Turned
-  enters true g at k s f fs mem = leaves (Trapped 11 0) (f ∷ fs) mem
-  enters false g at k s f fs mem = goes_on (g ∷ behind at k s f ∷ fs) mem
+  abbrev pub enters : Bool → Frame → Asker → Turned
+  enters true g h = fails 11 h
+  enters false g h = goes_on following (g ∷ going_on h.stack h) h.memory
 
-  abbrev pub calls_with : (procedure object : ℕ) → ProcShape → Option Handed → ℕ → Keeps → Stack → Frame → List Frame → Memory → Turned
-  calls_with p o shape None at k s f fs mem = leaves (Trapped 16 0) (f ∷ fs) mem
-  calls_with p o shape (Some h) at k s f fs mem =
-      let g = called_frame p o shape h in enters (is_deep g (f ∷ fs)) g at k s f fs mem
+  abbrev pub calls_with : Option Frame → Asker → Turned
+  calls_with None h = fails 16 h
+  calls_with (Some g) h = enters (is_deep g (h.frame ∷ h.below)) g h
 
-  abbrev pub calls : Option ProcShape → ℕ → List Cell → ℕ → Keeps → Stack → Frame → List Frame → Memory → Turned
-  calls None p vs at k s f fs mem = leaves (Trapped 16 0) (f ∷ fs) mem
-  calls (Some shape) p vs at k s f fs mem =
-      let h = handed (suc (length fs)) (rooted (f ∷ fs) mem) shape.params.items (arguments_of shape.method vs) (length shape.kinds.items) in
-      calls_with p (object_of shape.method vs) shape h at k s f fs mem
+  abbrev pub calls : Option ProcShape → ℕ → List Cell → Asker → Turned
+  calls None p vs h = fails 16 h
+  calls (Some shape) p vs h =
+      let given = handed (suc (length h.below)) (roots h) shape.params.items (arguments_of shape.method vs) (length shape.kinds.items) in
+      calls_with (option_map (called_frame p (object_of shape.method vs) shape) given) h
 
-  -- the question of the instruction at this place is answered; s has the operands below its own
+  -- the question is answered
   module _ (shapes : List ProcShape) (types : List TypeDesc) where
-    abbrev pub answer : Question → ℕ → Keeps → Stack → Frame → List Frame → Memory → Turned
-    answer (Reads kind a) at k s f fs mem = reads kind (load a.root a.cell (rooted (f ∷ fs) mem)) at k s f fs mem
-    answer (Stores a v) at k s f fs mem =
-        writes (is_some (load a.root a.cell (rooted (f ∷ fs) mem))) a (v ∷ []) at k s f fs mem
-    answer (Copies n from to) at k s f fs mem =
-        let x = rooted (f ∷ fs) mem in copies (cells_at n from x) (is_some (cells_at n to x)) to at k s f fs mem
-    answer (PutsText strict from n to room) at k s f fs mem =
-        let x = rooted (f ∷ fs) mem in puts_text strict (text_at from n x) (length_in room) to x at k s f fs mem
-    answer (ComparesTexts r a n b m) at k s f fs mem =
-        let x = rooted (f ∷ fs) mem in compares r (text_at a n x) (text_at b m x) at k s f fs mem
-    answer (Calls how p vs) at k s f fs mem = calls (numbered shapes p) p vs at k s f fs mem
-    answer (Ends result) at k s f fs mem = ends result fs mem
-    answer (Makes t vs) at k s f fs mem = makes_of (numbered types t) (numbers_in vs) t at k s f fs mem
-    answer (Starts v) at k s f fs mem = starts v at k s f fs mem
-    answer Enters at k s f fs mem = leaves (Enter (lock_in (numbered shapes f.procedure) f)) (before at k s f ∷ fs) mem
-    answer Leaves at k s f fs mem = leaves (Leave (lock_in (numbered shapes f.procedure) f)) (before at k s f ∷ fs) mem
-    answer (Awaits c) at k s f fs mem = leaves (Await (lock_in (numbered shapes f.procedure) f) c) (before at k s f ∷ fs) mem
-    answer (PutsInt v n) at k s f fs mem = prints (written v n) at k s f fs mem
-    answer (PutsChar v) at k s f fs mem = writes_out (option_map (λ c. c ∷ []) (code_in v)) at k s f fs mem
-    answer (PutsString a n) at k s f fs mem = writes_out (text_at a n (rooted (f ∷ fs) mem)) at k s f fs mem
-    answer PutsNothing at k s f fs mem = puts [] (behind at k s f ∷ fs) mem
-    answer PutsLn at k s f fs mem = puts (10 ∷ []) (behind at k s f ∷ fs) mem
+    -- the lock of its frame's regions
+    abbrev pub lock_at : Asker → LockName
+    lock_at h = lock_in (numbered shapes h.frame.procedure) h.frame
+
+    abbrev pub answer : Question → Asker → Turned
+    answer (Reads kind a) h = reads kind (load a.root a.cell (roots h)) h
+    answer (Stores a v) h =
+        writes (is_some (load a.root a.cell (roots h))) a (v ∷ []) h
+    answer (Copies n from to) h =
+        let x = roots h in copies (cells_at n from x) (is_some (cells_at n to x)) to h
+    answer (PutsText strict from n to room) h =
+        let x = roots h in puts_text (fitted_in strict (text_at from n x) (length_in room)) to x h
+    answer (ComparesTexts r a n b m) h =
+        let x = roots h in compares r (text_at a n x) (text_at b m x) h
+    answer (Calls how p vs) h = calls (numbered shapes p) p vs h
+    answer (Ends result) h = ends result h.below h.memory
+    answer (Makes t vs) h = makes_of (numbered types t) (numbers_in vs) t h
+    answer (Starts v) h = starts v h
+    answer Enters h = leaves following (Enter (lock_at h)) (standing h.stack h) h.memory
+    answer Leaves h = leaves following (Leave (lock_at h)) (standing h.stack h) h.memory
+    answer (Awaits c) h = leaves following (Await (lock_at h) c) (standing h.stack h) h.memory
+    answer (PutsInt v n) h = prints (written v n) h
+    answer (PutsChar v) h = writes_out (option_map (λ c. c ∷ []) (code_in v)) h
+    answer (PutsString a n) h = writes_out (text_at a n (roots h)) h
+    answer PutsNothing h = puts following [] (going_on h.stack h) h.memory
+    answer PutsLn h = puts following (10 ∷ []) (going_on h.stack h) h.memory
     -- answered at once, before a turn comes here
-    answer (Places a) at k s f fs mem = leaves (Trapped 16 0) (f ∷ fs) mem
-    answer (Lengths a) at k s f fs mem = leaves (Trapped 16 0) (f ∷ fs) mem
-    answer (Opens v) at k s f fs mem = leaves (Trapped 16 0) (f ∷ fs) mem
-    answer (Sizes v d) at k s f fs mem = leaves (Trapped 16 0) (f ∷ fs) mem
-    answer (Tests v t) at k s f fs mem = leaves (Trapped 16 0) (f ∷ fs) mem
+    answer (Places a) h = fails 16 h
+    answer (Lengths a) h = fails 16 h
+    answer (Opens v) h = fails 16 h
+    answer (Sizes v d) h = fails 16 h
+    answer (Tests v t) h = fails 16 h
 
     -- the question is answered where the work finds what it needs
-    abbrev pub works : (found : Bool) → Question → ℕ → Keeps → Stack → Frame → List Frame → Memory → Turned
-    works true q at k s f fs mem = answer q at k s f fs mem
-    works false q at k s f fs mem = leaves (Trapped 16 0) (f ∷ fs) mem
+    abbrev pub works : (found : Bool) → Question → Asker → Turned
+    works true q h = answer q h
+    works false q h = fails 16 h
 
     abbrev pub goes : Stop → Frame → List Frame → Memory → Turned
-    goes (Work q at k s) f fs mem = works (finds types q f mem) q at k s f fs mem
+    goes (Work q at k s) f fs mem = works (finds types q f mem) q (asker at k s f fs mem)
     goes (Ended (Begins at p s) k) f fs mem =
-        record {
-          store = mem;
-          frames = all_frames (record f { next = at + 1; at = Some p; stack = s; keeps = k } ∷ fs);
-          output = [];
-          begun = true;
-          left = Went;
-        }
-    goes (Ended (Fails n c) k) f fs mem = leaves (Trapped n c) (f ∷ fs) mem
+        begins_one following (record f { next = at + 1; at = Some p; stack = s; keeps = k } ∷ fs) mem
+    goes (Ended (Fails n c) k) f fs mem = leaves following (Trapped n c) (f ∷ fs) mem
     -- no condition ends here
-    goes (Ended (Decides a) k) f fs mem = leaves (Trapped 16 0) (f ∷ fs) mem
+    goes (Ended (Decides a) k) f fs mem = leaves following (Trapped 16 0) (f ∷ fs) mem
 
 -- a frame at the beginning of a body, which has no variables
 abbrev pub body_frame : (object procedure : ℕ) → Frame
@@ -451,10 +465,6 @@ level n = unwrap_or (with_number n) Normal
 abbrev pub object_priority : Option TypeDesc → Priority
 object_priority None = Normal
 object_priority (Some t) = level t.priority
-
-abbrev pub or_below : Option Pos → ℕ → Where → Where
-or_below None home below = below
-or_below (Some p) home below = record { module_ = home; pos = p }
 
 -- whether a frame's region is open behind the work that was left to the kernel
 abbrev pub opens : Question → Bool → Bool
@@ -583,19 +593,18 @@ module _ (image : Image) where
   abbrev pub priority_of : Memory → ℕ → Priority
   priority_of mem o = object_priority (option_and_then (numbered image.types.items) (type_of_object o mem))
 
+  -- the module in which a frame's procedure stands
+  abbrev pub frame_home : Frame → ℕ
+  frame_home f = home_of f.procedure
+
   abbrev pub position_or : Where → List Frame → Where
-  position_or none [] = none
-  position_or none (f ∷ fs) = or_below f.at (home_of f.procedure) (position_or none fs)
+  position_or none fs = position_by (λ f. f.at) frame_home none fs
 
-  -- the module of the lowest frame, or this one where there is none
   abbrev pub lowest_home : ℕ → List Frame → ℕ
-  lowest_home home [] = home
-  lowest_home home (f ∷ fs) = lowest_home (home_of f.procedure) fs
+  lowest_home home fs = lowest_home_by frame_home home fs
 
-  -- where the topmost frame that has begun a statement stands; where none has, line 0 and column 0 of the module of the body with which
-  -- the activity began
   abbrev pub position_in : List Frame → Where
-  position_in fs = position_or (record { module_ = lowest_home 0 fs; pos = record { line = 0; col = 0 } }) fs
+  position_in fs = position_in_by (λ f. f.at) frame_home fs
 
   abbrev pub position : Frames → Where
   position fs = position_in (opened fs).frames
@@ -606,11 +615,12 @@ module _ (image : Image) where
 
   -- a condition of this code over the topmost of these frames, from a place on, through silent work so many times at most: no jump leads
   -- back, so it comes to an end before
-  abbrev pub verdict_from : Memory → Frame → List Frame → List Instr → ℕ → ℕ → Keeps → Stack → Verdict
-  verdict_from mem f fs code zero at k s = HoldsNot
-  verdict_from mem f fs code (suc n) at k s =
-      judged (rooted (f ∷ fs) mem) (verdict_from mem f fs code n)
-      (silent image.shapes.items image.types.items (made_in mem) f.procedure (here_of f fs) f.cells code at k s)
+  module _ (mem : Memory) (f : Frame) (fs : List Frame) (code : List Instr) where
+    abbrev pub verdict_from : ℕ → ℕ → Keeps → Stack → Verdict
+    verdict_from zero at k s = HoldsNot
+    verdict_from (suc n) at k s =
+        judged (rooted (f ∷ fs) mem) (verdict_from n)
+        (silent image.shapes.items image.types.items (made_in mem) f.procedure (here_of f fs) f.cells code at k s)
 
   abbrev pub verdict_over : Memory → List Frame → List Instr → Verdict
   verdict_over mem [] code = HoldsNot

@@ -8,6 +8,7 @@ use Rattle.aos_base.specs.declared.operator.Given.TheVariants.{Number, Trap, Und
 use Rattle.aos_base.specs.Question.{Ask, ByName, Reads, Stores, Copies, PutsText, ComparesTexts, Calls, Ends, Makes, Starts, Enters, Leaves, Awaits, PutsInt, PutsChar, PutsString, PutsNothing, PutsLn, Places, Lengths}
 use Rattle.aos_base.specs.Rooted.{Made}
 use Rattle.aos_base.specs.Operators.{unary, binary, natural, flag}
+pub use Rattle.aos_base.specs.Frames.{Here}
 use Rattle.aos_code.specs.declared.instr.Cell.{Cell}
 use Rattle.aos_code.specs.declared.instr.Cell.TheVariants.{Num, Ref, Call as CallCell, Place}
 use Rattle.aos_code.specs.declared.instr.Kind.{Kind}
@@ -55,12 +56,6 @@ pub data Look : Type 0 where
   AsType : (type : ℕ) → Look
   AsMethod : (slot : ℕ) → Look
   AtSlot : (slot procedure : ℕ) → (arguments : List Cell) → Look
-
--- where an instruction stands: how many frames of the activity are below its frame, and the object on which that frame's procedure is
--- called, 0 for none
-pub record Here : Type 0 where
-  pub below : ℕ
-  pub self : ℕ
 
 -- What one instruction does: silent work after which so many instructions are passed over, a value that is kept or one that was
 -- kept of this kind, what an object tells by what it was made as, a question, or an end.
@@ -347,14 +342,15 @@ abbrev pub lands : Option Instr → ℕ → Stack → Act
 lands (Some (instr.Begin line col)) to s = Stops (Begins to (record { line = line; col = col }) s)
 lands _ to s = Stops lost
 
-abbrev pub jumps : List Instr → (to at : ℕ) → Stack → Act
-jumps code to at s = if nat_lt at to then Goes (to - (at + 1)) s else lands (slice_get code to) to s
+module _ (code : List Instr) (to at : ℕ) where
+  abbrev pub jumps : Stack → Act
+  jumps s = if nat_lt at to then Goes (to - (at + 1)) s else lands (slice_get code to) to s
 
-abbrev pub jumps_on_false : List Instr → (to at : ℕ) → ℤ → Stack → Act
-jumps_on_false code to at (pos zero) s = jumps code to at s
-jumps_on_false code to at (pos (suc zero)) s = Goes 0 s
-jumps_on_false code to at (pos (suc (suc n))) s = Stops lost
-jumps_on_false code to at (negsuc n) s = Stops lost
+  abbrev pub jumps_on_false : ℤ → Stack → Act
+  jumps_on_false (pos zero) s = jumps s
+  jumps_on_false (pos (suc zero)) s = Goes 0 s
+  jumps_on_false (pos (suc (suc n))) s = Stops lost
+  jumps_on_false (negsuc n) s = Stops lost
 
 abbrev pub keeps_in : Option ProcShape → ℕ
 keeps_in None = 0
@@ -463,10 +459,10 @@ abbrev pub stands_for : Option ProcShape → Option ProcShape → Bool
 stands_for (Some f) (Some g) = f.method && same_formals f g
 stands_for _ _ = false
 
-abbrev pub invoked : List ProcShape → (procedure : ℕ) → Option ℕ → (object : ℕ) → List Cell → Told
-invoked shapes p None o vs = Unheard
-invoked shapes p (Some q) o vs =
-    if stands_for (numbered shapes q) (numbered shapes p) then Invokes q (Ref o ∷ vs) else Unheard
+module _ (shapes : List ProcShape) (p : ℕ) where
+  abbrev pub invoked : Option ℕ → (object : ℕ) → List Cell → Told
+  invoked None o vs = Unheard
+  invoked (Some q) o vs = if stands_for (numbered shapes q) (numbered shapes p) then Invokes q (Ref o ∷ vs) else Unheard
 
 abbrev pub method_at : List TypeDesc → (type slot : ℕ) → Option ℕ
 method_at types t k = option_and_then (λ d. slice_get d.methods.items k) (numbered types t)
@@ -475,15 +471,16 @@ abbrev pub bound : Option ℕ → (object : ℕ) → Told
 bound None o = Unheard
 bound (Some q) o = Tells (CallCell q o ∷ [])
 
-abbrev pub told_by : List ProcShape → List TypeDesc → Look → (object : ℕ) → Option Made → Told
-told_by shapes types l o None = Unheard
-told_by shapes types (AtCell c) o (Some m) = Tells (Place (ObjectRoot o) c m.type ∷ [])
-told_by shapes types (AtElements j) o (Some m) =
-    if nat_eq j (length m.lengths) then Tells (length_cells m.lengths ++ Place (ObjectRoot o) 0 0 ∷ []) else Unheard
-told_by shapes types (IsType t) o (Some m) = Tells (Num (flag (extends types m.type t)) ∷ [])
-told_by shapes types (AsType t) o (Some m) = if extends types m.type t then Tells (Ref o ∷ []) else Refuses 3
-told_by shapes types (AsMethod k) o (Some m) = bound (method_at types m.type k) o
-told_by shapes types (AtSlot k p vs) o (Some m) = invoked shapes p (method_at types m.type k) o vs
+module _ (shapes : List ProcShape) (types : List TypeDesc) where
+  abbrev pub told_by : Look → (object : ℕ) → Option Made → Told
+  told_by l o None = Unheard
+  told_by (AtCell c) o (Some m) = Tells (Place (ObjectRoot o) c m.type ∷ [])
+  told_by (AtElements j) o (Some m) =
+      if nat_eq j (length m.lengths) then Tells (length_cells m.lengths ++ Place (ObjectRoot o) 0 0 ∷ []) else Unheard
+  told_by (IsType t) o (Some m) = Tells (Num (flag (extends types m.type t)) ∷ [])
+  told_by (AsType t) o (Some m) = if extends types m.type t then Tells (Ref o ∷ []) else Refuses 3
+  told_by (AsMethod k) o (Some m) = bound (method_at types m.type k) o
+  told_by (AtSlot k p vs) o (Some m) = invoked shapes p (method_at types m.type k) o vs
 
 abbrev pub on_told : Told → (ℕ → ℕ → Keeps → Stack → Stop) → ℕ → Keeps → Stack → Stop
 on_told (Tells vs) next at k s = next 0 (at + 1) k (vs ++ s)

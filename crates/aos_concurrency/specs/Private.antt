@@ -11,9 +11,19 @@ steps w [] = []
 steps w (x ∷ xs) = Step w ∷ steps w xs
 
 module _ {S F : Type 0} (m : Machine S F) where
-  -- over any store the next turn makes g of f, reads and writes nothing else, and leaves nothing to the kernel; `begun`: whether it begins a statement
+  -- over this store the next turn makes g of f, leaves the store as it is, writes nothing, and leaves nothing to the kernel; `begun`:
+  -- whether it begins a statement
+  abbrev pub IsPrivateAt : S → F → F → Bool → Type 0
+  IsPrivateAt s f g begun = m.turn s f ≡ record { store = s; frames = g; output = []; begun = begun; left = Went }
+
+  -- one such turn after another
+  abbrev pub ArePrivateAt : S → F → List Bool → F → Type 0
+  ArePrivateAt s f [] g = f ≡ g
+  ArePrivateAt s f (b ∷ bs) g = (h : F) × (IsPrivateAt s f h b × ArePrivateAt s h bs g)
+
+  -- so it does over any store, of which it then reads nothing
   abbrev pub IsPrivate : F → F → Bool → Type 0
-  IsPrivate f g begun = (s : S) → m.turn s f ≡ record { store = s; frames = g; output = []; begun = begun; left = Went }
+  IsPrivate f g begun = (s : S) → IsPrivateAt s f g begun
 
   -- one private turn after another
   abbrev pub ArePrivate : F → List Bool → F → Type 0

@@ -9,7 +9,7 @@ use Rattle.aos_code.specs.declared.image.Image.{Image}
 use Rattle.aos_code.specs.Memory.{Memory}
 use Rattle.aos_code.specs.Silent.{Stack, Question}
 use Rattle.aos_code.specs.Numbered.{numbered}
-use Rattle.aos_code.specs.Machine.{Frame, Frames, Turned, answer, before as before_it, leaves, lock_in}
+use Rattle.aos_code.specs.Machine.{asker, Frame, Frames, Turned, answer, before as before_it, leaves, lock_in}
 use Rattle.aos_store.specs.declared.frames.Frames.{Frames as KeptFrames}
 use Rattle.aos_store.specs.Store.{list_in, frames_in}
 use Rattle.aos_silent.specs.declared.act.Question.{Question as KeptQuestion}
@@ -21,7 +21,7 @@ use Rattle.aos_silent.proofs.Oks.{ok_more}
 module _ (image : Image) (kept : KeptQuestion) (q : Question) (at taken : ℕ) (same : (s : Stack) → question_in kept s ≡ q) (count : operands_of kept ≡ taken) (old new : KeptFrames) (mem now : Memory) (before after : List ℕ) where
   pub has_answered : (did : Did) → IsAnswered q at taken old new mem now did before after → HasAnswered image kept at old new mem now did before after
   has_answered did h f fs is =
-      subst (λ (p : Question × ℕ). Made (answer (reverse old.following.items) image.shapes.items image.types.items p.0 at f.keeps (drop p.1 f.stack) f fs mem) false did (frames_in new) now before after)
+      subst (λ (p : Question × ℕ). Made (answer (reverse old.following.items) image.shapes.items image.types.items p.0 (asker at f.keeps (drop p.1 f.stack) f fs mem)) false did (frames_in new) now before after)
       (λ i. (sym (same f.stack) i, sym count i)) (h image.shapes.items image.types.items f fs is)
 
   pub has_ok : (r : Result Did NoMemory) → IfOk r (λ did. IsAnswered q at taken old new mem now did before after) → IfOk r (λ did. HasAnswered image kept at old new mem now did before after)
@@ -29,7 +29,7 @@ module _ (image : Image) (kept : KeptQuestion) (q : Question) (at taken : ℕ) (
 
 -- work on the topmost frame's lock is left to the kernel
 pub left_answered : (image : Image) (kept : KeptQuestion) (work : LockName → Did) (l : LockName) (at : ℕ) (old : KeptFrames) (mem : Memory) (out : List ℕ) → Stands kept at old →
-    ((following : List ℕ) (f : Frame) (fs : List Frame) → answer following image.shapes.items image.types.items (question_in kept f.stack) at f.keeps (drop (operands_of kept) f.stack) f fs mem
+    ((following : List ℕ) (f : Frame) (fs : List Frame) → answer following image.shapes.items image.types.items (question_in kept f.stack) (asker at f.keeps (drop (operands_of kept) f.stack) f fs mem)
     ≡ leaves following (work (lock_in (numbered image.shapes.items f.procedure) f)) (before_it following at f.keeps f.stack f ∷ fs) mem) →
     ((f : Frame) (fs : List Frame) → list_in old.list.items ≡ f ∷ fs → l ≡ lock_in (numbered image.shapes.items f.procedure) f) →
     HasAnswered image kept at old old mem mem (work l) out out
@@ -44,7 +44,7 @@ left_answered image kept work l at old mem out stands asks is_lock f fs is =
 
 -- where this is the question
 pub left_in : (image : Image) (q kept : KeptQuestion) (work : LockName → Did) (l : LockName) (at : ℕ) (old : KeptFrames) (mem : Memory) (out : List ℕ) → q ≡ kept → Stands q at old →
-    ((following : List ℕ) (f : Frame) (fs : List Frame) → answer following image.shapes.items image.types.items (question_in kept f.stack) at f.keeps (drop (operands_of kept) f.stack) f fs mem
+    ((following : List ℕ) (f : Frame) (fs : List Frame) → answer following image.shapes.items image.types.items (question_in kept f.stack) (asker at f.keeps (drop (operands_of kept) f.stack) f fs mem)
     ≡ leaves following (work (lock_in (numbered image.shapes.items f.procedure) f)) (before_it following at f.keeps f.stack f ∷ fs) mem) →
     ((f : Frame) (fs : List Frame) → list_in old.list.items ≡ f ∷ fs → l ≡ lock_in (numbered image.shapes.items f.procedure) f) →
     HasAnswered image q at old old mem mem (work l) out out

@@ -12,7 +12,7 @@ use Rattle.aos_base.specs.Question.{Stores, Copies, PutsText, PutsNothing}
 use Rattle.aos_code.specs.declared.instr.Cell.{Cell}
 use Rattle.aos_code.specs.Memory.{Memory, Addr}
 use Rattle.aos_code.specs.Silent.{Stack, Keeps}
-use Rattle.aos_code.specs.Machine.{Frame, Frames, behind, writes, copies, cells_at, if_all, goes_on, leaves, stores_text, puts_text, text_at, length_in, character_cells, rooted, frames_with, memory_with}
+use Rattle.aos_code.specs.Machine.{asker, fitted_in, Frame, Frames, behind, writes, copies, cells_at, if_all, goes_on, leaves, stores_text, puts_text, text_at, length_in, character_cells, rooted, frames_with, memory_with}
 use Rattle.aos_store.specs.declared.frames.Frames.{Frames as KeptFrames}
 use Rattle.aos_store.specs.Store.{list_in, frames_in, with_frames, has_all, read_all}
 use Rattle.aos_cpu.specs.Answers.{Made, IsAnswered, IsBehind, IsFitted}
@@ -55,7 +55,7 @@ after (ObjectRoot o) g at taken f fs following new h = h f fs refl
 -- the cells are stored, or there are none to be stored in
 pub stored_made : (old mid new : KeptFrames) (mem now : Memory) (f : Frame) (fs : List Frame) (to : Addr) (vs : List Cell) (at taken : ℕ) (out : List ℕ) → list_in old.list.items ≡ f ∷ fs →
     frames_in mid ≡ with_frames to.root (spliced to.cell vs) old → now ≡ memory_with to.root (spliced to.cell vs) mem → IsBehind at taken [] mid new →
-    Made (writes (reverse old.following.items) true to vs at f.keeps (drop taken f.stack) f fs mem) false Went (frames_in new) now out out
+    Made (writes (reverse old.following.items) true to vs (asker at f.keeps (drop taken f.stack) f fs mem)) false Went (frames_in new) now out out
 stored_made old mid new mem now f fs to vs at taken out is ef em b =
     let fol = reverse old.following.items in
     let g = spliced to.cell vs in
@@ -72,7 +72,7 @@ stored_made old mid new mem now f fs to vs at taken out is ef em b =
 pub write_made : (old mid new : KeptFrames) (mem now : Memory) (a : Addr) (v : Cell) (at : ℕ) (out : List ℕ) → true ≡ is_some (load a.root a.cell (rooted (list_in old.list.items) mem)) →
     frames_in mid ≡ with_frames a.root (spliced a.cell (v ∷ [])) old → now ≡ memory_with a.root (spliced a.cell (v ∷ [])) mem → IsBehind at 2 [] mid new → IsAnswered (Stores a v) at 2 old new mem now Went out out
 write_made old mid new mem now a v at out there ef em b shapes types f fs is =
-    subst (λ b. Made (writes (reverse old.following.items) b a (v ∷ []) at f.keeps (drop 2 f.stack) f fs mem) false Went (frames_in new) now out out)
+    subst (λ b. Made (writes (reverse old.following.items) b a (v ∷ []) (asker at f.keeps (drop 2 f.stack) f fs mem)) false Went (frames_in new) now out out)
     (there ∙ ap (λ l. is_some (load a.root a.cell (rooted l mem))) is) (stored_made old mid new mem now f fs a (v ∷ []) at 2 out is ef em b)
 
 -- Cells are copied, where there are such cells.
@@ -98,15 +98,15 @@ if_there n a x = ap is_some (cells_at_is n a.cell (at_root a.root x)) ∙ is_som
 
 -- how cells are copied, by whether there are both
 copied_by : (following : List ℕ) (n : ℕ) (from to : Addr) (at : ℕ) (f : Frame) (fs : List Frame) (mem : Memory) (x : Rooted (List Cell)) (p q : Bool) → p ≡ has_all n from.cell (at_root from.root x) → q ≡ has_all n to.cell (at_root to.root x) →
-    copies following (cells_at n from x) (is_some (cells_at n to x)) to at f.keeps (drop 2 f.stack) f fs mem ≡ writes following (p && q) to (read_all n from.cell (at_root from.root x)) at f.keeps (drop 2 f.stack) f fs mem
+    copies following (cells_at n from x) (is_some (cells_at n to x)) to (asker at f.keeps (drop 2 f.stack) f fs mem) ≡ writes following (p && q) to (read_all n from.cell (at_root from.root x)) (asker at f.keeps (drop 2 f.stack) f fs mem)
 copied_by following n from to at f fs mem x true q p' q' =
     let o = at_root from.root x in
     let read : cells_at n from x ≡ Some (read_all n from.cell o) = cells_at_is n from.cell o ∙ ap (λ b. if b then Some (read_all n from.cell o) else None) (sym p') in
-    (λ i. copies following (read i) (is_some (cells_at n to x)) to at f.keeps (drop 2 f.stack) f fs mem) ∙ ap (λ b. writes following b to (read_all n from.cell o) at f.keeps (drop 2 f.stack) f fs mem) (if_there n to x ∙ sym q')
+    (λ i. copies following (read i) (is_some (cells_at n to x)) to (asker at f.keeps (drop 2 f.stack) f fs mem)) ∙ ap (λ b. writes following b to (read_all n from.cell o) (asker at f.keeps (drop 2 f.stack) f fs mem)) (if_there n to x ∙ sym q')
 copied_by following n from to at f fs mem x false q p' q' =
     let o = at_root from.root x in
     let read : cells_at n from x ≡ None = cells_at_is n from.cell o ∙ ap (λ b. if b then Some (read_all n from.cell o) else None) (sym p') in
-    λ i. copies following (read i) (is_some (cells_at n to x)) to at f.keeps (drop 2 f.stack) f fs mem
+    λ i. copies following (read i) (is_some (cells_at n to x)) to (asker at f.keeps (drop 2 f.stack) f fs mem)
 
 -- whether there are both
 abbrev both_there : ℕ → Addr → Addr → Rooted (List Cell) → Bool
@@ -121,8 +121,8 @@ copy_made old mid new mem now n from to at out there ef em b shapes types f fs i
     let x = rooted (f ∷ fs) mem in
     let vs = read_all n from.cell (at_root from.root x) in
     let same : read_all n from.cell (at_root from.root (rooted (list_in old.list.items) mem)) ≡ vs = ap (λ l. read_all n from.cell (at_root from.root (rooted l mem))) is in
-    let turn : writes fol true to vs at f.keeps (drop 2 f.stack) f fs mem ≡ copies fol (cells_at n from x) (is_some (cells_at n to x)) to at f.keeps (drop 2 f.stack) f fs mem =
-    ap (λ b. writes fol b to vs at f.keeps (drop 2 f.stack) f fs mem) (there ∙ ap (λ l. both_there n from to (rooted l mem)) is) ∙ sym (copied_by fol n from to at f fs mem x _ _ refl refl) in
+    let turn : writes fol true to vs (asker at f.keeps (drop 2 f.stack) f fs mem) ≡ copies fol (cells_at n from x) (is_some (cells_at n to x)) to (asker at f.keeps (drop 2 f.stack) f fs mem) =
+    ap (λ b. writes fol b to vs (asker at f.keeps (drop 2 f.stack) f fs mem)) (there ∙ ap (λ l. both_there n from to (rooted l mem)) is) ∙ sym (copied_by fol n from to at f fs mem x _ _ refl refl) in
     subst (λ t. Made t false Went (frames_in new) now out out) turn
     (stored_made old mid new mem now f fs to vs at 2 out is (ef ∙ ap (λ ws. with_frames to.root (spliced to.cell ws) old) same) (em ∙ ap (λ ws. memory_with to.root (spliced to.cell ws) mem) same) b)
 
@@ -130,12 +130,12 @@ copy_made old mid new mem now n from to at out there ef em b shapes types f fs i
 
 module _ (following : List ℕ) (strict : Bool) (to : Addr) (x : Rooted (List Cell)) (at : ℕ) (k : Keeps) (s : Stack) (f : Frame) (fs : List Frame) (mem : Memory) (cs : List ℕ) where
   text_stored : (b : Bool) (text : Option (List ℕ)) (room : Option ℕ) (trap : ℕ) → IsFitted strict text room cs trap → trap ≡ 0 → b ≡ has_all (length cs) to.cell (at_root to.root x) →
-      puts_text following strict text room to x at k s f fs mem ≡ writes following b to (character_cells [] cs) at k s f fs mem
+      puts_text following (fitted_in following strict text room) to x (asker at k s f fs mem) ≡ writes following b to (character_cells [] cs) (asker at k s f fs mem)
   text_stored b None room trap h z there = let w : 16 ≡ 0 = sym h ∙ z in absurd (cc w)
   text_stored b (Some text) None trap h z there = let w : 16 ≡ 0 = sym h ∙ z in absurd (cc w)
   text_stored b (Some text) (Some room) trap h z there =
-      ap (λ o. stores_text following o to x at k s f fs mem) (h.0 ∙ ap (λ n. if nat_eq n 0 then Some cs else None) z)
-      ∙ ap (λ c. writes following c to (character_cells [] cs) at k s f fs mem) (if_there (length cs) to x ∙ sym there)
+      ap (λ o. stores_text following o to x (asker at k s f fs mem)) (h.0 ∙ ap (λ n. if nat_eq n 0 then Some cs else None) z)
+      ∙ ap (λ c. writes following c to (character_cells [] cs) (asker at k s f fs mem)) (if_there (length cs) to x ∙ sym there)
 
 pub text_lost : (old new : KeptFrames) (mem now : Memory) (strict : Bool) (from : Addr) (n : Cell) (to : Addr) (room : Cell) (at : ℕ) (out cs : List ℕ) (trap : ℕ) →
     IsFitted strict (text_at [] from n (rooted (list_in old.list.items) mem)) (length_in [] room) cs trap → trap ≡ 0 → false ≡ has_all (length cs) to.cell (at_root to.root (rooted (list_in old.list.items) mem)) →

@@ -8,7 +8,7 @@ use Rattle.aos_base.specs.declared.kernel.Did.TheVariants.{Went, Trapped}
 use Rattle.aos_code.specs.declared.instr.Cell.{Cell}
 use Rattle.aos_code.specs.declared.image.ProcShape.{ProcShape}
 use Rattle.aos_code.specs.Memory.{Memory}
-use Rattle.aos_code.specs.Machine.{object_of, arguments_of, Frame, Frames, rooted, behind, handed, called_frame, enters, calls_with}
+use Rattle.aos_code.specs.Machine.{asker, object_of, arguments_of, Frame, Frames, rooted, behind, handed, called_frame, enters, calls_with}
 use Rattle.aos_store.specs.declared.frames.Frames.{Frames as KeptFrames}
 use Rattle.aos_store.specs.Store.{list_in, frames_in, deep}
 use Rattle.aos_silent.specs.declared.act.Way.{Way}
@@ -77,7 +77,7 @@ module _ (shape : ProcShape) (p : ℕ) (way : Way) (may : may_pass way shape.met
 
   pub call_lost : gifts (rooted (list_in old.list.items) mem) shape.params.items (arguments_of shape.method args) ≡ None → IsCalled (Some shape) p way count at old old mem (Trapped 16 0) out
   call_lost e f fs is =
-      subst (λ h. Made (calls_with (reverse old.following.items) p (object_of shape.method (over f)) shape h at f.keeps (drop count f.stack) f fs mem) false (Trapped 16 0) (frames_in old) mem out out) (sym (handed_is f fs None is e)) (lost_made old f fs mem 16 0 out is)
+      subst (λ h. Made (calls_with (reverse old.following.items) (option_map (called_frame (reverse old.following.items) p (object_of shape.method (over f)) shape) h) (asker at f.keeps (drop count f.stack) f fs mem)) false (Trapped 16 0) (frames_in old) mem out out) (sym (handed_is f fs None is e)) (lost_made old f fs mem 16 0 out is)
 
   pub call_deep : (gs : List Gift) → gifts (rooted (list_in old.list.items) mem) shape.params.items (arguments_of shape.method args) ≡ Some gs → deep (shape.counted + length (all_copied gs)) (list_in old.list.items) ≡ true →
       IsCalled (Some shape) p way count at old old mem (Trapped 11 0) out
@@ -86,8 +86,8 @@ module _ (shape : ProcShape) (p : ℕ) (way : Way) (may : may_pass way shape.met
       let o = object_of shape.method (over f) in
       let h = put_as fol (suc (length fs)) (rooted (f ∷ fs) mem) (length shape.kinds.items) gs in
       let over : deep (shape.counted + length (all_copied gs)) (f ∷ fs) ≡ true = ap (deep (shape.counted + length (all_copied gs))) (sym is) ∙ d in
-      subst (λ h. Made (calls_with fol p o shape h at f.keeps (drop count f.stack) f fs mem) false (Trapped 11 0) (frames_in old) mem out out) (sym (handed_is f fs (Some gs) is e))
-      (subst (λ b. Made (enters fol b (called_frame fol p o shape h) at f.keeps (drop count f.stack) f fs mem) false (Trapped 11 0) (frames_in old) mem out out) (sym over) (lost_made old f fs mem 11 0 out is))
+      subst (λ h. Made (calls_with fol (option_map (called_frame fol p o shape) h) (asker at f.keeps (drop count f.stack) f fs mem)) false (Trapped 11 0) (frames_in old) mem out out) (sym (handed_is f fs (Some gs) is e))
+      (subst (λ b. Made (enters fol b (called_frame fol p o shape h) (asker at f.keeps (drop count f.stack) f fs mem)) false (Trapped 11 0) (frames_in old) mem out out) (sym over) (lost_made old f fs mem 11 0 out is))
 
   pub call_made : (gs : List Gift) (new : KeptFrames) (g : Frame) → gifts (rooted (list_in old.list.items) mem) shape.params.items (arguments_of shape.method args) ≡ Some gs → deep (shape.counted + length (all_copied gs)) (list_in old.list.items) ≡ false →
       g ≡ called p (object_of shape.method (with_object way args)) (shape.counted + length (all_copied gs)) (called_cells (length (list_in old.list.items)) shape.kinds.items gs) → IsEntered at count g old new → IsCalled (Some shape) p way count at old new mem Went out
@@ -100,6 +100,6 @@ module _ (shape : ProcShape) (p : ℕ) (way : Way) (may : may_pass way shape.met
       let frame : called_frame fol p o shape h ≡ g = (λ i. called p (object_of shape.method (with_object way (sym (same f fs is) i))) n (called_cells (length (sym is i)) shape.kinds.items gs)) ∙ sym is_frame in
       let frames : record { following = fol; frames = called_frame fol p o shape h ∷ behind [] at f.keeps (drop count f.stack) f ∷ fs } ≡ frames_in new =
       ap (λ (g : Frame). let y : Frames = record { following = fol; frames = g ∷ behind [] at f.keeps (drop count f.stack) f ∷ fs } in y) frame ∙ sym (entered f fs is) in
-      subst (λ h. Made (calls_with fol p o shape h at f.keeps (drop count f.stack) f fs mem) false Went (frames_in new) mem out out) (sym (handed_is f fs (Some gs) is e))
-      (subst (λ b. Made (enters fol b (called_frame fol p o shape h) at f.keeps (drop count f.stack) f fs mem) false Went (frames_in new) mem out out) (sym over)
+      subst (λ h. Made (calls_with fol (option_map (called_frame fol p o shape) h) (asker at f.keeps (drop count f.stack) f fs mem)) false Went (frames_in new) mem out out) (sym (handed_is f fs (Some gs) is e))
+      (subst (λ b. Made (enters fol b (called_frame fol p o shape h) (asker at f.keeps (drop count f.stack) f fs mem)) false Went (frames_in new) mem out out) (sym over)
       (record { store = refl; frames = frames; output = sym (append-nil out); begun = refl; left = refl }))

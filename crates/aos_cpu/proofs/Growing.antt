@@ -17,7 +17,7 @@ use Rattle.aos_code.specs.declared.image.Image.{Image}
 use Rattle.aos_code.specs.Numbered.{numbered}
 use Rattle.aos_code.specs.Memory.{Addr, Memory, has_room}
 use Rattle.aos_code.specs.Silent.{Stack, Keeps, Question, Begins, Fails, Decides, Stop, Work, Ended, is_of}
-use Rattle.aos_code.specs.Machine.{object_of, arguments_of, Frame, Frames, Turned, Handed, first_cell, rooted, cells_at, memory_with, made_in, leaves, goes_on, behind, written, writes, reads, copies, prints, writes_out, makes, makes_with, makes_of, numbers_in, in_rows, starts, works, finds, stores_text, fitted, puts_text, compares, called_frame, is_deep, enters, calls_with, calls, handed, text_at, length_in, code_in, character_cells, answer, goes, opened, stop_of, turn_at, turn}
+use Rattle.aos_code.specs.Machine.{asker, fitted_in, object_of, arguments_of, Frame, Frames, Turned, Handed, first_cell, rooted, cells_at, memory_with, made_in, leaves, goes_on, behind, written, writes, reads, copies, prints, writes_out, makes, makes_with, makes_of, numbers_in, in_rows, starts, works, finds, stores_text, fitted, puts_text, compares, called_frame, is_deep, enters, calls_with, calls, handed, text_at, length_in, code_in, character_cells, answer, goes, opened, stop_of, turn_at, turn}
 use Rattle.aos_silent.specs.Known.{Knows}
 
 read_still : {A : Type 0} (xs ys : List A) (k : ℕ) (x : A) → slice_get xs k ≡ Some x → slice_get (xs ++ ys) k ≡ Some x
@@ -47,75 +47,75 @@ module _ (image : Image) (following : List ℕ) (f : Frame) (fs : List Frame) (m
   if_grows false t u h g = g
 
   module _ (at : ℕ) (k : Keeps) (s : Stack) where
-    write_grows : (there : Bool) (a : Addr) (vs : List Cell) → Grows (writes following there a vs at k s f fs mem)
+    write_grows : (there : Bool) (a : Addr) (vs : List Cell) → Grows (writes following there a vs (asker at k s f fs mem))
     write_grows true a vs = changed a.root _
     write_grows false a vs = stays
 
-    read_grows : (kind : Kind) (v : Option Cell) → Grows (reads following kind v at k s f fs mem)
+    read_grows : (kind : Kind) (v : Option Cell) → Grows (reads following kind v (asker at k s f fs mem))
     read_grows kind None = stays
     read_grows kind (Some v) = if_grows (is_of kind v) (goes_on following (behind following at k (v ∷ s) f ∷ fs) mem) (leaves following (Trapped 16 0) (f ∷ fs) mem) stays stays
 
-    copy_grows : (vs : Option (List Cell)) (there : Bool) (a : Addr) → Grows (copies following vs there a at k s f fs mem)
+    copy_grows : (vs : Option (List Cell)) (there : Bool) (a : Addr) → Grows (copies following vs there a (asker at k s f fs mem))
     copy_grows None there a = stays
     copy_grows (Some vs) there a = write_grows there a vs
 
-    print_grows : (v : Option (List ℕ)) → Grows (prints following v at k s f fs mem)
+    print_grows : (v : Option (List ℕ)) → Grows (prints following v (asker at k s f fs mem))
     print_grows None = stays
     print_grows (Some bytes) = stays
 
-    out_grows : (v : Option (List ℕ)) → Grows (writes_out following v at k s f fs mem)
+    out_grows : (v : Option (List ℕ)) → Grows (writes_out following v (asker at k s f fs mem))
     out_grows None = stays
     out_grows (Some bytes) = stays
 
-    make_grows : (room : Bool) (m : Made) (cells : List Cell) → Grows (makes following room m cells at k s f fs mem)
+    make_grows : (room : Bool) (m : Made) (cells : List Cell) → Grows (makes following room m cells (asker at k s f fs mem))
     make_grows true m cells = λ o x e. number_still mem.made (m ∷ []) o x e
     make_grows false m cells = stays
 
-    make_with_grows : (ns : Option (List ℕ)) (t : ℕ) (d : TypeDesc) → Grows (makes_with following ns t d at k s f fs mem)
+    make_with_grows : (ns : Option (List ℕ)) (t : ℕ) (d : TypeDesc) → Grows (makes_with following ns t d (asker at k s f fs mem))
     make_with_grows None t d = stays
     make_with_grows (Some ns) t d =
         let m : Made = record { type = t; lengths = ns } in
         let cells = in_rows following ns (map first_cell d.kinds.items) in make_grows (has_room m cells mem) m cells
 
-    make_of_grows : (d : Option TypeDesc) (zs : Option (List ℤ)) (t : ℕ) → Grows (makes_of following d zs t at k s f fs mem)
+    make_of_grows : (d : Option TypeDesc) (zs : Option (List ℤ)) (t : ℕ) → Grows (makes_of following d zs t (asker at k s f fs mem))
     make_of_grows None zs t = stays
     make_of_grows (Some d) None t = stays
     make_of_grows (Some d) (Some zs) t = make_with_grows (array_lengths zs) t d
 
-    start_grows : (v : Cell) → Grows (starts following v at k s f fs mem)
+    start_grows : (v : Cell) → Grows (starts following v (asker at k s f fs mem))
     start_grows (Num z) = stays
     start_grows (Ref zero) = stays
     start_grows (Ref (suc o)) = stays
     start_grows (CallCell p o) = stays
     start_grows (Place root cell type) = stays
 
-    store_text_grows : (t : Option (List ℕ)) (to : Addr) (x : Rooted (List Cell)) → Grows (stores_text following t to x at k s f fs mem)
+    store_text_grows : (t : Option (List ℕ)) (to : Addr) (x : Rooted (List Cell)) → Grows (stores_text following t to x (asker at k s f fs mem))
     store_text_grows None to x = stays
     store_text_grows (Some cs) to x = write_grows (is_some (cells_at (length cs) to x)) to (character_cells following cs)
 
-    put_text_grows : (strict : Bool) (t : Option (List ℕ)) (room : Option ℕ) (to : Addr) (x : Rooted (List Cell)) → Grows (puts_text following strict t room to x at k s f fs mem)
+    put_text_grows : (strict : Bool) (t : Option (List ℕ)) (room : Option ℕ) (to : Addr) (x : Rooted (List Cell)) → Grows (puts_text following (fitted_in following strict t room) to x (asker at k s f fs mem))
     put_text_grows strict None room to x = stays
     put_text_grows strict (Some cs) None to x = stays
     put_text_grows strict (Some cs) (Some room) to x = store_text_grows (fitted following strict room cs) to x
 
-    compare_grows : (r : Relation) (a b : Option (List ℕ)) → Grows (compares following r a b at k s f fs mem)
+    compare_grows : (r : Relation) (a b : Option (List ℕ)) → Grows (compares following r a b (asker at k s f fs mem))
     compare_grows r (Some a) (Some b) = stays
     compare_grows r (Some a) None = stays
     compare_grows r None b = stays
 
-    enter_grows : (deep : Bool) (g : Frame) → Grows (enters following deep g at k s f fs mem)
+    enter_grows : (deep : Bool) (g : Frame) → Grows (enters following deep g (asker at k s f fs mem))
     enter_grows true g = stays
     enter_grows false g = stays
 
-    call_with_grows : (p o : ℕ) (shape : ProcShape) (x : Option (Handed following)) → Grows (calls_with following p o shape x at k s f fs mem)
+    call_with_grows : (p o : ℕ) (shape : ProcShape) (x : Option (Handed following)) → Grows (calls_with following (option_map (called_frame following p o shape) x) (asker at k s f fs mem))
     call_with_grows p o shape None = stays
     call_with_grows p o shape (Some x) = enter_grows (is_deep following (called_frame following p o shape x) (f ∷ fs)) (called_frame following p o shape x)
 
-    call_grows : (shape : Option ProcShape) (p : ℕ) (vs : List Cell) → Grows (calls following shape p vs at k s f fs mem)
+    call_grows : (shape : Option ProcShape) (p : ℕ) (vs : List Cell) → Grows (calls following shape p vs (asker at k s f fs mem))
     call_grows None p vs = stays
     call_grows (Some shape) p vs = call_with_grows p (object_of shape.method vs) shape (handed following (suc (length fs)) (rooted (f ∷ fs) mem) shape.params.items (arguments_of shape.method vs) (length shape.kinds.items))
 
-    answer_grows : (q : Question) → Grows (answer following image.shapes.items image.types.items q at k s f fs mem)
+    answer_grows : (q : Question) → Grows (answer following image.shapes.items image.types.items q (asker at k s f fs mem))
     answer_grows (Reads kind a) = read_grows kind (load a.root a.cell (rooted (f ∷ fs) mem))
     answer_grows (Stores a v) = write_grows (is_some (load a.root a.cell (rooted (f ∷ fs) mem))) a (v ∷ [])
     answer_grows (Copies n from to) = copy_grows (cells_at n from (rooted (f ∷ fs) mem)) (is_some (cells_at n to (rooted (f ∷ fs) mem))) to
@@ -139,7 +139,7 @@ module _ (image : Image) (following : List ℕ) (f : Frame) (fs : List Frame) (m
     answer_grows (Sizes v d) = stays
     answer_grows (Tests v t) = stays
 
-    works_grow : (found : Bool) (q : Question) → Grows (works following image.shapes.items image.types.items found q at k s f fs mem)
+    works_grow : (found : Bool) (q : Question) → Grows (works following image.shapes.items image.types.items found q (asker at k s f fs mem))
     works_grow true q = answer_grows q
     works_grow false q = stays
 

@@ -20,7 +20,7 @@ use Rattle.aos_code.specs.declared.instr.Instr.TheVariants.{Num, Load, Store}
 use Rattle.aos_code.specs.declared.image.Image.{Image}
 use Rattle.aos_code.specs.Memory.{Memory}
 use Rattle.aos_code.specs.Silent.{Stack, Stop, Work, Ended, Begins, Sees, Stops, lost, gives, gives_self, is_of, on_place, on_numbers, Goes, on_act, stores, act, walk, silent}
-use Rattle.aos_code.specs.Machine.{Frame, Frames, Turned, rooted, frames_with, memory_with, turn, code_of, made_in, stop_of, goes, reads, writes, goes_on, leaves, behind, opened}
+use Rattle.aos_code.specs.Machine.{asker, Frame, Frames, Turned, rooted, frames_with, memory_with, turn, code_of, made_in, stop_of, goes, reads, writes, goes_on, leaves, behind, opened}
 use Rattle.aos_code.specs.Numbered.{numbered}
 use Rattle.aos_sound.specs.Fits.{KeepsToPaths, StandsOn, StandsStopped, result_of}
 use Rattle.aos_sound.specs.FitFrames.{IsSoundImage, HasBody, FitFor, FramesFit, depth_of}
@@ -249,7 +249,7 @@ module _ (image : Image) (here : ℕ) (f : Frame) where
       (stands_at image (made_in image mem) here f (Load kind) _ is (ap (λ a. on_act image.shapes.items image.types.items (made_in image mem) f.cells a next f.next f.keeps) (read_asks kind f.stack p place)))
       (λ rest len none. in_frames p.root p.cell f rest mem (ap is_some (holds rest len)) none)
       (λ following rest len.
-      ap (λ o. reads following kind o f.next f.keeps (drop 1 f.stack) f rest mem) (holds rest len)
+      ap (λ o. reads following kind o (asker f.next f.keeps (drop 1 f.stack) f rest mem)) (holds rest len)
       ∙ ap (λ b. if b then goes_on following (behind following f.next f.keeps (v ∷ drop 1 f.stack) f ∷ rest) mem else leaves following (Trapped 16 0) (f ∷ rest) mem) of)
 
   pub store_top : (mem now : Memory) (kind : Kind) (p : Spot) (v : Cell) (h : Frame) → slice_get own_code f.next ≡ Some (Store kind) → kind_in kind (slice_get f.stack 0) ≡ Some v →
@@ -261,7 +261,7 @@ module _ (image : Image) (here : ℕ) (f : Frame) where
       (stands_at image (made_in image mem) here f (Store kind) _ is (ap (λ a. on_act image.shapes.items image.types.items (made_in image mem) f.cells a next f.next f.keeps) (store_asks kind f.stack v p value place)))
       (λ rest len none. in_frames p.root p.cell f rest mem (set.there rest len) none)
       (λ following rest len.
-      ap (λ b. writes following b (addr_in p) (v ∷ []) f.next f.keeps (drop 2 f.stack) f rest mem) (set.there rest len)
+      ap (λ b. writes following b (addr_in p) (v ∷ []) (asker f.next f.keeps (drop 2 f.stack) f rest mem)) (set.there rest len)
       ∙ (λ i. goes_on following (set.frames rest len (f.next + 1) (drop 2 f.stack) i) (sym set.memory i)))
 
 -- silent work that goes on stays on a path

@@ -17,7 +17,7 @@ use Rattle.aos_code.specs.declared.instr.Kind.{Kind}
 use Rattle.aos_code.specs.declared.image.TypeDesc.{TypeDesc}
 use Rattle.aos_code.specs.Memory.{Memory, counted, has_room, with_object, new_number}
 use Rattle.aos_code.specs.Silent.{cells_of}
-use Rattle.aos_code.specs.Machine.{Frame, Frames, first_cell, number_in, numbers_in, times, in_rows, makes, makes_with, makes_of, behind}
+use Rattle.aos_code.specs.Machine.{asker, Frame, Frames, first_cell, number_in, numbers_in, times, in_rows, makes, makes_with, makes_of, behind}
 use Rattle.aos_store.specs.declared.frames.Frames.{Frames as KeptFrames}
 use Rattle.aos_store.specs.Store.{list_in, frames_in}
 use Rattle.aos_cpu.specs.Answers.{Made as HasMade, IsBehind}
@@ -275,7 +275,7 @@ module _ (ns : List ℕ) (desc : TypeDesc) (t : ℕ) (mem : Memory) (elements si
 
   pub no_room : (old : KeptFrames) (count at : ℕ) (out : List ℕ) → below ≡ false → IsMadeWith ns desc t count at old old mem mem (Trapped 12 0) out
   no_room old count at out full few f fs is =
-      subst (λ b. HasMade (makes (reverse old.following.items) b as_made its_cells at f.keeps (drop count f.stack) f fs mem) false (Trapped 12 0) (frames_in old) mem out out) (sym (room_is few ∙ full)) (lost_made old f fs mem 12 0 out is)
+      subst (λ b. HasMade (makes (reverse old.following.items) b as_made its_cells (asker at f.keeps (drop count f.stack) f fs mem)) false (Trapped 12 0) (frames_in old) mem out out) (sym (room_is few ∙ full)) (lost_made old f fs mem 12 0 out is)
 
   -- the cells that were made, where elements that were cut have none
   pub cells_made : (cells : List Cell) → below ≡ true → cells ≡ times [] elements (map first_cell desc.kinds.items) → cells ≡ its_cells
@@ -316,7 +316,7 @@ module _ (ns : List ℕ) (desc : TypeDesc) (t : ℕ) (mem : Memory) (elements si
       let all = cells_made cells room cells_are in
       let frames : record { following = fol; frames = behind fol at f.keeps (Ref (new_number mem) ∷ drop count f.stack) f ∷ fs } ≡ frames_in new =
       ap (λ n. let x : Frames = record { following = fol; frames = behind fol at f.keeps (Ref n ∷ drop count f.stack) f ∷ fs } in x) (sym number_is) ∙ sym (put f fs is) in
-      subst (λ b. HasMade (makes fol b as_made its_cells at f.keeps (drop count f.stack) f fs mem) false Went (frames_in new) now out out) (sym (room_is few ∙ room))
+      subst (λ b. HasMade (makes fol b as_made its_cells (asker at f.keeps (drop count f.stack) f fs mem)) false Went (frames_in new) now out out) (sym (room_is few ∙ room))
       (record { store = ap (λ cs. with_object as_made cs mem) (sym all) ∙ sym now_is; frames = frames; output = sym (append-nil out); begun = refl; left = refl })
 
 -- By what is found of the lengths.
@@ -330,17 +330,17 @@ module _ (old : KeptFrames) (mem : Memory) (t count at : ℕ) (out : List ℕ) w
 
   module _ (desc : TypeDesc) (vs : List Cell) (args : (f : Frame) (fs : List Frame) → list_in old.list.items ≡ f ∷ fs → vs ≡ reverse (take count f.stack)) where
     by_numbers : (zs : Option (List ℤ)) (new : KeptFrames) (now : Memory) (did : Did) → numbers_in [] vs ≡ zs →
-        ((f : Frame) (fs : List Frame) → list_in old.list.items ≡ f ∷ fs → HasMade (makes_of fol (Some desc) zs t at f.keeps (drop count f.stack) f fs mem) false did (frames_in new) now out out) →
+        ((f : Frame) (fs : List Frame) → list_in old.list.items ≡ f ∷ fs → HasMade (makes_of fol (Some desc) zs t (asker at f.keeps (drop count f.stack) f fs mem)) false did (frames_in new) now out out) →
         IsMade (Some desc) t count at old new mem now did out
     by_numbers zs new now did e h f fs is =
-        subst (λ x. HasMade (makes_of fol (Some desc) x t at f.keeps (drop count f.stack) f fs mem) false did (frames_in new) now out out) (sym e ∙ ap (numbers_in []) (args f fs is)) (h f fs is)
+        subst (λ x. HasMade (makes_of fol (Some desc) x t (asker at f.keeps (drop count f.stack) f fs mem)) false did (frames_in new) now out out) (sym e ∙ ap (numbers_in []) (args f fs is)) (h f fs is)
 
     by_lengths : (zs : List ℤ) (ns : Option (List ℕ)) (new : KeptFrames) (now : Memory) (did : Did) → numbers_in [] vs ≡ Some zs → array_lengths zs ≡ ns →
-        ((f : Frame) (fs : List Frame) → list_in old.list.items ≡ f ∷ fs → HasMade (makes_with fol ns t desc at f.keeps (drop count f.stack) f fs mem) false did (frames_in new) now out out) →
+        ((f : Frame) (fs : List Frame) → list_in old.list.items ≡ f ∷ fs → HasMade (makes_with fol ns t desc (asker at f.keeps (drop count f.stack) f fs mem)) false did (frames_in new) now out out) →
         IsMade (Some desc) t count at old new mem now did out
     by_lengths zs ns new now did e l h =
         by_numbers (Some zs) new now did e
-        (λ f fs is. subst (λ x. HasMade (makes_with fol x t desc at f.keeps (drop count f.stack) f fs mem) false did (frames_in new) now out out) (sym l) (h f fs is))
+        (λ f fs is. subst (λ x. HasMade (makes_with fol x t desc (asker at f.keeps (drop count f.stack) f fs mem)) false did (frames_in new) now out out) (sym l) (h f fs is))
 
     pub made_no : AreLengths vs No → IsMade (Some desc) t count at old old mem mem (Trapped 16 0) out
     made_no h = by_numbers None old mem (Trapped 16 0) h (λ f fs is. lost_made old f fs mem 16 0 out is)
@@ -355,7 +355,7 @@ module _ (old : KeptFrames) (mem : Memory) (t count at : ℕ) (out : List ℕ) w
         let cells = in_rows [] ns (map first_cell desc.kinds.items) in
         let full : has_room m cells mem ≡ false = ap (λ b. b && nat_le (counted cells + sum_by counted mem.objects) 16777216) h.4 in
         by_lengths h.0 (Some ns) old mem (Trapped 12 0) h.2 h.3
-        (λ f fs is. subst (λ b. HasMade (makes fol b m cells at f.keeps (drop count f.stack) f fs mem) false (Trapped 12 0) (frames_in old) mem out out) (sym full) (lost_made old f fs mem 12 0 out is))
+        (λ f fs is. subst (λ b. HasMade (makes fol b m cells (asker at f.keeps (drop count f.stack) f fs mem)) false (Trapped 12 0) (frames_in old) mem out out) (sym full) (lost_made old f fs mem 12 0 out is))
 
     pub made_with : (ns : List ℕ) (new : KeptFrames) (now : Memory) (did : Did) → HasLengths vs ns → IsMadeWith ns desc t count at old new mem now did out → IsMade (Some desc) t count at old new mem now did out
     made_with ns new now did h made = by_lengths h.0 (Some ns) new now did h.1 h.2 (made h.3)

@@ -21,7 +21,7 @@ use Rattle.aos_code.specs.declared.image.ParamKind.TheVariants as param
 use Rattle.aos_code.specs.Memory.{Memory}
 use Rattle.aos_code.specs.Numbered.{numbered}
 use Rattle.aos_code.specs.Silent.{Stack, Keeps, Question, Begins, Fails, Decides, Stop, Work, Ended, is_of, cells_of}
-use Rattle.aos_code.specs.Machine.{here_of, object_of, arguments_of, Frame, Frames, Turned, Handed, hand, rooted, if_all, cells_at, leaves, goes_on, behind, reads, writes, copies, stores_text, fitted, puts_text, compares, is_deep, enters, calls_with, calls, lengths_in, whole_at, copied_open, handed, called_frame, text_in, text_at, length_in, character_cells, answer, works, finds, goes, opened, code_of, made_in, stop_of, turn, turn_at}
+use Rattle.aos_code.specs.Machine.{asker, fitted_in, here_of, object_of, arguments_of, Frame, Frames, Turned, Handed, hand, rooted, if_all, cells_at, leaves, goes_on, behind, reads, writes, copies, stores_text, fitted, puts_text, compares, is_deep, enters, calls_with, calls, lengths_in, whole_at, copied_open, handed, called_frame, text_in, text_at, length_in, character_cells, answer, works, finds, goes, opened, code_of, made_in, stop_of, turn, turn_at}
 use Rattle.aos_store.specs.declared.frames.Frames.{Frames as KeptFrames}
 use Rattle.aos_store.specs.declared.memory.Store.{Store}
 use Rattle.aos_store.specs.Store.{frames_in, memory_in, SameCounts}
@@ -117,54 +117,54 @@ module _ (following : List ℕ) (f : Frame) (fs : List Frame) (mem : Memory) whe
   if_own true at k s = refl
   if_own false at k s = refl
 
-  read_own : (kind : Kind) (v : Option Cell) (at : ℕ) (k : Keeps) (s : Stack) → reads following kind v at k s f fs mem ≡ over mem (reads following kind v at k s f fs no_memory)
+  read_own : (kind : Kind) (v : Option Cell) (at : ℕ) (k : Keeps) (s : Stack) → reads following kind v (asker at k s f fs mem) ≡ over mem (reads following kind v (asker at k s f fs no_memory))
   read_own kind None at k s = refl
   read_own kind (Some v) at k s = if_own (is_of kind v) at k (v ∷ s)
 
   write_own : (there : Bool) (r : Root) (c : ℕ) (vs : List Cell) (at : ℕ) (k : Keeps) (s : Stack) → is_of_frame r ≡ true →
-      writes following there (record { root = r; cell = c }) vs at k s f fs mem ≡ over mem (writes following there (record { root = r; cell = c }) vs at k s f fs no_memory)
+      writes following there (record { root = r; cell = c }) vs (asker at k s f fs mem) ≡ over mem (writes following there (record { root = r; cell = c }) vs (asker at k s f fs no_memory))
   write_own true (FrameRoot d) c vs at k s e = refl
   write_own true (ModuleRoot m) c vs at k s e = absurd (cc e)
   write_own true (ObjectRoot o) c vs at k s e = absurd (cc e)
   write_own false r c vs at k s e = refl
 
   copy_own : (vs : Option (List Cell)) (there : Bool) (r : Root) (c : ℕ) (at : ℕ) (k : Keeps) (s : Stack) → is_of_frame r ≡ true →
-      copies following vs there (record { root = r; cell = c }) at k s f fs mem ≡ over mem (copies following vs there (record { root = r; cell = c }) at k s f fs no_memory)
+      copies following vs there (record { root = r; cell = c }) (asker at k s f fs mem) ≡ over mem (copies following vs there (record { root = r; cell = c }) (asker at k s f fs no_memory))
   copy_own None there r c at k s e = refl
   copy_own (Some vs) there r c at k s e = write_own there r c vs at k s e
 
   store_text_own : (t : Option (List ℕ)) (r : Root) (c : ℕ) (x y : Rooted (List Cell)) (at : ℕ) (k : Keeps) (s : Stack) → is_of_frame r ≡ true → at_root r x ≡ at_root r y →
-      stores_text following t (record { root = r; cell = c }) x at k s f fs mem ≡ over mem (stores_text following t (record { root = r; cell = c }) y at k s f fs no_memory)
+      stores_text following t (record { root = r; cell = c }) x (asker at k s f fs mem) ≡ over mem (stores_text following t (record { root = r; cell = c }) y (asker at k s f fs no_memory))
   store_text_own None r c x y at k s e h = refl
   store_text_own (Some cs) r c x y at k s e h =
-      ap (λ (o : Option (List Cell)). writes following (is_some (option_and_then (if_all (length cs)) (option_map (λ cells. take (length cs) (drop c cells)) o))) (record { root = r; cell = c }) (character_cells following cs) at k s f fs mem) h
+      ap (λ (o : Option (List Cell)). writes following (is_some (option_and_then (if_all (length cs)) (option_map (λ cells. take (length cs) (drop c cells)) o))) (record { root = r; cell = c }) (character_cells following cs) (asker at k s f fs mem)) h
       ∙ write_own (is_some (cells_at (length cs) (record { root = r; cell = c }) y)) r c (character_cells following cs) at k s e
 
   put_text_own : (strict : Bool) (t : Option (List ℕ)) (room : Option ℕ) (r : Root) (c : ℕ) (x y : Rooted (List Cell)) (at : ℕ) (k : Keeps) (s : Stack) → is_of_frame r ≡ true → at_root r x ≡ at_root r y →
-      puts_text following strict t room (record { root = r; cell = c }) x at k s f fs mem ≡ over mem (puts_text following strict t room (record { root = r; cell = c }) y at k s f fs no_memory)
+      puts_text following (fitted_in following strict t room) (record { root = r; cell = c }) x (asker at k s f fs mem) ≡ over mem (puts_text following (fitted_in following strict t room) (record { root = r; cell = c }) y (asker at k s f fs no_memory))
   put_text_own strict None room r c x y at k s e h = refl
   put_text_own strict (Some cs) None r c x y at k s e h = refl
   put_text_own strict (Some cs) (Some room) r c x y at k s e h = store_text_own (fitted following strict room cs) r c x y at k s e h
 
-  compare_own : (o : Relation) (a b : Option (List ℕ)) (at : ℕ) (k : Keeps) (s : Stack) → compares following o a b at k s f fs mem ≡ over mem (compares following o a b at k s f fs no_memory)
+  compare_own : (o : Relation) (a b : Option (List ℕ)) (at : ℕ) (k : Keeps) (s : Stack) → compares following o a b (asker at k s f fs mem) ≡ over mem (compares following o a b (asker at k s f fs no_memory))
   compare_own o (Some a) (Some b) at k s = refl
   compare_own o (Some a) None at k s = refl
   compare_own o None b at k s = refl
 
-  enter_own : (deep : Bool) (g : Frame) (at : ℕ) (k : Keeps) (s : Stack) → enters following deep g at k s f fs mem ≡ over mem (enters following deep g at k s f fs no_memory)
+  enter_own : (deep : Bool) (g : Frame) (at : ℕ) (k : Keeps) (s : Stack) → enters following deep g (asker at k s f fs mem) ≡ over mem (enters following deep g (asker at k s f fs no_memory))
   enter_own true g at k s = refl
   enter_own false g at k s = refl
 
-  call_with_own : (p o : ℕ) (shape : ProcShape) (h : Option (Handed following)) (at : ℕ) (k : Keeps) (s : Stack) → calls_with following p o shape h at k s f fs mem ≡ over mem (calls_with following p o shape h at k s f fs no_memory)
+  call_with_own : (p o : ℕ) (shape : ProcShape) (h : Option (Handed following)) (at : ℕ) (k : Keeps) (s : Stack) → calls_with following (option_map (called_frame following p o shape) h) (asker at k s f fs mem) ≡ over mem (calls_with following (option_map (called_frame following p o shape) h) (asker at k s f fs no_memory))
   call_with_own p o shape None at k s = refl
   call_with_own p o shape (Some h) at k s = enter_own (is_deep following (called_frame following p o shape h) (f ∷ fs)) (called_frame following p o shape h) at k s
 
-  call_own : (shape : Option ProcShape) (p : ℕ) (vs : List Cell) (at : ℕ) (k : Keeps) (s : Stack) → calls_own shape vs ≡ true → calls following shape p vs at k s f fs mem ≡ over mem (calls following shape p vs at k s f fs no_memory)
+  call_own : (shape : Option ProcShape) (p : ℕ) (vs : List Cell) (at : ℕ) (k : Keeps) (s : Stack) → calls_own shape vs ≡ true → calls following shape p vs (asker at k s f fs mem) ≡ over mem (calls following shape p vs (asker at k s f fs no_memory))
   call_own None p vs at k s e = refl
   call_own (Some shape) p vs at k s e =
       let o = object_of shape.method vs in
       let ws = arguments_of shape.method vs in
-      ap (λ h. calls_with following p o shape h at k s f fs mem) (handed_own following (suc (length fs)) (f ∷ fs) mem shape.params.items ws (length shape.kinds.items) e)
+      ap (λ h. calls_with following (option_map (called_frame following p o shape) h) (asker at k s f fs mem)) (handed_own following (suc (length fs)) (f ∷ fs) mem shape.params.items ws (length shape.kinds.items) e)
       ∙ call_with_own p o shape (handed following (suc (length fs)) (rooted (f ∷ fs) no_memory) shape.params.items ws (length shape.kinds.items)) at k s
 
   text_own : (r : Root) (c : ℕ) (n : Cell) → is_of_frame r ≡ true → text_at following (record { root = r; cell = c }) n (rooted (f ∷ fs) mem) ≡ text_at following (record { root = r; cell = c }) n (rooted (f ∷ fs) no_memory)
@@ -177,26 +177,26 @@ module _ (following : List ℕ) (f : Frame) (fs : List Frame) (mem : Memory) whe
   load_own : (r : Root) (c : ℕ) → is_of_frame r ≡ true → load r c (rooted (f ∷ fs) mem) ≡ load r c (rooted (f ∷ fs) no_memory)
   load_own r c e = ap (λ (o : Option (List Cell)). option_and_then (λ cells. slice_get cells c) o) (root_own r (f ∷ fs) mem e)
 
-  answer_own : (shapes : List ProcShape) (types : List TypeDesc) (q : Question) (at : ℕ) (k : Keeps) (s : Stack) → is_own shapes q ≡ true → answer following shapes types q at k s f fs mem ≡ over mem (answer following shapes types q at k s f fs no_memory)
+  answer_own : (shapes : List ProcShape) (types : List TypeDesc) (q : Question) (at : ℕ) (k : Keeps) (s : Stack) → is_own shapes q ≡ true → answer following shapes types q (asker at k s f fs mem) ≡ over mem (answer following shapes types q (asker at k s f fs no_memory))
   answer_own shapes types (Reads kind a) at k s e =
-      ap (λ v. reads following kind v at k s f fs mem) (load_own a.root a.cell e) ∙ read_own kind (load a.root a.cell (rooted (f ∷ fs) no_memory)) at k s
+      ap (λ v. reads following kind v (asker at k s f fs mem)) (load_own a.root a.cell e) ∙ read_own kind (load a.root a.cell (rooted (f ∷ fs) no_memory)) at k s
   answer_own shapes types (Stores a v) at k s e =
-      ap (λ o. writes following (is_some o) a (v ∷ []) at k s f fs mem) (load_own a.root a.cell e) ∙ write_own (is_some (load a.root a.cell (rooted (f ∷ fs) no_memory))) a.root a.cell (v ∷ []) at k s e
+      ap (λ o. writes following (is_some o) a (v ∷ []) (asker at k s f fs mem)) (load_own a.root a.cell e) ∙ write_own (is_some (load a.root a.cell (rooted (f ∷ fs) no_memory))) a.root a.cell (v ∷ []) at k s e
   answer_own shapes types (Copies n from to) at k s e =
       let b = both_true (is_of_frame from.root) (is_of_frame to.root) e in
       let x = cells_own from.root from.cell n b.0 in
       let y = cells_own to.root to.cell n b.1 in
-      (λ i. copies following (x i) (is_some (y i)) to at k s f fs mem)
+      (λ i. copies following (x i) (is_some (y i)) to (asker at k s f fs mem))
       ∙ copy_own (cells_at n from (rooted (f ∷ fs) no_memory)) (is_some (cells_at n to (rooted (f ∷ fs) no_memory))) to.root to.cell at k s b.1
   answer_own shapes types (PutsText strict from n to room) at k s e =
       let b = both_true (is_of_frame from.root) (is_of_frame to.root) e in
-      ap (λ t. puts_text following strict t (length_in following room) to (rooted (f ∷ fs) mem) at k s f fs mem) (text_own from.root from.cell n b.0)
+      ap (λ t. puts_text following (fitted_in following strict t (length_in following room)) to (rooted (f ∷ fs) mem) (asker at k s f fs mem)) (text_own from.root from.cell n b.0)
       ∙ put_text_own strict (text_at following from n (rooted (f ∷ fs) no_memory)) (length_in following room) to.root to.cell (rooted (f ∷ fs) mem) (rooted (f ∷ fs) no_memory) at k s b.1 (root_own to.root (f ∷ fs) mem b.1)
   answer_own shapes types (ComparesTexts o a n c m) at k s e =
       let b = both_true (is_of_frame a.root) (is_of_frame c.root) e in
       let x = text_own a.root a.cell n b.0 in
       let y = text_own c.root c.cell m b.1 in
-      (λ i. compares following o (x i) (y i) at k s f fs mem) ∙ compare_own o (text_at following a n (rooted (f ∷ fs) no_memory)) (text_at following c m (rooted (f ∷ fs) no_memory)) at k s
+      (λ i. compares following o (x i) (y i) (asker at k s f fs mem)) ∙ compare_own o (text_at following a n (rooted (f ∷ fs) no_memory)) (text_at following c m (rooted (f ∷ fs) no_memory)) at k s
   answer_own shapes types (Calls how p vs) at k s e = call_own (numbered shapes p) p vs at k s e
   answer_own shapes types (Ends result) at k s e = refl
   answer_own shapes types (Makes t vs) at k s e = absurd (cc e)
@@ -221,13 +221,13 @@ module _ (following : List ℕ) (f : Frame) (fs : List Frame) (mem : Memory) whe
   finds_own shapes types (Starts v) e = absurd (cc e)
   finds_own shapes types q e = refl
 
-  works_own : (shapes : List ProcShape) (types : List TypeDesc) (found : Bool) (q : Question) (at : ℕ) (k : Keeps) (s : Stack) → is_own shapes q ≡ true → works following shapes types found q at k s f fs mem ≡ over mem (works following shapes types found q at k s f fs no_memory)
+  works_own : (shapes : List ProcShape) (types : List TypeDesc) (found : Bool) (q : Question) (at : ℕ) (k : Keeps) (s : Stack) → is_own shapes q ≡ true → works following shapes types found q (asker at k s f fs mem) ≡ over mem (works following shapes types found q (asker at k s f fs no_memory))
   works_own shapes types true q at k s e = answer_own shapes types q at k s e
   works_own shapes types false q at k s e = refl
 
   goes_own : (shapes : List ProcShape) (types : List TypeDesc) (stop : Stop) → is_own_stop shapes stop ≡ true → goes following shapes types stop f fs mem ≡ over mem (goes following shapes types stop f fs no_memory)
   goes_own shapes types (Work q at k s) e =
-      ap (λ b. works following shapes types b q at k s f fs mem) (finds_own shapes types q e) ∙ works_own shapes types (finds types q f no_memory) q at k s e
+      ap (λ b. works following shapes types b q (asker at k s f fs mem)) (finds_own shapes types q e) ∙ works_own shapes types (finds types q f no_memory) q at k s e
   goes_own shapes types (Ended (Begins at p s) k) e = refl
   goes_own shapes types (Ended (Fails n c) k) e = absurd (cc e)
   goes_own shapes types (Ended (Decides a) k) e = absurd (cc e)

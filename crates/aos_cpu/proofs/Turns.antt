@@ -20,7 +20,7 @@ use Rattle.aos_code.specs.declared.image.TypeDesc.{TypeDesc}
 use Rattle.aos_code.specs.Memory.{Memory, Addr, has_room}
 use Rattle.aos_code.specs.Numbered.{numbered}
 use Rattle.aos_code.specs.Silent.{Stack, Keeps, Question, Begins, Fails, Decides, Stop, Work, Ended, is_of}
-use Rattle.aos_code.specs.Machine.{here_of, object_of, arguments_of, Frame, Frames, Turned, Handed, rooted, cells_at, written, leaves, goes_on, reads, writes, copies, ends, prints, writes_out, makes, makes_with, makes_of, numbers_in, in_rows, first_cell, made_in, starts, stores_text, fitted, puts_text, compares, is_deep, enters, calls_with, calls, handed, called_frame, answer, goes, text_at, length_in, code_in, before as before_it, own_lock, lock_in, works, finds, opens, regions_of, opened, opened_by, past, past_all, past_stop, is_passed, code_of, stop_of, turn, turn_at, behind, home_of, position, position_in, position_or, lowest_home, or_below}
+use Rattle.aos_code.specs.Machine.{asker, fitted_in, here_of, object_of, arguments_of, Frame, Frames, Turned, Handed, rooted, cells_at, written, leaves, goes_on, reads, writes, copies, ends, prints, writes_out, makes, makes_with, makes_of, numbers_in, in_rows, first_cell, made_in, starts, stores_text, fitted, puts_text, compares, is_deep, enters, calls_with, calls, handed, called_frame, answer, goes, text_at, length_in, code_in, before as before_it, own_lock, lock_in, works, finds, opens, regions_of, opened, opened_by, past, past_all, past_stop, is_passed, code_of, stop_of, turn, turn_at, behind, home_of, position, position_in, position_or, lowest_home, or_below}
 use Rattle.aos_store.specs.declared.frames.Frame.{Frame as KeptFrame}
 use Rattle.aos_store.specs.declared.frames.Frames.{Frames as KeptFrames}
 use Rattle.aos_store.specs.Store.{frame_in, list_in, frames_in}
@@ -170,42 +170,42 @@ module _ (image : Image) (following : List ℕ) (g : Frame) (n : ℕ) (k' : Keep
   if_both q true t e = same q t e
   if_both q false t e = lost q 16 0
 
-  read_both : (q : Question) (kind : Kind) (v : Option Cell) (at : ℕ) (k : Keeps) (s : Stack) → Both image q (reads following kind v at k s f' fs mem) (reads following kind v at k s g fs mem)
+  read_both : (q : Question) (kind : Kind) (v : Option Cell) (at : ℕ) (k : Keeps) (s : Stack) → Both image q (reads following kind v (asker at k s f' fs mem)) (reads following kind v (asker at k s g fs mem))
   read_both q kind None at k s = lost q 16 0
   read_both q kind (Some v) at k s = if_both q (is_of kind v) (goes_on following (behind following at k (v ∷ s) g ∷ fs) mem) refl
 
-  write_both : (q : Question) (there : Bool) (a : Addr) (vs : List Cell) (at : ℕ) (k : Keeps) (s : Stack) → Both image q (writes following there a vs at k s f' fs mem) (writes following there a vs at k s g fs mem)
+  write_both : (q : Question) (there : Bool) (a : Addr) (vs : List Cell) (at : ℕ) (k : Keeps) (s : Stack) → Both image q (writes following there a vs (asker at k s f' fs mem)) (writes following there a vs (asker at k s g fs mem))
   write_both q true a vs at k s = same q _ refl
   write_both q false a vs at k s = lost q 16 0
 
-  copy_both : (q : Question) (vs : Option (List Cell)) (there : Bool) (a : Addr) (at : ℕ) (k : Keeps) (s : Stack) → Both image q (copies following vs there a at k s f' fs mem) (copies following vs there a at k s g fs mem)
+  copy_both : (q : Question) (vs : Option (List Cell)) (there : Bool) (a : Addr) (at : ℕ) (k : Keeps) (s : Stack) → Both image q (copies following vs there a (asker at k s f' fs mem)) (copies following vs there a (asker at k s g fs mem))
   copy_both q None there a at k s = lost q 16 0
   copy_both q (Some vs) there a at k s = write_both q there a vs at k s
 
-  print_both : (q : Question) (v : Option (List ℕ)) (at : ℕ) (k : Keeps) (s : Stack) → Both image q (prints following v at k s f' fs mem) (prints following v at k s g fs mem)
+  print_both : (q : Question) (v : Option (List ℕ)) (at : ℕ) (k : Keeps) (s : Stack) → Both image q (prints following v (asker at k s f' fs mem)) (prints following v (asker at k s g fs mem))
   print_both q None at k s = lost q 14 0
   print_both q (Some bytes) at k s = same q _ refl
 
-  out_both : (q : Question) (v : Option (List ℕ)) (at : ℕ) (k : Keeps) (s : Stack) → Both image q (writes_out following v at k s f' fs mem) (writes_out following v at k s g fs mem)
+  out_both : (q : Question) (v : Option (List ℕ)) (at : ℕ) (k : Keeps) (s : Stack) → Both image q (writes_out following v (asker at k s f' fs mem)) (writes_out following v (asker at k s g fs mem))
   out_both q None at k s = lost q 16 0
   out_both q (Some bytes) at k s = same q _ refl
 
-  make_both : (q : Question) (room : Bool) (m : Made) (cells : List Cell) (at : ℕ) (k : Keeps) (s : Stack) → Both image q (makes following room m cells at k s f' fs mem) (makes following room m cells at k s g fs mem)
+  make_both : (q : Question) (room : Bool) (m : Made) (cells : List Cell) (at : ℕ) (k : Keeps) (s : Stack) → Both image q (makes following room m cells (asker at k s f' fs mem)) (makes following room m cells (asker at k s g fs mem))
   make_both q true m cells at k s = same q _ refl
   make_both q false m cells at k s = lost q 12 0
 
-  make_with_both : (q : Question) (ns : Option (List ℕ)) (t : ℕ) (d : TypeDesc) (at : ℕ) (k : Keeps) (s : Stack) → Both image q (makes_with following ns t d at k s f' fs mem) (makes_with following ns t d at k s g fs mem)
+  make_with_both : (q : Question) (ns : Option (List ℕ)) (t : ℕ) (d : TypeDesc) (at : ℕ) (k : Keeps) (s : Stack) → Both image q (makes_with following ns t d (asker at k s f' fs mem)) (makes_with following ns t d (asker at k s g fs mem))
   make_with_both q None t d at k s = lost q 15 0
   make_with_both q (Some ns) t d at k s =
       let m : Made = record { type = t; lengths = ns } in
       let cells = in_rows following ns (map first_cell d.kinds.items) in make_both q (has_room m cells mem) m cells at k s
 
-  make_of_both : (q : Question) (d : Option TypeDesc) (zs : Option (List ℤ)) (t at : ℕ) (k : Keeps) (s : Stack) → Both image q (makes_of following d zs t at k s f' fs mem) (makes_of following d zs t at k s g fs mem)
+  make_of_both : (q : Question) (d : Option TypeDesc) (zs : Option (List ℤ)) (t at : ℕ) (k : Keeps) (s : Stack) → Both image q (makes_of following d zs t (asker at k s f' fs mem)) (makes_of following d zs t (asker at k s g fs mem))
   make_of_both q None zs t at k s = lost q 16 0
   make_of_both q (Some d) None t at k s = lost q 16 0
   make_of_both q (Some d) (Some zs) t at k s = make_with_both q (array_lengths zs) t d at k s
 
-  start_both : (v : Cell) (at : ℕ) (k : Keeps) (s : Stack) → Both image (Starts v) (starts following v at k s f' fs mem) (starts following v at k s g fs mem)
+  start_both : (v : Cell) (at : ℕ) (k : Keeps) (s : Stack) → Both image (Starts v) (starts following v (asker at k s f' fs mem)) (starts following v (asker at k s g fs mem))
   start_both (Ref zero) at k s = lost _ 16 0
   start_both (Ref (suc o)) at k s =
       record { similar = similar_is image _ _ refl; asks = refl }
@@ -223,34 +223,34 @@ module _ (image : Image) (following : List ℕ) (g : Frame) (n : ℕ) (k' : Keep
   lock_both q work shape at k s asks =
       record { similar = similar_is image _ _ (ap (λ l. leaves following (work l) (before_it following at k s g ∷ fs) mem) (lock_same shape)); asks = asks }
 
-  store_text_both : (q : Question) (t : Option (List ℕ)) (to : Addr) (x : Rooted (List Cell)) (at : ℕ) (k : Keeps) (s : Stack) → Both image q (stores_text following t to x at k s f' fs mem) (stores_text following t to x at k s g fs mem)
+  store_text_both : (q : Question) (t : Option (List ℕ)) (to : Addr) (x : Rooted (List Cell)) (at : ℕ) (k : Keeps) (s : Stack) → Both image q (stores_text following t to x (asker at k s f' fs mem)) (stores_text following t to x (asker at k s g fs mem))
   store_text_both q None to x at k s = lost q 15 0
   store_text_both q (Some cs) to x at k s = write_both q _ to _ at k s
 
-  put_text_both : (q : Question) (strict : Bool) (t : Option (List ℕ)) (room : Option ℕ) (to : Addr) (x : Rooted (List Cell)) (at : ℕ) (k : Keeps) (s : Stack) → Both image q (puts_text following strict t room to x at k s f' fs mem) (puts_text following strict t room to x at k s g fs mem)
+  put_text_both : (q : Question) (strict : Bool) (t : Option (List ℕ)) (room : Option ℕ) (to : Addr) (x : Rooted (List Cell)) (at : ℕ) (k : Keeps) (s : Stack) → Both image q (puts_text following (fitted_in following strict t room) to x (asker at k s f' fs mem)) (puts_text following (fitted_in following strict t room) to x (asker at k s g fs mem))
   put_text_both q strict None room to x at k s = lost q 16 0
   put_text_both q strict (Some cs) None to x at k s = lost q 16 0
   put_text_both q strict (Some cs) (Some room) to x at k s = store_text_both q (fitted following strict room cs) to x at k s
 
-  compare_both : (q : Question) (r : Relation) (a b : Option (List ℕ)) (at : ℕ) (k : Keeps) (s : Stack) → Both image q (compares following r a b at k s f' fs mem) (compares following r a b at k s g fs mem)
+  compare_both : (q : Question) (r : Relation) (a b : Option (List ℕ)) (at : ℕ) (k : Keeps) (s : Stack) → Both image q (compares following r a b (asker at k s f' fs mem)) (compares following r a b (asker at k s g fs mem))
   compare_both q r (Some a) (Some b) at k s = same q _ refl
   compare_both q r (Some a) None at k s = lost q 16 0
   compare_both q r None b at k s = lost q 16 0
 
-  enter_both : (q : Question) (deep : Bool) (x : Frame) (at : ℕ) (k : Keeps) (s : Stack) → Both image q (enters following deep x at k s f' fs mem) (enters following deep x at k s g fs mem)
+  enter_both : (q : Question) (deep : Bool) (x : Frame) (at : ℕ) (k : Keeps) (s : Stack) → Both image q (enters following deep x (asker at k s f' fs mem)) (enters following deep x (asker at k s g fs mem))
   enter_both q true x at k s = lost q 11 0
   enter_both q false x at k s = same q _ refl
 
-  call_with_both : (q : Question) (p o : ℕ) (shape : ProcShape) (x : Option (Handed following)) (at : ℕ) (k : Keeps) (s : Stack) → Both image q (calls_with following p o shape x at k s f' fs mem) (calls_with following p o shape x at k s g fs mem)
+  call_with_both : (q : Question) (p o : ℕ) (shape : ProcShape) (x : Option (Handed following)) (at : ℕ) (k : Keeps) (s : Stack) → Both image q (calls_with following (option_map (called_frame following p o shape) x) (asker at k s f' fs mem)) (calls_with following (option_map (called_frame following p o shape) x) (asker at k s g fs mem))
   call_with_both q p o shape None at k s = lost q 16 0
   call_with_both q p o shape (Some x) at k s = enter_both q (is_deep following (called_frame following p o shape x) (g ∷ fs)) (called_frame following p o shape x) at k s
 
-  call_both : (q : Question) (shape : Option ProcShape) (p : ℕ) (vs : List Cell) (at : ℕ) (k : Keeps) (s : Stack) → Both image q (calls following shape p vs at k s f' fs mem) (calls following shape p vs at k s g fs mem)
+  call_both : (q : Question) (shape : Option ProcShape) (p : ℕ) (vs : List Cell) (at : ℕ) (k : Keeps) (s : Stack) → Both image q (calls following shape p vs (asker at k s f' fs mem)) (calls following shape p vs (asker at k s g fs mem))
   call_both q None p vs at k s = lost q 16 0
   call_both q (Some shape) p vs at k s =
       call_with_both q p (object_of shape.method vs) shape (handed following (suc (length fs)) (rooted (g ∷ fs) mem) shape.params.items (arguments_of shape.method vs) (length shape.kinds.items)) at k s
 
-  pub answer_both : (q : Question) (at : ℕ) (k : Keeps) (s : Stack) → Both image q (answer following image.shapes.items image.types.items q at k s f' fs mem) (answer following image.shapes.items image.types.items q at k s g fs mem)
+  pub answer_both : (q : Question) (at : ℕ) (k : Keeps) (s : Stack) → Both image q (answer following image.shapes.items image.types.items q (asker at k s f' fs mem)) (answer following image.shapes.items image.types.items q (asker at k s g fs mem))
   answer_both (Reads kind a) at k s = read_both (Reads kind a) kind (load a.root a.cell (rooted (g ∷ fs) mem)) at k s
   answer_both (Stores a v) at k s = write_both (Stores a v) (is_some (load a.root a.cell (rooted (g ∷ fs) mem))) a (v ∷ []) at k s
   answer_both (Copies m from to) at k s =
@@ -283,13 +283,13 @@ module _ (image : Image) (following : List ℕ) (g : Frame) (n : ℕ) (k' : Keep
   found_same q = refl
 
   works_alike : (found : Bool) (q : Question) (at : ℕ) (k : Keeps) (s : Stack) →
-      Similar image (works following image.shapes.items image.types.items found q at k s f' fs mem) (works following image.shapes.items image.types.items found q at k s g fs mem)
+      Similar image (works following image.shapes.items image.types.items found q (asker at k s f' fs mem)) (works following image.shapes.items image.types.items found q (asker at k s g fs mem))
   works_alike true q at k s = (answer_both q at k s).similar
   works_alike false q at k s = lost_alike 16 0
 
   pub goes_alike : (stop : Stop) → Similar image (goes following image.shapes.items image.types.items stop f' fs mem) (goes following image.shapes.items image.types.items stop g fs mem)
   goes_alike (Work q at k s) =
-      subst (λ b. Similar image (works following image.shapes.items image.types.items b q at k s f' fs mem) (works following image.shapes.items image.types.items (finds image.types.items q g mem) q at k s g fs mem))
+      subst (λ b. Similar image (works following image.shapes.items image.types.items b q (asker at k s f' fs mem)) (works following image.shapes.items image.types.items (finds image.types.items q g mem) q (asker at k s g fs mem)))
       (sym (found_same q)) (works_alike (finds image.types.items q g mem) q at k s)
   goes_alike (Ended (Begins at p s) k) = similar_is image _ _ refl
   goes_alike (Ended (Fails c d) k) = lost_alike c d
@@ -390,7 +390,7 @@ worked image q at old new mem mem' did before after stands found answered e = by
         let following = reverse old.following.items in
         subst (λ (l : List Frame). Shown image (turn image mem (record { following = following; frames = l })) did old new mem' before after) (sym is)
         (subst (λ (y : Stop). Shown image (goes following image.shapes.items image.types.items y f fs mem) did old new mem' before after) (sym x.0)
-        (subst (λ b. Shown image (works following image.shapes.items image.types.items b (question_in q f.stack) at f.keeps (drop (operands_of q) f.stack) f fs mem) did old new mem' before after) (sym (found f fs is))
+        (subst (λ b. Shown image (works following image.shapes.items image.types.items b (question_in q f.stack) (asker at f.keeps (drop (operands_of q) f.stack) f fs mem)) did old new mem' before after) (sym (found f fs is))
         (shown_made image _ false did old new mem' before after (answered f fs is) e)))
 
 -- what the code keeps of a question has as many operands
@@ -462,19 +462,19 @@ work_left image following f fs mem (Work q at k s) did is e =
     found (finds image.types.items q f mem) e
   where
     -- the same of the question that is asked
-    stands_for : (w : Did) (asked : Question) → q ≡ asked → ((answer following image.shapes.items image.types.items asked at k s f fs mem).left ≡ w → stop_of image (made_in image mem) f fs ≡ Work asked at k s →
-        StandsAtWork image w (answer following image.shapes.items image.types.items asked at k s f fs mem).frames.frames) → (answer following image.shapes.items image.types.items q at k s f fs mem).left ≡ w →
-        StandsAtWork image w (answer following image.shapes.items image.types.items q at k s f fs mem).frames.frames
+    stands_for : (w : Did) (asked : Question) → q ≡ asked → ((answer following image.shapes.items image.types.items asked (asker at k s f fs mem)).left ≡ w → stop_of image (made_in image mem) f fs ≡ Work asked at k s →
+        StandsAtWork image w (answer following image.shapes.items image.types.items asked (asker at k s f fs mem)).frames.frames) → (answer following image.shapes.items image.types.items q (asker at k s f fs mem)).left ≡ w →
+        StandsAtWork image w (answer following image.shapes.items image.types.items q (asker at k s f fs mem)).frames.frames
     stands_for w asked asks h left =
-        subst (λ (x : Question). StandsAtWork image w (answer following image.shapes.items image.types.items x at k s f fs mem).frames.frames) (sym asks)
-        (h (ap (λ (x : Question). (answer following image.shapes.items image.types.items x at k s f fs mem).left) (sym asks) ∙ left) (is ∙ ap (λ x. Work x at k s) asks))
+        subst (λ (x : Question). StandsAtWork image w (answer following image.shapes.items image.types.items x (asker at k s f fs mem)).frames.frames) (sym asks)
+        (h (ap (λ (x : Question). (answer following image.shapes.items image.types.items x (asker at k s f fs mem)).left) (sym asks) ∙ left) (is ∙ ap (λ x. Work x at k s) asks))
 
-    start_at : (o : ℕ) → (answer following image.shapes.items image.types.items (Starts (Ref o)) at k s f fs mem).left ≡ Start o → stop_of image (made_in image mem) f fs ≡ Work (Starts (Ref o)) at k s →
-        StandsAtWork image (Start o) (answer following image.shapes.items image.types.items (Starts (Ref o)) at k s f fs mem).frames.frames
+    start_at : (o : ℕ) → (answer following image.shapes.items image.types.items (Starts (Ref o)) (asker at k s f fs mem)).left ≡ Start o → stop_of image (made_in image mem) f fs ≡ Work (Starts (Ref o)) at k s →
+        StandsAtWork image (Start o) (answer following image.shapes.items image.types.items (Starts (Ref o)) (asker at k s f fs mem)).frames.frames
     start_at zero e stops = absurd (cc e)
     start_at (suc o) e stops = standing image mem f fs at k s (Starts (Ref (suc o))) refl stops
 
-    by : (w : Did) → (answer following image.shapes.items image.types.items q at k s f fs mem).left ≡ w → AsksFor q w → StandsAtWork image w (answer following image.shapes.items image.types.items q at k s f fs mem).frames.frames
+    by : (w : Did) → (answer following image.shapes.items image.types.items q (asker at k s f fs mem)).left ≡ w → AsksFor q w → StandsAtWork image w (answer following image.shapes.items image.types.items q (asker at k s f fs mem)).frames.frames
     by (Start o) left asks = stands_for (Start o) (Starts (Ref o)) asks (start_at o) left
     by (Enter l) left asks = stands_for (Enter l) Enters asks (λ x stops. standing image mem f fs at k s Enters refl stops) left
     by (Leave l) left asks = stands_for (Leave l) Leaves asks (λ x stops. standing image mem f fs at k s Leaves refl stops) left
@@ -483,7 +483,7 @@ work_left image following f fs mem (Work q at k s) did is e =
     by (Await l c) left asks = stands_for (Await l c) (Awaits c) asks (λ x stops. standing image mem f fs at k s (Awaits c) refl stops) left
     by (Trapped n c) left asks = tt
 
-    found : (b : Bool) → (works following image.shapes.items image.types.items b q at k s f fs mem).left ≡ did → StandsAtWork image did (works following image.shapes.items image.types.items b q at k s f fs mem).frames.frames
+    found : (b : Bool) → (works following image.shapes.items image.types.items b q (asker at k s f fs mem)).left ≡ did → StandsAtWork image did (works following image.shapes.items image.types.items b q (asker at k s f fs mem)).frames.frames
     found true e = by did e (subst (AsksFor q) e (answer_both image following f f.next f.keeps f.stack fs mem (λ all knows. refl) q at k s).asks)
     found false e = subst (λ (w : Did). StandsAtWork image w (f ∷ fs)) e tt
 work_left image following f fs mem (Ended (Begins at p s) k) did is e = subst (λ (w : Did). StandsAtWork image w (begun_at at p (record f { stack = s; keeps = k }) ∷ fs)) e tt

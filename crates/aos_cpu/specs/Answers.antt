@@ -8,7 +8,7 @@ use Rattle.aos_code.specs.declared.image.ProcShape.{ProcShape}
 use Rattle.aos_code.specs.declared.image.TypeDesc.{TypeDesc}
 use Rattle.aos_code.specs.Memory.{Memory}
 use Rattle.aos_code.specs.Silent.{Stack, Question}
-use Rattle.aos_code.specs.Machine.{Frame, Frames, Turned, behind, answer, code_in, fitted}
+use Rattle.aos_code.specs.Machine.{asker, Frame, Frames, Turned, behind, answer, code_in, fitted}
 use Rattle.aos_store.specs.declared.frames.Frames.{Frames as KeptFrames}
 use Rattle.aos_store.specs.Store.{list_in, frames_in}
 
@@ -24,7 +24,7 @@ pub record Made (t : Turned) (does_begin : Bool) (did : Did) (fs : Frames) (mem 
 abbrev pub IsAnswered : Question → (at taken : ℕ) → (old new : KeptFrames) → (old_memory new_memory : Memory) → Did → (before after : List ℕ) → Type 0
 IsAnswered q at taken old new old_memory new_memory did before after =
     (shapes : List ProcShape) (types : List TypeDesc) (f : Frame) (fs : List Frame) → list_in old.list.items ≡ f ∷ fs →
-    Made (answer (reverse old.following.items) shapes types q at f.keeps (drop taken f.stack) f fs old_memory) false did (frames_in new) new_memory before after
+    Made (answer (reverse old.following.items) shapes types q (asker at f.keeps (drop taken f.stack) f fs old_memory)) false did (frames_in new) new_memory before after
 
 -- the topmost frame goes on behind an instruction, with these operands in place of so many
 abbrev pub IsBehind : (at taken : ℕ) → Stack → (old new : KeptFrames) → Type 0

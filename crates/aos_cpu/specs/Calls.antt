@@ -11,7 +11,7 @@ use Rattle.aos_code.specs.declared.image.ParamKind.TheVariants as param
 use Rattle.aos_code.specs.declared.image.ProcShape.{ProcShape}
 use Rattle.aos_code.specs.Memory.{Memory}
 use Rattle.aos_code.specs.Silent.{cells_of}
-use Rattle.aos_code.specs.Machine.{Frame, behind, calls, first_cell, whole_at, lengths_in}
+use Rattle.aos_code.specs.Machine.{asker, Frame, behind, calls, first_cell, whole_at, lengths_in}
 use Rattle.aos_store.specs.declared.frames.Frames.{Frames as KeptFrames}
 use Rattle.aos_store.specs.Store.{list_in, frames_in}
 use Rattle.aos_silent.specs.declared.act.Way.{Way}
@@ -97,4 +97,4 @@ may_pass Free method = true
 abbrev pub IsCalled : Option ProcShape → (procedure : ℕ) → Way → (count at : ℕ) → (old new : KeptFrames) → Memory → Did → List ℕ → Type 0
 IsCalled shape p way count at old new mem did out =
     (f : Frame) (fs : List Frame) → list_in old.list.items ≡ f ∷ fs →
-    Made (calls (reverse old.following.items) shape p (passed way (reverse (take count f.stack))) at f.keeps (drop count f.stack) f fs mem) false did (frames_in new) mem out out
+    Made (calls (reverse old.following.items) shape p (passed way (reverse (take count f.stack))) (asker at f.keeps (drop count f.stack) f fs mem)) false did (frames_in new) mem out out

@@ -6,7 +6,7 @@ use Rattle.aos_base.specs.Number.{array_lengths}
 use Rattle.aos_code.specs.declared.instr.Cell.{Cell}
 use Rattle.aos_code.specs.declared.image.TypeDesc.{TypeDesc}
 use Rattle.aos_code.specs.Memory.{Memory}
-use Rattle.aos_code.specs.Machine.{Frame, numbers_in, makes_with, makes_of}
+use Rattle.aos_code.specs.Machine.{asker, Frame, numbers_in, makes_with, makes_of}
 use Rattle.aos_store.specs.declared.frames.Frames.{Frames as KeptFrames}
 use Rattle.aos_store.specs.Store.{list_in, frames_in}
 use Rattle.aos_cpu.specs.declared.makes.Lengths.{Lengths}
@@ -28,10 +28,10 @@ AreLengths vs (Are lengths) = HasLengths vs lengths.items
 abbrev pub IsMade : Option TypeDesc → (type count at : ℕ) → (old new : KeptFrames) → (old_memory new_memory : Memory) → Did → List ℕ → Type 0
 IsMade desc t count at old new old_memory new_memory did out =
     (f : Frame) (fs : List Frame) → list_in old.list.items ≡ f ∷ fs →
-    Made (makes_of (reverse old.following.items) desc (numbers_in (reverse old.following.items) (reverse (take count f.stack))) t at f.keeps (drop count f.stack) f fs old_memory) false did (frames_in new) new_memory out out
+    Made (makes_of (reverse old.following.items) desc (numbers_in (reverse old.following.items) (reverse (take count f.stack))) t (asker at f.keeps (drop count f.stack) f fs old_memory)) false did (frames_in new) new_memory out out
 
 -- with these lengths
 abbrev pub IsMadeWith : List ℕ → TypeDesc → (type count at : ℕ) → (old new : KeptFrames) → (old_memory new_memory : Memory) → Did → List ℕ → Type 0
 IsMadeWith ns desc t count at old new old_memory new_memory did out =
     list_all (λ n. nat_le n 16777216) ns ≡ true → (f : Frame) (fs : List Frame) → list_in old.list.items ≡ f ∷ fs →
-    Made (makes_with (reverse old.following.items) (Some ns) t desc at f.keeps (drop count f.stack) f fs old_memory) false did (frames_in new) new_memory out out
+    Made (makes_with (reverse old.following.items) (Some ns) t desc (asker at f.keeps (drop count f.stack) f fs old_memory)) false did (frames_in new) new_memory out out

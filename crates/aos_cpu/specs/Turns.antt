@@ -10,7 +10,7 @@ use Rattle.aos_code.specs.declared.instr.Cell.TheVariants.{Ref}
 use Rattle.aos_code.specs.declared.image.Image.{Image}
 use Rattle.aos_code.specs.Memory.{Memory}
 use Rattle.aos_code.specs.Silent.{Question, Work}
-use Rattle.aos_code.specs.Machine.{Frame, Frames, Turned, opened, lowest_home, made_in, stop_of, turn, answer}
+use Rattle.aos_code.specs.Machine.{asker, Frame, Frames, Turned, opened, lowest_home, made_in, stop_of, turn, answer}
 use Rattle.aos_store.specs.declared.frames.Frames.{Frames as KeptFrames}
 use Rattle.aos_store.specs.Store.{list_in, frames_in}
 use Rattle.aos_silent.specs.declared.act.Question.{Question as KeptQuestion}
@@ -142,7 +142,7 @@ WhereLeft (Trapped n c) P = P
 abbrev pub HasAnswered : Image → KeptQuestion → (at : ℕ) → (old new : KeptFrames) → (old_memory new_memory : Memory) → Did → (before after : List ℕ) → Type 0
 HasAnswered image q at old new old_memory new_memory did before after =
     (f : Frame) (fs : List Frame) → list_in old.list.items ≡ f ∷ fs →
-    HasMade (answer (reverse old.following.items) image.shapes.items image.types.items (question_in q f.stack) at f.keeps (drop (operands_of q) f.stack) f fs old_memory) false did (frames_in new) new_memory before after
+    HasMade (answer (reverse old.following.items) image.shapes.items image.types.items (question_in q f.stack) (asker at f.keeps (drop (operands_of q) f.stack) f fs old_memory)) false did (frames_in new) new_memory before after
 
 -- the topmost frame stands at this place; where it asks for the start of an activity, the object is its topmost operand
 abbrev pub Stands : KeptQuestion → (at : ℕ) → KeptFrames → Type 0

@@ -20,7 +20,7 @@ use Rattle.aos_typed.specs.Text.{text_in, fitted}
 use Rattle.aos_typed.specs.Value.{Value, Int, Flag, Char, Set, Object, Callable, Place, number_of, is_true}
 use Rattle.aos_typed.specs.Store.{Store, has_room, made_in}
 use Rattle.aos_typed.specs.Meaning.{Question, Doing, Item, Do, Rounds, Round, Until, Region, End, Gives, After, Into, Exits, Returns, leave, leave_all, item_of, pos_of, value_of}
-use Rattle.aos_typed.specs.Source.{Frame, Turned, here_of, lock_of, locks_in, answered, done, all_rooted, goes_on, leaves, begins, writes, prints, makes, starts, awaits, copies, stores_text, is_deep, enters, called_frame, calls, makes_with, first_value, made_shape, answer, tests, finishes, settles, goes, item_turn, turn_at, calm, noted, written, ends}
+use Rattle.aos_typed.specs.Source.{top, copied, Frame, Turned, here_of, lock_of, locks_in, answered, done, all_rooted, goes_on, leaves, begins, writes, prints, makes, starts, awaits, copies, stores_text, is_deep, enters, called_frame, calls, makes_with, first_value, made_shape, answer, tests, finishes, settles, goes, item_turn, turn_at, calm, noted, written, ends}
 use Rattle.aos_sim.proofs.Does.{IsVisible, IsCalm, calm_seen, feed_noted, feed_noted_bind}
 use Rattle.aos_sim.proofs.Runs.{feed-append}
 use Rattle.aos_handover.specs.Kinds.{follow, settled_work, written_by, MakesNone, CallsNone, told_as, HasCome, IsAsking, so_far, IsNext, Stood, Followed, AnotherRound, Repeated, Behind, Stands, HasHad, Rests, Begins, GoesOn, Tested, IsStored, OneScalar, OneWhole, OneText, AtEnd, AtResult, Nowhere, Kind, Settled, Stopped, Left, Popped, Told, Written, Stored, Created, Called}
@@ -40,7 +40,7 @@ module _ (p : Program) (following : List ℕ) (s : Store) (f : Frame) (fs : List
       told : MakesNone q → CallsNone p q → Is (goes_on following (answered (told_as seen q) g ∷ fs) s)
       told none absent = Told g q none absent stands asks (record { store_is = refl; frames_are = refl; output_is = refl; left_is = refl })
 
-      prints_kind : (o : Option (List ℕ)) → written_by (all_rooted (g ∷ fs) s) q ≡ o → Is (prints following o g fs s)
+      prints_kind : (o : Option (List ℕ)) → written_by (all_rooted (g ∷ fs) s) q ≡ o → Is (prints following o (top g fs s))
       prints_kind None is = stopped 14 0
       prints_kind (Some bytes) is = Written g q bytes stands asks is (record { store_is = refl; frames_are = refl; output_is = refl; left_is = refl })
 
@@ -54,29 +54,29 @@ module _ (p : Program) (following : List ℕ) (s : Store) (f : Frame) (fs : List
       abbrev content : List ℕ → Content Value
       content ns = first_content (first_value p) (made_shape p.types (made ns))
 
-      makes_kind : (room : Bool) (ns : List ℕ) → array_lengths (map number_of vs) ≡ Some ns → has_room (made ns) (content ns) s ≡ room → Is (makes following room (made ns) (content ns) g fs s)
+      makes_kind : (room : Bool) (ns : List ℕ) → array_lengths (map number_of vs) ≡ Some ns → has_room (made ns) (content ns) s ≡ room → Is (makes following room (made ns) (content ns) (top g fs s))
       makes_kind true ns are room = Created g t vs ns stands asks are room (record { store_is = refl; frames_are = refl; output_is = refl; left_is = refl })
       makes_kind false ns are room = stopped 12 0
 
-      makes_with_kind : (ns : Option (List ℕ)) → array_lengths (map number_of vs) ≡ ns → Is (makes_with p following ns t g fs s)
+      makes_with_kind : (ns : Option (List ℕ)) → array_lengths (map number_of vs) ≡ ns → Is (makes_with p following ns t (top g fs s))
       makes_with_kind None are = stopped 15 0
       makes_with_kind (Some ns) are = makes_kind (has_room (made ns) (content ns) s) ns are refl
 
     module _ (t : TType) (from to : Spot) (asks : IsAsking p g fs (Copies t from to)) where
-      copies_kind : (new old : Option (Content Value)) → read from.root from.path (all_rooted (g ∷ fs) s) ≡ new → read to.root to.path (all_rooted (g ∷ fs) s) ≡ old → Is (copies following (variable_shape p.types (id_of t)) new old to (answered done g ∷ fs) s)
+      copies_kind : (new old : Option (Content Value)) → read from.root from.path (all_rooted (g ∷ fs) s) ≡ new → read to.root to.path (all_rooted (g ∷ fs) s) ≡ old → Is (copies following (copied (variable_shape p.types (id_of t)) new old) to (top g fs s))
       copies_kind (Some new) (Some old) e e' = stored (Copies t from to) asks to.root _ (OneWhole t from to new old e e')
       copies_kind (Some new) None e e' = told (Copies t from to) asks tt tt
       copies_kind None old e e' = told (Copies t from to) asks tt tt
 
     module _ (strict : Bool) (from : Spot) (n : Value) (to : Spot) (room : Value) (asks : IsAsking p g fs (PutsText strict from n to room)) where
       stores_text_kind : (text : Option (List ℕ)) (old : Option (Content Value)) → fitted strict (unsigned_abs (number_of room)) (text_in (read from.root from.path (all_rooted (g ∷ fs) s))) ≡ text → read to.root to.path (all_rooted (g ∷ fs) s) ≡ old →
-          Is (stores_text following text old to g fs s)
+          Is (stores_text following text old to (top g fs s))
       stores_text_kind None old fits e = stopped 15 0
       stores_text_kind (Some cs) None fits e = told (PutsText strict from n to room) asks tt tt
       stores_text_kind (Some cs) (Some old) fits e = stored (PutsText strict from n to room) asks to.root _ (OneText strict from n to room cs old fits e)
 
     module _ (how : Manner) (n : ℕ) (vs : List Value) (asks : IsAsking p g fs (Calls how n vs)) where
-      calls_kind : (r : Option Routine) → by_number n (routines p) ≡ r → Is (calls p following r vs g fs s)
+      calls_kind : (r : Option Routine) → by_number n (routines p) ≡ r → Is (calls p following r vs (top g fs s))
       calls_kind None there = told (Calls how n vs) asks tt there
       calls_kind (Some r) there = by (is_deep following (called_frame p following r vs (g ∷ fs) s) (g ∷ fs)) refl
         where
@@ -84,7 +84,7 @@ module _ (p : Program) (following : List ℕ) (s : Store) (f : Frame) (fs : List
           by true is = stopped 11 0
           by false is = Called g how n vs r stands asks there is (record { store_is = refl; frames_are = refl; output_is = refl; left_is = refl })
 
-    starts_kind : (v : Value) → IsAsking p g fs (Starts v) → Is (starts following v g fs s)
+    starts_kind : (v : Value) → IsAsking p g fs (Starts v) → Is (starts following v (top g fs s))
     starts_kind (Object zero) asks = told (Starts (Object zero)) asks tt tt
     starts_kind (Object (suc k)) asks = Left g (Starts (Object (suc k))) (Start (suc k)) stands asks (k, refl, refl) (record { store_is = refl; frames_are = refl; output_is = refl; left_is = refl })
     starts_kind (Int z) asks = told (Starts (Int z)) asks tt tt
@@ -94,11 +94,11 @@ module _ (p : Program) (following : List ℕ) (s : Store) (f : Frame) (fs : List
     starts_kind (Callable k o) asks = told (Starts (Callable k o)) asks tt tt
     starts_kind (Place x) asks = told (Starts (Place x)) asks tt tt
 
-    awaits_kind : (c : ℕ) → IsAsking p g fs (Awaits c) → (ls : List LockName) → locks_in (lock_of g) g.items ≡ ls → Is (awaits following ls c g fs s)
+    awaits_kind : (c : ℕ) → IsAsking p g fs (Awaits c) → (ls : List LockName) → locks_in (lock_of g) g.items ≡ ls → Is (awaits following ls c (top g fs s))
     awaits_kind c asks [] e = told (Awaits c) asks tt tt
     awaits_kind c asks (l ∷ ls) e = Left g (Awaits c) (Await l c) stands asks (l, ls, e, refl) (record { store_is = refl; frames_are = refl; output_is = refl; left_is = refl })
 
-    answer_kind : (q : Question) → IsVisible q → IsAsking p g fs q → Is (answer p following q g fs s)
+    answer_kind : (q : Question) → IsVisible q → IsAsking p g fs q → Is (answer p following q (top g fs s))
     answer_kind (Reads t x) visible asks = told (Reads t x) asks tt tt
     answer_kind (Stores x v) visible asks = stored (Stores x v) asks x.root (placed x.path (Scalar v)) (OneScalar x v)
     answer_kind (Makes t vs) visible asks = makes_with_kind t vs asks (array_lengths (map number_of vs)) refl
@@ -152,11 +152,11 @@ module _ (p : Program) (following : List ℕ) (s : Store) (f : Frame) (fs : List
         Settled (record f { at = Some at; items = i ∷ is; answers = Some [] }) (record { same = record { is = refl }; had = Begins i is next }) (inr refl)
         (record { store_is = refl; frames_are = refl; output_is = refl; left_is = refl })
 
-    finishes_kind : IsNext p s f fs [] → (function : Bool) → f.gives ≡ function → Is (finishes p following function g fs s)
+    finishes_kind : IsNext p s f fs [] → (function : Bool) → f.gives ≡ function → Is (finishes p following function (top g fs s))
     finishes_kind next true e = stopped g stands 10 0
     finishes_kind next false e = Popped None (AtEnd next e) (record { store_is = refl; frames_are = refl; output_is = refl; left_is = refl })
 
-    settles_kind : (is : List Item) → IsNext p s f fs is → Is (settles p following is g fs s)
+    settles_kind : (is : List Item) → IsNext p s f fs is → Is (settles p following is (top g fs s))
     settles_kind [] next = finishes_kind next f.gives refl
     settles_kind (Do st ∷ is) next = settled (pos_of st) (Do st) is next
     settles_kind (Rounds at w q last step b ∷ is) next = settled at (Rounds at w q last step b) is next
@@ -189,11 +189,11 @@ module _ (p : Program) (following : List ℕ) (s : Store) (f : Frame) (fs : List
               is = feed_noted_bind p.types (made_in s) f.variables on test ∙ ap (λ d. bind d on) e';
             }
 
-        by : ((v : Value) → calm p.types (made_in s) f.variables test ≡ Val v → is_true v ≡ true → Is (settles p following is g fs s)) → (left : Doing Value) → calm p.types (made_in s) f.variables test ≡ left →
-            Is (tests p following left (settles p following is g fs s) (begins following at (Do (Repeat at b e) ∷ is) g fs s) begun fs s)
+        by : ((v : Value) → calm p.types (made_in s) f.variables test ≡ Val v → is_true v ≡ true → Is (settles p following is (top g fs s))) → (left : Doing Value) → calm p.types (made_in s) f.variables test ≡ left →
+            Is (tests p following left (settles p following is (top g fs s)) (begins following at (Do (Repeat at b e) ∷ is) (top g fs s)) (top begun fs s))
         by behind (Val v) e' = chosen (is_true v) refl
           where
-            chosen : (c : Bool) → is_true v ≡ c → Is (if c then settles p following is g fs s else begins following at (Do (Repeat at b e) ∷ is) g fs s)
+            chosen : (c : Bool) → is_true v ≡ c → Is (if c then settles p following is (top g fs s) else begins following at (Do (Repeat at b e) ∷ is) (top g fs s))
             chosen true t = behind v e' t
             chosen false t = settled at (Do (Repeat at b e)) is (Repeated at b e is v next e' t)
         by behind (Asks q k) e' = answer_kind begun so q (subst IsCalm e' (calm_seen p.types (made_in s) f.variables test)) (_, come (Asks q k) e')
@@ -202,7 +202,7 @@ module _ (p : Program) (following : List ℕ) (s : Store) (f : Frame) (fs : List
     settles_kind (End ∷ is) next = rests (End ∷ is) next
     settles_kind (Gives r ∷ is) next = ends_kind r is next
 
-  item_kind : (answers : Option (List Value)) (is : List Item) → f.answers ≡ answers → f.items ≡ is → Is (item_turn p following answers is f fs s)
+  item_kind : (answers : Option (List Value)) (is : List Item) → f.answers ≡ answers → f.items ≡ is → Is (item_turn p following answers is (top f fs s))
   item_kind None is had e = settles_kind f.answers (subst (HasHad p s f fs f.items) (sym had) (Rests f.items (Stood had))) is (subst (IsNext p s f fs) e (Stood had))
   item_kind (Some vs) [] had e = Popped None (Nowhere vs had e) (record { store_is = refl; frames_are = refl; output_is = refl; left_is = refl })
   item_kind (Some vs) (i ∷ is) had e = by (calm p.types (made_in s) f.variables left) refl
@@ -233,7 +233,7 @@ module _ (p : Program) (following : List ℕ) (s : Store) (f : Frame) (fs : List
       next : (a : After) → calm p.types (made_in s) f.variables left ≡ Val a → IsNext p s f fs (follow a is)
       next a e' = Followed i is vs a e had (let c = come (Val a) e' in c.is)
 
-      by : (d : Doing After) → calm p.types (made_in s) f.variables left ≡ d → Is (goes p following d is now fs s)
+      by : (d : Doing After) → calm p.types (made_in s) f.variables left ≡ d → Is (goes p following d is (top now fs s))
       by (Val (Into js)) e' = settles_kind (Some all) goes_on (js ++ is) (next (Into js) e')
       by (Val Exits) e' = settles_kind (Some all) goes_on (leave is) (next Exits e')
       by (Val (Returns r)) e' = settles_kind (Some all) goes_on (leave_all r is) (next (Returns r) e')

@@ -17,7 +17,7 @@ use Rattle.aos_typed.specs.Routines.{Routine, gives, has_self, locals_of, parame
 use Rattle.aos_typed.specs.Sort.{Sort, Plain, Variable, Alias, variable_shape}
 use Rattle.aos_typed.specs.Store.{Store, made_in}
 use Rattle.aos_typed.specs.Value.{Value, Int, Place, is_true}
-use Rattle.aos_typed.specs.Meaning.{Here, Question, Doing, Item, Do, Rounds, Round, Until, Region, End, Gives, After, Into, Exits, Returns, leave, leave_all, item_of, value_of}
+use Rattle.aos_typed.specs.Meaning.{Here, Question, Doing, Item, Do, Rounds, Round, Until, Region, End, Gives, After, Into, item_of, value_of}
 use Rattle.aos_typed.specs.Source.{Frame, all_rooted, answered, arguments_in, called_frame, here_of, local_part, noted, told}
 use Rattle.aos_sim.proofs.Does.{HasTypes, Given, Handles, IsSelf, self_grows}
 use Rattle.aos_uses.specs.Guarded.{IsGuarded, Spares}
@@ -33,6 +33,7 @@ use Rattle.aos_lasting.specs.Spots.{AreFreeFor, AreTold, IsFree, IsTold, Serves}
 use Rattle.aos_lasting.proofs.Copies.{HoldCopies, handed_copies}
 use Rattle.aos_lasting.proofs.Law.{Law, value_law}
 use Rattle.aos_lasting.proofs.Statements.{AfterServes, ItemsServe, ResultServes, item_law, spared}
+use Rattle.aos_handover.proofs.Items.{follow_gives, first_gives, rest_gives}
 use Rattle.aos_lasting.proofs.Told.{all_told_grow, content_more, free_grows, free_simply, items_grow, law_fed, noted_alone, noted_told, plain_free, told_more}
 
 module _ (p : Program) (typed : HasTypes p) where
@@ -95,49 +96,14 @@ module _ (p : Program) (typed : HasTypes p) where
     abbrev Ok : List Item → Type 0
     Ok is = ItemsServe p typed made n r is
 
-    both_serve : (js is : List Item) → Ok js → Ok is → Ok (js ++ is)
-    both_serve [] is h k = k
-    both_serve (Do st ∷ js) is h k = both_serve js is h k
-    both_serve (Rounds at w q last step b ∷ js) is h k = both_serve js is h k
-    both_serve (Round st ∷ js) is h k = both_serve js is h k
-    both_serve (Until at b e ∷ js) is h k = both_serve js is h k
-    both_serve (Region ss ∷ js) is h k = both_serve js is h k
-    both_serve (End ∷ js) is h k = both_serve js is h k
-    both_serve (Gives v ∷ js) is h k = (h.0, both_serve js is h.1 k)
-
-    leave_serves : (is : List Item) → Ok is → Ok (leave is)
-    leave_serves [] h = h
-    leave_serves (Do st ∷ is) h = leave_serves is h
-    leave_serves (Rounds at w q last step b ∷ is) h = leave_serves is h
-    leave_serves (Round st ∷ is) h = h
-    leave_serves (Until at b e ∷ is) h = leave_serves is h
-    leave_serves (Region ss ∷ is) h = leave_serves is h
-    leave_serves (End ∷ is) h = leave_serves is h
-    leave_serves (Gives v ∷ is) h = (h.0, tt)
-
-    leave_all_serves : (v : Option Value) (is : List Item) → ResultServes p typed made n r v → Ok (leave_all v is)
-    leave_all_serves v [] h = (h, tt)
-    leave_all_serves v (Do st ∷ is) h = leave_all_serves v is h
-    leave_all_serves v (Rounds at w q last step b ∷ is) h = leave_all_serves v is h
-    leave_all_serves v (Round st ∷ is) h = leave_all_serves v is h
-    leave_all_serves v (Until at b e ∷ is) h = leave_all_serves v is h
-    leave_all_serves v (Region ss ∷ is) h = leave_all_serves v is h
-    leave_all_serves v (End ∷ is) h = leave_all_serves v is h
-    leave_all_serves v (Gives u ∷ is) h = (h, tt)
+    abbrev Result : Option Value → Type 0
+    Result v = ResultServes p typed made n r v
 
     follow_serves : (after : After) (is : List Item) → AfterServes p typed made n r after → Ok is → Ok (follow after is)
-    follow_serves (Into js) is h k = both_serve js is h k
-    follow_serves Exits is h k = leave_serves is k
-    follow_serves (Returns v) is h k = leave_all_serves v is h
+    follow_serves after is h k = follow_gives Result after is h k
 
     first_serves : (i : Item) (is : List Item) → Ok (i ∷ is) → Ok (i ∷ [])
-    first_serves (Do st) is h = tt
-    first_serves (Rounds at w q last step b) is h = tt
-    first_serves (Round st) is h = tt
-    first_serves (Until at b e) is h = tt
-    first_serves (Region ss) is h = tt
-    first_serves End is h = tt
-    first_serves (Gives v) is h = (h.0, tt)
+    first_serves i is h = first_gives Result i is h
 
   -- one more answer
   pub answer_told : (made : ℕ → Option Made) (own : Option Procedure) (g : Frame) (gs : List Frame) (q : Question) (asks : IsAsking p g gs q) (v : Value) → IsTold p made own q v → AreAnswers made own (here_of g gs) g.answers g.items → AreAnswers made own (here_of g gs) (told v g.answers) g.items
@@ -221,16 +187,7 @@ module _ (p : Program) (typed : HasTypes p) where
         let items = subst (ItemsServe p typed made n r) e k.items in
         let law = item_may i is (subst (ItemsFine p n r) e fine) items in
         let all = law_fed p typed made n r here k.self (has_mark is) S (λ u h. h) (AfterServes p typed made n r) (so_far p s f fs i vs) (item_of p here i) law (told_so_far i is vs e had) in
-        follow_serves made n r after is (subst (LawAt (has_mark is) (AfterServes p typed made n r)) come all) (rest i is items)
-      where
-        rest : (i : Item) (is : List Item) → ItemsServe p typed made n r (i ∷ is) → ItemsServe p typed made n r is
-        rest (Do st) is h = h
-        rest (Rounds at w q last step b) is h = h
-        rest (Round st) is h = h
-        rest (Until at b c) is h = h
-        rest (Region ss) is h = h
-        rest End is h = h
-        rest (Gives v) is h = h.1
+        follow_serves made n r after is (subst (LawAt (has_mark is) (AfterServes p typed made n r)) come all) (rest_gives (ResultServes p typed made n r) i is items)
     next_serves _ (AnotherRound st is next) = next_serves (Round st ∷ is) next
     next_serves _ (Repeated at b e is v next come t) = next_serves (Until at b e ∷ is) next
     next_serves _ (Behind at b e is v next come t) = next_serves (Until at b e ∷ is) next

@@ -16,11 +16,11 @@ use Rattle.aos_typed.specs.declared.tree.TType.TheVariants.{Integer, Boolean, Ch
 use Rattle.aos_typed.specs.Conditions.{IsLinked, conditions}
 use Rattle.aos_typed.specs.Methods.{method_number, method_in, body_type, initializer, is_active}
 use Rattle.aos_typed.specs.Numbers.{body_number}
-use Rattle.aos_typed.specs.Program.{Rows, Procedure, Place, Arguments, Expr, Read, Stat, Assign, Copy, PutText, If, Case, While, Repeat, Loop, Exit, For, Block, Await, Assert, Halt, Change, Perform, Return, New, Make, With, WithRecord, Out, Stats, Nothing, Then, Arms, Otherwise, Arm, Cases, NoElse, Else, OfLabels, Call, Open, Char as CharCall, Int as IntCall, String, Ln, Program}
+use Rattle.aos_typed.specs.Program.{Rows, Procedure, Place, Arguments, Expr, Read, Stat, Assign, Copy, PutText, If, Case, While, Repeat, Loop, Exit, For, Block, Await, Assert, Halt, Change, Perform, Return, New, Make, With, WithRecord, Out, Stats, Arms, Otherwise, Arm, Cases, NoElse, Else, OfLabels, Call, Open, Char as CharCall, Int as IntCall, String, Ln, Program}
 use Rattle.aos_typed.specs.Routines.{has_self, self_type, Routine, result_of}
 use Rattle.aos_typed.specs.Value.{Value, number_of, is_true, given, binary_sort}
 use Rattle.aos_typed.specs.WellTyped.{IsPlaceOf, IsOf, AreRows, IsInitialized, IsReturn, IsCall, IsStatement, AreArms, AreLengthsOf, amount_type}
-use Rattle.aos_typed.specs.Meaning.{Found, Here, Doing, Item, Do, Rounds, Round, Until, Region, End, Gives as GivesItem, After, Into, Exits, Returns, items_of, block_items, is_in, place_of, rows_of, value_of, values_of, arguments_of, called, changed, case_of, arms_of, out_of, stat_of, item_of, initialized, carried_out, until, next_value}
+use Rattle.aos_typed.specs.Meaning.{Found, Here, Doing, Item, Do, Rounds, Round, Until, Region, End, Gives as GivesItem, After, Into, Returns, items_of, block_items, is_in, place_of, rows_of, value_of, values_of, arguments_of, called, changed, case_of, arms_of, out_of, stat_of, item_of, initialized, carried_out, until, next_value}
 use Rattle.aos_typed.specs.Source.{arguments_in}
 use Rattle.aos_sim.proofs.Changes.{includes_itself}
 use Rattle.aos_uses.specs.declared.uses.Use.{Use}
@@ -31,6 +31,8 @@ use Rattle.aos_uses.specs.Uses.{arms_uses, arguments_uses, cases_uses, expr_uses
 use Rattle.aos_lasting.proofs.Law.{Law, law_bind, law_more, value_law, place_law, rows_law, arguments_law, call_law, AreSpared, IsWritten, RowsAt, Gives, given_law, handed_to, agree_same, method_stands, at_number, flags_of}
 use Rattle.aos_lasting.specs.Spots.{IsAt, IsFree, Serves, AreFreeFor}
 use Rattle.aos_naming.specs.Items.{item_uses, IsText, AreFine}
+use Rattle.aos_handover.specs.Items.{ItemsGive, AfterGives}
+use Rattle.aos_handover.proofs.Items.{text_gives, items_give, block_gives}
 use Rattle.aos_naming.proofs.Items.{part}
 use Rattle.aos_sim.proofs.Does.{IsSelf, HasTypes}
 use Rattle.aos_base.specs.Rooted.{Made}
@@ -44,31 +46,19 @@ module _ (p : Program) (typed : HasTypes p) (made : ℕ → Option Made) (n : �
   ResultServes (Some v) = (t : TType) → result_of r.own ≡ Some t → Serves p made t v
 
   abbrev pub ItemsServe : List Item → Type 0
-  ItemsServe [] = Unit {0}
-  ItemsServe (Do s ∷ is) = ItemsServe is
-  ItemsServe (Rounds at w q last step b ∷ is) = ItemsServe is
-  ItemsServe (Round s ∷ is) = ItemsServe is
-  ItemsServe (Until at b e ∷ is) = ItemsServe is
-  ItemsServe (Region ss ∷ is) = ItemsServe is
-  ItemsServe (End ∷ is) = ItemsServe is
-  ItemsServe (GivesItem v ∷ is) = ResultServes v × ItemsServe is
+  ItemsServe is = ItemsGive ResultServes is
 
   abbrev pub AfterServes : After → Type 0
-  AfterServes (Into js) = ItemsServe js
-  AfterServes Exits = Unit {0}
-  AfterServes (Returns v) = ResultServes v
+  AfterServes a = AfterGives ResultServes a
 
   pub text_serves : (ss : Stats) (is : List Item) → ItemsServe is → ItemsServe (items_of ss ++ is)
-  text_serves Nothing is h = h
-  text_serves (Then s ss) is h = text_serves ss is h
+  text_serves ss is h = text_gives ResultServes ss is h
 
   pub items_serve : (ss : Stats) → ItemsServe (items_of ss)
-  items_serve Nothing = tt
-  items_serve (Then s ss) = items_serve ss
+  items_serve ss = items_give ResultServes ss
 
   pub block_serves : (exclusive : Bool) (ss : Stats) → ItemsServe (block_items exclusive ss)
-  block_serves true ss = tt
-  block_serves false ss = items_serve ss
+  block_serves exclusive ss = block_gives ResultServes exclusive ss
 
   -- uses that are fine are spared
   pub spared : (us : List Use) → AreFine p n r us → Each (λ u. (v : Variable) → IsGuarded p v → Spares p v n r u) us

@@ -16,7 +16,7 @@ use Rattle.aos_typed.specs.Sort.{Sort, Plain}
 use Rattle.aos_typed.specs.Spot.{Spot}
 use Rattle.aos_typed.specs.Typing.{Is}
 use Rattle.aos_typed.specs.Value.{Value, Int, Flag, Char, Set, Object, Callable, Place}
-use Rattle.aos_typed.specs.Meaning.{Here, Question, Doing, Item, Do, Rounds, Round, Until, Region, End, Gives, object_in, procedure_in}
+use Rattle.aos_typed.specs.Meaning.{Here, Question, Doing, Item, object_in, procedure_in}
 use Rattle.aos_typed.specs.Source.{known, length_in, object_place, has_type_in, noted, type_in}
 use Rattle.aos_sim.proofs.Does.{HasTypes, IsSelf, bind_val}
 use Rattle.aos_uses.specs.Guarded.{IsGuarded, Spares}
@@ -28,6 +28,7 @@ use Rattle.aos_lasting.specs.Spots.{IsFree, IsFreeAt, IsMadeFor, IsTold, AreTold
 use Rattle.aos_lasting.proofs.Copies.{HoldCopies, IsNoPlace, known_copied, no_place}
 use Rattle.aos_lasting.proofs.Law.{Law}
 use Rattle.aos_lasting.proofs.Statements.{ResultServes, ItemsServe}
+use Rattle.aos_handover.proofs.Items.{items_also_give}
 
 -- what holds of all values of a content, where what held of them is enough for it
 pub content_more : (C D : Value → Type 0) → ((v : Value) → C v → D v) → (c : Content Value) → ContentIs C c → ContentIs D c
@@ -189,11 +190,4 @@ module _ (p : Program) (made made' : ℕ → Option Made) (up : (o : ℕ) (m : M
     result_grows (Some v) h = λ t e. serves_grow t v (h t e)
 
     pub items_grow : (is : List Item) → ItemsServe p typed made n r is → ItemsServe p typed made' n r is
-    items_grow [] h = tt
-    items_grow (Do s ∷ is) h = items_grow is h
-    items_grow (Rounds at w q last step b ∷ is) h = items_grow is h
-    items_grow (Round s ∷ is) h = items_grow is h
-    items_grow (Until at b e ∷ is) h = items_grow is h
-    items_grow (Region ss ∷ is) h = items_grow is h
-    items_grow (End ∷ is) h = items_grow is h
-    items_grow (Gives v ∷ is) h = (result_grows v h.0, items_grow is h.1)
+    items_grow is h = items_also_give (ResultServes p typed made n r) (ResultServes p typed made' n r) result_grows is h

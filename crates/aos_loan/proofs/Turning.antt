@@ -20,11 +20,10 @@ use Rattle.aos_cpu.proofs.Growing.{turn_grows}
 use Rattle.aos_concurrency.specs.Orderly.{Orderly}
 use Rattle.aos_concurrency.specs.Private.{steps, tallied, GoesOn, settled, begun_by, front, NoneOf}
 use Rattle.aos_concurrency.proofs.Lent.{execution_lent}
-use Rattle.aos_concurrency.proofs.Settles.{goes_on}
+use Rattle.aos_concurrency.proofs.Settles.{settle_at, goes_on}
 use Rattle.aos_settling.specs.Settling.{ArePrivateAt, IsTallied}
 use Rattle.aos_loan.specs.Loans.{Lending, begun_in, IsMadeOf, IsLoanOf}
 use Rattle.aos_settling.proofs.Stores.{execution_store}
-use Rattle.aos_settling.proofs.Settling.{settle_at}
 use Rattle.aos_settling.proofs.Tallies.{is_tallied}
 
 module _ (image : Image) (made : List Made) where

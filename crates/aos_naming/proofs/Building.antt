@@ -11,7 +11,7 @@ use Rattle.aos_typed.specs.Program.{Repeat, Program}
 use Rattle.aos_typed.specs.Routines.{has_self, routines, Routine}
 use Rattle.aos_typed.specs.Value.{Value, Object, is_true}
 use Rattle.aos_typed.specs.Store.{with_object, store_with, new_number, Store, made_in}
-use Rattle.aos_typed.specs.Meaning.{Here, Question, Doing, Item, Do, Rounds, Round, Until, Region, End, Gives as GivesItem, After, Into, item_of, object_in, value_of}
+use Rattle.aos_typed.specs.Meaning.{Here, Question, Doing, Item, Do, Until, After, Into, item_of, object_in, value_of}
 use Rattle.aos_typed.specs.Source.{Turned, length_in, known, done, called_frame, self_of, made_shape, first_value, has_type_in, object_place, Frame, here_of, answered, calm, frames_with, noted, told, with_result}
 use Rattle.aos_uses.specs.Uses.{expr_uses, stats_uses}
 use Rattle.aos_uses.specs.Guarded.{IsQuiet, Keeps}
@@ -19,7 +19,8 @@ use Rattle.aos_sim.proofs.Does.{feed_noted, feed_noted_bind}
 use Rattle.aos_sim.proofs.Runs.{feed-append}
 use Rattle.aos_handover.specs.Kinds.{Told, answer_in, OneText, OneWhole, OneScalar, IsStored, written_by, MakesNone, Called, Created, Stored, Written, Popped, Left, Stopped, Settled, Kind, so_far, HasCome, IsAsking, HasHad, Rests, Begins, GoesOn, Tested, Stands, HasNotAsked}
 use Rattle.aos_naming.specs.Items.{has_mark, item_uses, ItemsFine}
-use Rattle.aos_naming.specs.Naming.{ContentIs, AllAre, AnswersAre, ItemsAre, FrameIs, FramesAre, VariablesAre, IsOther, SelvesOther, HideAll, IsOf, StandsOnAll, AreOf, Pends, Inside, Builds}
+use Rattle.aos_naming.specs.Naming.{ContentIs, AllAre, AnswersAre, ResultIs, FrameIs, FramesAre, VariablesAre, IsOther, SelvesOther, HideAll, IsOf, StandsOnAll, AreOf, Pends, Inside, Builds}
+use Rattle.aos_handover.proofs.Items.{all_give}
 use Rattle.aos_naming.proofs.Items.{body_fine, part}
 use Rattle.aos_naming.proofs.Names.{HasNames}
 use Rattle.aos_naming.proofs.Telling.{Tells, IsAsked, tells_fed, value_tells}
@@ -42,19 +43,12 @@ any_answers : (a : Option (List Value)) → AnswersAre Any a
 any_answers None = tt
 any_answers (Some vs) = any_all vs
 
-any_items : (is : List Item) → ItemsAre Any is
-any_items [] = tt
-any_items (Do s ∷ is) = any_items is
-any_items (Rounds at w q last step b ∷ is) = any_items is
-any_items (Round s ∷ is) = any_items is
-any_items (Until at b e ∷ is) = any_items is
-any_items (Region ss ∷ is) = any_items is
-any_items (End ∷ is) = any_items is
-any_items (GivesItem None ∷ is) = (tt, any_items is)
-any_items (GivesItem (Some v) ∷ is) = (tt, any_items is)
+any_result : (r : Option Value) → ResultIs Any r
+any_result None = tt
+any_result (Some v) = tt
 
 pub any_frame : (f : Frame) → FrameIs Any f
-any_frame f = record { variables = any_content f.variables; items = any_items f.items; answers = any_answers f.answers }
+any_frame f = record { variables = any_content f.variables; items = all_give (ResultIs Any) any_result f.items; answers = any_answers f.answers }
 
 -- Frames that differ in their variables alone.
 

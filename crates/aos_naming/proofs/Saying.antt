@@ -14,11 +14,11 @@ use Rattle.aos_typed.specs.declared.tree.TType.{TType}
 use Rattle.aos_typed.specs.declared.tree.TType.TheVariants.{Integer, Boolean, Char, Named}
 use Rattle.aos_typed.specs.Methods.{body_type, initializer, is_active}
 use Rattle.aos_typed.specs.Numbers.{body_number}
-use Rattle.aos_typed.specs.Program.{Place, Arguments, Expr, Read, Stat, Assign, Copy, PutText, If, Case, While, Repeat, Loop, Exit, For, Block, Await, Assert, Halt, Change, Perform, Return, New, Make, With, WithRecord, Out, Stats, Nothing, Then, Arms, Otherwise, Arm, Cases, NoElse, Else, OfLabels, Call, Open, Char as CharCall, Int as IntCall, String, Ln, Program}
+use Rattle.aos_typed.specs.Program.{Place, Arguments, Expr, Read, Stat, Assign, Copy, PutText, If, Case, While, Repeat, Loop, Exit, For, Block, Await, Assert, Halt, Change, Perform, Return, New, Make, With, WithRecord, Out, Stats, Arms, Otherwise, Arm, Cases, NoElse, Else, OfLabels, Call, Open, Char as CharCall, Int as IntCall, String, Ln, Program}
 use Rattle.aos_typed.specs.Routines.{Routine, result_of}
 use Rattle.aos_typed.specs.Value.{Value, Object, number_of, is_true, given, binary_sort}
 use Rattle.aos_typed.specs.WellTyped.{IsPlaceOf, IsOf, AreRows, IsInitialized, IsReturn, IsCall, IsStatement, AreArms, AreLengthsOf, amount_type}
-use Rattle.aos_typed.specs.Meaning.{Here, Question, Doing, Item, Do, Rounds, Round, Until, Region, End, Gives, After, Into, Exits, Returns, items_of, block_items, is_in, place_of, rows_of, value_of, values_of, arguments_of, called, changed, case_of, arms_of, out_of, stat_of, item_of, initialized, carried_out, until, next_value}
+use Rattle.aos_typed.specs.Meaning.{Here, Question, Doing, Item, Do, Rounds, Round, Until, Region, End, Gives, After, Into, Returns, items_of, block_items, is_in, place_of, rows_of, value_of, values_of, arguments_of, called, changed, case_of, arms_of, out_of, stat_of, item_of, initialized, carried_out, until, next_value}
 use Rattle.aos_typed.specs.Source.{Frame, here_of}
 use Rattle.aos_sim.proofs.Changes.{includes_itself}
 use Rattle.aos_uses.specs.declared.uses.Use.{Use}
@@ -28,6 +28,8 @@ use Rattle.aos_uses.specs.Uses.{arms_uses, arguments_uses, cases_uses, expr_uses
 use Rattle.aos_handover.specs.Kinds.{IsAsking}
 use Rattle.aos_naming.specs.Items.{has_mark, item_uses, IsText, AreFine, ItemsFine}
 use Rattle.aos_naming.specs.Naming.{AllAre, AnswersAre, ResultIs, ItemsAre, FrameIs}
+use Rattle.aos_handover.specs.Items.{AfterGives}
+use Rattle.aos_handover.proofs.Items.{text_gives, items_give, block_gives, first_gives, rest_gives}
 use Rattle.aos_naming.proofs.Items.{part}
 use Rattle.aos_naming.proofs.Names.{HasNames}
 use Rattle.aos_naming.proofs.Telling.{Plainly, Tells, MayCall, IsAsked, tells_bind, given_tells, place_tells, rows_tell, arguments_tell, call_tells, value_tells}
@@ -48,9 +50,7 @@ Behind C (Makes t vs) k = (v : Value) → ArgumentsAre C (k v)
 Behind C q k = Unit {0}
 
 abbrev pub AfterIs : (C : Value → Type 0) → After → Type 0
-AfterIs C (Into js) = ItemsAre C js
-AfterIs C Exits = Unit {0}
-AfterIs C (Returns r) = ResultIs C r
+AfterIs C a = AfterGives (ResultIs C) a
 
 module _ (p : Program) (n : ℕ) (here : Here) (C : Value → Type 0) where
   -- What a statement calls: an initializer on the object that was made just before, and no quiet one makes an object that has an initializer or
@@ -137,12 +137,10 @@ module _ (p : Program) (n : ℕ) (here : Here) (C : Value → Type 0) where
 
 -- text has no values
 pub text_are : (C : Value → Type 0) (ss : Stats) (is : List Item) → ItemsAre C is → ItemsAre C (items_of ss ++ is)
-text_are C Nothing is h = h
-text_are C (Then s ss) is h = text_are C ss is h
+text_are C ss is h = text_gives (ResultIs C) ss is h
 
 pub items_are : (C : Value → Type 0) (ss : Stats) → ItemsAre C (items_of ss)
-items_are C Nothing = tt
-items_are C (Then s ss) = items_are C ss
+items_are C ss = items_give (ResultIs C) ss
 
 -- what fine uses keep
 pub kept : (p : Program) (n : ℕ) (r : Routine) (us : List Use) → AreFine p n r us → Each (Keeps p (IsQuiet p) n) us
@@ -163,8 +161,7 @@ module _ (p : Program) (names : HasNames p) (n : ℕ) (r : Routine) (here : Here
   Any a = Unit {0}
 
   block_are : (exclusive : Bool) (ss : Stats) → ItemsAre C (block_items exclusive ss)
-  block_are true ss = tt
-  block_are false ss = items_are C ss
+  block_are exclusive ss = block_gives (ResultIs C) exclusive ss
 
   -- an expression, a place and rows, with what is behind them
   value_then : (e : Expr) (t : TType) (k : Value → Doing After) → IsOf p r.own e t → AreUsed (expr_uses p e) → ((v : Value) → C v → Ok (k v)) → Ok (bind (value_of p here e) k)
@@ -364,25 +361,16 @@ module _ (p : Program) (names : HasNames p) (n : ℕ) (r : Routine) (here : Here
 
 -- what a frame's first item has come to
 module _ (p : Program) (names : HasNames p) (n : ℕ) (r : Routine) (C : Value → Type 0) (plainly : Plainly p C) where
-  first_are : (i : Item) (is : List Item) → ItemsAre C (i ∷ is) → ItemsAre C (i ∷ []) × ItemsAre C is
-  first_are (Do s) is h = (tt, h)
-  first_are (Rounds at w q last step b) is h = (tt, h)
-  first_are (Round s) is h = (tt, h)
-  first_are (Until at b e) is h = (tt, h)
-  first_are (Region ss) is h = (tt, h)
-  first_are End is h = (tt, h)
-  first_are (Gives v) is h = ((h.0, tt), h.1)
-
   -- as it begins
   pub begins_says : (here : Here) (i : Item) (is : List Item) → C (Object here.self) ⊎ IsQuiet p n → ItemsFine p n r (i ∷ is) → ItemsAre C (i ∷ is) → Says p n here C None (item_of p here i)
   begins_says here i is self fine items =
-      let x = has_mark is in item_says p names n r here C plainly self x i (kept p n r (item_uses p x i) fine.0.0) fine.0.1 (first_are i is items).0
+      let x = has_mark is in item_says p names n r here C plainly self x i (kept p n r (item_uses p x i) fine.0.0) fine.0.1 (first_gives (ResultIs C) i is items)
 
   pub come_says : (here : Here) (i : Item) (is : List Item) (vs : List Value) (left : Doing After) → feed vs (item_of p here i) ≡ left → C (Object here.self) ⊎ IsQuiet p n → ItemsFine p n r (i ∷ is) → ItemsAre C (i ∷ is) → AllAre C vs →
       ((m : Option Value) × Says p n here C m left) × ItemsAre C is
   come_says here i is vs left come self fine items had =
       let fed = says_fed p n here C None vs (item_of p here i) (begins_says here i is self fine items) had in
-      ((fed.0, subst (Says p n here C fed.0) come fed.1), (first_are i is items).1)
+      ((fed.0, subst (Says p n here C fed.0) come fed.1), rest_gives (ResultIs C) i is items)
 
   -- what it asks next
   pub asks_says : (f : Frame) (fs : List Frame) (q : Question) (asks : IsAsking p f fs q) → C (Object f.object) ⊎ IsQuiet p n → ItemsFine p n r f.items → FrameIs C f → (m : Option Value) × Says p n (here_of f fs) C m (Asks q asks.0)

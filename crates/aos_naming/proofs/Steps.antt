@@ -1,5 +1,5 @@
 -- A turn of frames that have only such values, over such a store, leaves such ones.
-use Rattle.std.proofs.Common.{length-append, ◌<◌, ◌∙◌, ◌≤◌, arith, suc, ◌≡◌, ◌≢◌, ◌⊎◌, inl, inr, ℕ, List, [], ◌∷◌, ◌++◌, length, Bool, true, false, Option, Some, None, refl, sym, ap, subst}
+use Rattle.std.proofs.Common.{length-append, ◌<◌, ◌∙◌, ◌≤◌, arith, suc, ◌≡◌, ◌≢◌, ◌⊎◌, inl, inr, ℕ, List, [], ◌∷◌, length, Bool, true, false, Option, Some, None, refl, sym, ap, subst}
 use Rattle.std.specs.Prelude.{if◌then◌else◌, nat_eq, nat_le, pos, ◌&&◌}
 use Rattle.std.proofs.lemmas.Bool.{leb-true}
 use Rattle.aos_typed.specs.Numbers.{procedure_number}
@@ -13,17 +13,18 @@ use Rattle.aos_typed.specs.Program.{Body, Program}
 use Rattle.aos_typed.specs.Routines.{Routine, has_self, routines}
 use Rattle.aos_typed.specs.Value.{Value, Int, Flag, Char, Set, Object, Callable, Place}
 use Rattle.aos_typed.specs.Store.{with_object, Store, new_number, made_in, store_with}
-use Rattle.aos_typed.specs.Meaning.{Question, Item, Do, Rounds, Round, Until, Region, End, Gives as GivesItem, After, Into, Exits, Returns, leave, leave_all, block_items, body_items, item_of, object_in, value_of}
+use Rattle.aos_typed.specs.Meaning.{Question, Item, Round, Until, Gives as GivesItem, body_items, item_of, object_in, value_of}
 use Rattle.aos_typed.specs.Source.{body_frame, Frame, Turned, here_of, all_rooted, answered, arguments_in, called_frame, done, first_value, frames_with, self_of, with_result}
 use Rattle.aos_uses.specs.Guarded.{IsQuiet}
 use Rattle.aos_uses.proofs.Largest.{quiet_are}
-use Rattle.aos_handover.specs.Kinds.{follow, told_as, answer_in, so_far, IsAsking, IsNext, Stood, Followed, AnotherRound, Repeated, Behind, HasHad, Rests, Begins, GoesOn, Tested, Stands, IsLeft, AtEnd, AtResult, Nowhere, IsStored, OneScalar, OneWhole, OneText, Gives, Kind, Settled, Stopped, Left, Popped, Told, Written, Stored, Created, Called}
+use Rattle.aos_handover.specs.Kinds.{told_as, answer_in, so_far, IsAsking, IsNext, Stood, Followed, AnotherRound, Repeated, Behind, HasHad, Rests, Begins, GoesOn, Tested, Stands, IsLeft, AtEnd, AtResult, Nowhere, IsStored, OneScalar, OneWhole, OneText, Gives, Kind, Settled, Stopped, Left, Popped, Told, Written, Stored, Created, Called}
 use Rattle.aos_naming.specs.Items.{ItemsFine}
 use Rattle.aos_naming.specs.Naming.{ContentIs, AllAre, AnswersAre, ResultIs, ItemsAre, StoreIs, FrameIs, FramesAre, VariablesAre, IsOther, SelvesOther, HideAll, IsLoud}
+use Rattle.aos_handover.proofs.Items.{block_gives, follow_gives}
 use Rattle.aos_naming.proofs.Items.{had_fine}
 use Rattle.aos_naming.proofs.Names.{HasNames}
 use Rattle.aos_naming.proofs.Telling.{Plainly}
-use Rattle.aos_naming.proofs.Saying.{AfterIs, CallIs, AskIs, Says, items_are, come_says, asks_says}
+use Rattle.aos_naming.proofs.Saying.{CallIs, AskIs, Says, come_says, asks_says}
 use Rattle.aos_naming.proofs.Values.{simply, all_more, arguments_are, answered_is, placed_is, overlay_is, first_is, store_is, frames_are, object_added, read_is, found_same, value_is, text_is, sort_begins, noted_are, called_is, head_is, variables_are}
 
 -- what holds of the store and the frames to which a turn has come
@@ -95,47 +96,8 @@ any_plainly p = record {
 }
 
 module _ (C : Value → Type 0) where
-  items_more : (js is : List Item) → ItemsAre C js → ItemsAre C is → ItemsAre C (js ++ is)
-  items_more [] is h k = k
-  items_more (Do s ∷ js) is h k = items_more js is h k
-  items_more (Rounds at w q last step b ∷ js) is h k = items_more js is h k
-  items_more (Round s ∷ js) is h k = items_more js is h k
-  items_more (Until at b e ∷ js) is h k = items_more js is h k
-  items_more (Region ss ∷ js) is h k = items_more js is h k
-  items_more (End ∷ js) is h k = items_more js is h k
-  items_more (GivesItem r ∷ js) is h k = (h.0, items_more js is h.1 k)
-
-  leave_are : (is : List Item) → ItemsAre C is → ItemsAre C (leave is)
-  leave_are [] h = tt
-  leave_are (Do s ∷ is) h = leave_are is h
-  leave_are (Rounds at w q last step b ∷ is) h = leave_are is h
-  leave_are (Round s ∷ is) h = h
-  leave_are (Until at b e ∷ is) h = leave_are is h
-  leave_are (Region ss ∷ is) h = leave_are is h
-  leave_are (End ∷ is) h = leave_are is h
-  leave_are (GivesItem r ∷ is) h = (h.0, tt)
-
-  leave_all_are : (r : Option Value) (is : List Item) → ResultIs C r → ItemsAre C (leave_all r is)
-  leave_all_are r [] k = (k, tt)
-  leave_all_are r (Do s ∷ is) k = leave_all_are r is k
-  leave_all_are r (Rounds at w q last step b ∷ is) k = leave_all_are r is k
-  leave_all_are r (Round s ∷ is) k = leave_all_are r is k
-  leave_all_are r (Until at b e ∷ is) k = leave_all_are r is k
-  leave_all_are r (Region ss ∷ is) k = leave_all_are r is k
-  leave_all_are r (End ∷ is) k = leave_all_are r is k
-  leave_all_are r (GivesItem u ∷ is) k = (k, tt)
-
-  follow_are : (after : After) (is : List Item) → AfterIs C after → ItemsAre C is → ItemsAre C (follow after is)
-  follow_are (Into js) is h k = items_more js is h k
-  follow_are Exits is h k = leave_are is k
-  follow_are (Returns r) is h k = leave_all_are r is h
-
   pub body_are : (b : Body) → ItemsAre C (body_items b)
-  body_are b = by b.is_exclusive
-    where
-      by : (exclusive : Bool) → ItemsAre C (block_items exclusive b.statements)
-      by true = tt
-      by false = items_are C b.statements
+  body_are b = block_gives (ResultIs C) b.is_exclusive b.statements
 
   pub body_is : (home o : ℕ) (b : Body) → FrameIs C (body_frame home o b)
   body_is home o b = record { variables = tt; items = body_are b; answers = tt }
@@ -175,7 +137,7 @@ module _ (p : Program) (names : HasNames p) (n : ℕ) (r : Routine) (C : Value �
     next_are _ (Stood none) = is.items
     next_are _ (Followed i js vs after e had come) =
         let all = come_says p names n r C plainly (here_of f fs) i js (so_far p s f fs i vs) (Val after) come self (subst (ItemsFine p n r) e fine) (subst (ItemsAre C) e is.items) (told_so_far i vs had) in
-        follow_are C after js all.0.1 all.1
+        follow_gives (ResultIs C) after js all.0.1 all.1
     next_are _ (AnotherRound st js next) = next_are (Round st ∷ js) next
     next_are _ (Repeated at b e js v next come t) = next_are (Until at b e ∷ js) next
     next_are _ (Behind at b e js v next come t) = next_are (Until at b e ∷ js) next

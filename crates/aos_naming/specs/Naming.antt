@@ -7,7 +7,8 @@ use Rattle.aos_typed.specs.Program.{Program}
 use Rattle.aos_typed.specs.Routines.{Routine, has_self, routines}
 use Rattle.aos_typed.specs.Value.{Value, Int, Flag, Char, Set, Object, Callable, Place}
 use Rattle.aos_typed.specs.Store.{Store, new_number}
-use Rattle.aos_typed.specs.Meaning.{object_in, Item, Do, Rounds, Round, Until, Region, End, Gives}
+use Rattle.aos_typed.specs.Meaning.{object_in, Item}
+use Rattle.aos_handover.specs.Items.{ItemsGive}
 use Rattle.aos_typed.specs.Source.{Frame}
 use Rattle.aos_uses.specs.Guarded.{IsQuiet}
 use Rattle.aos_handover.specs.Kinds.{IsAsking}
@@ -38,14 +39,7 @@ module _ (C : Value → Type 0) where
   ResultIs (Some v) = C v
 
   abbrev pub ItemsAre : List Item → Type 0
-  ItemsAre [] = Unit {0}
-  ItemsAre (Do s ∷ is) = ItemsAre is
-  ItemsAre (Rounds at w q last step b ∷ is) = ItemsAre is
-  ItemsAre (Round s ∷ is) = ItemsAre is
-  ItemsAre (Until at b e ∷ is) = ItemsAre is
-  ItemsAre (Region ss ∷ is) = ItemsAre is
-  ItemsAre (End ∷ is) = ItemsAre is
-  ItemsAre (Gives r ∷ is) = ResultIs r × ItemsAre is
+  ItemsAre is = ItemsGive ResultIs is
 
   pub record StoreIs (s : Store) : Type 0 where
     pub modules : ContentsAre s.modules

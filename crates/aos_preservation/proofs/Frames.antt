@@ -19,7 +19,7 @@ use Rattle.aos_typed.specs.Sort.{Sort, Plain}
 use Rattle.aos_typed.specs.Store.{Store, made_in}
 use Rattle.aos_typed.specs.Typing.{Is}
 use Rattle.aos_typed.specs.Value.{Value, is_true}
-use Rattle.aos_typed.specs.Meaning.{Here, Question, Doing, Item, Do, Rounds, Round, Until, Region, End, Gives, After, Into, Exits, Returns, leave, leave_all, item_of, value_of}
+use Rattle.aos_typed.specs.Meaning.{Here, Question, Doing, Item, Do, Round, Until, Gives, After, Into, item_of, value_of}
 use Rattle.aos_typed.specs.Source.{Frame, answered, here_of, made_shape, noted, told}
 use Rattle.aos_sim.specs.Cells.{cell_of}
 use Rattle.aos_sim.proofs.Does.{HasTypes, IsFrameOf, IsResult, IsSelf, Knows, scheme, self_grows}
@@ -32,6 +32,7 @@ use Rattle.aos_naming.proofs.Items.{had_fine, next_fine}
 use Rattle.aos_preservation.proofs.Exprs.{value_typed}
 use Rattle.aos_preservation.proofs.Quiet.{made_shaped, noted_alone, noted_told}
 use Rattle.aos_preservation.proofs.Stats.{AfterGives, ItemsGive, item_typed}
+use Rattle.aos_handover.proofs.Items.{follow_gives as follow_give, first_gives as first_give, rest_gives as rest_give, items_also_give}
 use Rattle.aos_preservation.proofs.Trees.{AreTold, IsTold, Typed, all_told_grow, told_more, typed_fed}
 
 module _ (p : Program) where
@@ -71,14 +72,7 @@ module _ (p : Program) where
     result_grows (Some t) (Some v) h = (values_kept p).is w w' up (Plain (id_of t)) v h
 
     items_grow : (own : Option Procedure) (is : List Item) → ItemsGive p w own is → ItemsGive p w' own is
-    items_grow own [] h = tt
-    items_grow own (Do s ∷ is) h = items_grow own is h
-    items_grow own (Rounds at x q last step b ∷ is) h = items_grow own is h
-    items_grow own (Round s ∷ is) h = items_grow own is h
-    items_grow own (Until at b e ∷ is) h = items_grow own is h
-    items_grow own (Region ss ∷ is) h = items_grow own is h
-    items_grow own (End ∷ is) h = items_grow own is h
-    items_grow own (Gives r ∷ is) h = (result_grows (result_of own) r h.0, items_grow own is h.1)
+    items_grow own is h = items_also_give (IsResult p w (result_of own)) (IsResult p w' (result_of own)) (result_grows (result_of own)) is h
 
     answers_grow : (here : Here) (a : Option (List Value)) (is : List Item) → AreAnswers w here a is → AreAnswers w' here a is
     answers_grow here None is h = tt
@@ -110,58 +104,17 @@ module _ (p : Program) where
     abbrev Ok : List Item → Type 0
     Ok is = ItemsGive p w own is
 
-    both_give : (js is : List Item) → Ok js → Ok is → Ok (js ++ is)
-    both_give [] is h k = k
-    both_give (Do st ∷ js) is h k = both_give js is h k
-    both_give (Rounds at x q last step b ∷ js) is h k = both_give js is h k
-    both_give (Round st ∷ js) is h k = both_give js is h k
-    both_give (Until at b e ∷ js) is h k = both_give js is h k
-    both_give (Region ss ∷ js) is h k = both_give js is h k
-    both_give (End ∷ js) is h k = both_give js is h k
-    both_give (Gives v ∷ js) is h k = (h.0, both_give js is h.1 k)
-
-    leave_gives : (is : List Item) → Ok is → Ok (leave is)
-    leave_gives [] h = h
-    leave_gives (Do st ∷ is) h = leave_gives is h
-    leave_gives (Rounds at x q last step b ∷ is) h = leave_gives is h
-    leave_gives (Round st ∷ is) h = h
-    leave_gives (Until at b e ∷ is) h = leave_gives is h
-    leave_gives (Region ss ∷ is) h = leave_gives is h
-    leave_gives (End ∷ is) h = leave_gives is h
-    leave_gives (Gives v ∷ is) h = (h.0, tt)
-
-    leave_all_gives : (r : Option Value) (is : List Item) → IsResult p w (result_of own) r → Ok (leave_all r is)
-    leave_all_gives r [] h = (h, tt)
-    leave_all_gives r (Do st ∷ is) h = leave_all_gives r is h
-    leave_all_gives r (Rounds at x q last step b ∷ is) h = leave_all_gives r is h
-    leave_all_gives r (Round st ∷ is) h = leave_all_gives r is h
-    leave_all_gives r (Until at b e ∷ is) h = leave_all_gives r is h
-    leave_all_gives r (Region ss ∷ is) h = leave_all_gives r is h
-    leave_all_gives r (End ∷ is) h = leave_all_gives r is h
-    leave_all_gives r (Gives v ∷ is) h = (h, tt)
+    abbrev Result : Option Value → Type 0
+    Result v = IsResult p w (result_of own) v
 
     follow_gives : (after : After) (is : List Item) → AfterGives p w own after → Ok is → Ok (follow after is)
-    follow_gives (Into js) is h k = both_give js is h k
-    follow_gives Exits is h k = leave_gives is k
-    follow_gives (Returns r) is h k = leave_all_gives r is h
+    follow_gives after is h k = follow_give Result after is h k
 
     first_gives : (i : Item) (is : List Item) → Ok (i ∷ is) → Ok (i ∷ [])
-    first_gives (Do st) is h = tt
-    first_gives (Rounds at x q last step b) is h = tt
-    first_gives (Round st) is h = tt
-    first_gives (Until at b e) is h = tt
-    first_gives (Region ss) is h = tt
-    first_gives End is h = tt
-    first_gives (Gives v) is h = (h.0, tt)
+    first_gives i is h = first_give Result i is h
 
     rest_gives : (i : Item) (is : List Item) → Ok (i ∷ is) → Ok is
-    rest_gives (Do st) is h = h
-    rest_gives (Rounds at x q last step b) is h = h
-    rest_gives (Round st) is h = h
-    rest_gives (Until at b e) is h = h
-    rest_gives (Region ss) is h = h
-    rest_gives End is h = h
-    rest_gives (Gives v) is h = h.1
+    rest_gives i is h = rest_give Result i is h
 
   -- one more answer
   pub answer_told : (w : World Sort) (g : Frame) (gs : List Frame) (q : Question) (asks : IsAsking p g gs q) (v : Value) → IsTold p w q v → AreAnswers w (here_of g gs) g.answers g.items → AreAnswers w (here_of g gs) (told v g.answers) g.items

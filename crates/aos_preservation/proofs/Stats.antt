@@ -20,14 +20,14 @@ use Rattle.aos_typed.specs.declared.tree.TType.TheVariants as type
 use Rattle.aos_typed.specs.Conditions.{IsLinked, conditions}
 use Rattle.aos_typed.specs.Methods.{body_type, initializer, is_active, method_in, method_number}
 use Rattle.aos_typed.specs.Numbers.{body_number, id_of, id_of_made}
-use Rattle.aos_typed.specs.Program.{Arguments, Arm, Arms, Assert, Assign, Await, Block, Call, Case, Cases, Change, Char as CharCall, Copy, Else, Exit, Expr, For, Halt, If, Int as IntCall, Ln, Loop, Make, New, NoElse, Nothing, OfLabels, Open, Otherwise, Out, Perform, Place, Procedure, Program, PutText, Read, Repeat, Return, Rows, Stat, Stats, String, Then, While, With, WithRecord}
+use Rattle.aos_typed.specs.Program.{Arguments, Arm, Arms, Assert, Assign, Await, Block, Call, Case, Cases, Change, Char as CharCall, Copy, Else, Exit, Expr, For, Halt, If, Int as IntCall, Ln, Loop, Make, New, NoElse, OfLabels, Open, Otherwise, Out, Perform, Place, Procedure, Program, PutText, Read, Repeat, Return, Rows, Stat, Stats, String, While, With, WithRecord}
 use Rattle.aos_typed.specs.Routines.{Routine, result_of}
 use Rattle.aos_typed.specs.Sort.{Sort, Plain, variable_shape}
 use Rattle.aos_typed.specs.Spot.{Spot}
 use Rattle.aos_typed.specs.Typing.{Extends, HasLengths, Is, IsPlain}
 use Rattle.aos_typed.specs.Value.{Value, Object, binary_sort, element, is_true, number_of}
 use Rattle.aos_typed.specs.WellTyped.{AreArms, AreLengthsOf, AreRows, HaveLengths, IsCall, IsInitialized, IsOf, IsPlaceOf, IsReturn, IsStatement, NamesType, amount_type, is_any, is_basic, is_value, is_whole, target}
-use Rattle.aos_typed.specs.Meaning.{After, Doing, Do, End, Exits, Found, Gives, Here, Into, Item, Region, Returns, Round, Rounds, Until, arguments_of, arms_of, called, carried_out, case_of, changed, changed_type, initialized, is_in, item_of, items_of, next_value, out_of, place_of, rows_of, stat_of, until, value_of, values_of}
+use Rattle.aos_typed.specs.Meaning.{After, Doing, Do, End, Found, Gives, Here, Into, Item, Region, Returns, Round, Rounds, Until, arguments_of, arms_of, called, carried_out, case_of, changed, changed_type, initialized, is_in, item_of, items_of, next_value, out_of, place_of, rows_of, stat_of, until, value_of, values_of}
 use Rattle.aos_sim.proofs.Changes.{changed_basic, changed_value, includes_itself}
 use Rattle.aos_sim.proofs.Designators.{holds_extension}
 use Rattle.aos_sim.proofs.Does.{AreIntegers, Given, HasTypes, HasWhole, IsAnswer, IsObject, IsResult, IsSelf, Knows, Valid}
@@ -41,6 +41,8 @@ use Rattle.aos_sim.proofs.Routines.{object_there}
 use Rattle.aos_sim.proofs.Types.{IsValueOf, is_character, is_integer}
 use Rattle.aos_sim.proofs.Variables.{value_from, value_to}
 use Rattle.aos_naming.specs.Items.{IsText}
+use Rattle.aos_handover.specs.Items.{ItemsGive as AllGive, AfterGives as FollowGives}
+use Rattle.aos_handover.proofs.Items.{text_gives as text_give, items_give as text_items_give}
 use Rattle.aos_preservation.proofs.Exprs.{arguments_typed, basic_typed, called_typed, place_typed, rows_typed, scalar_found, value_typed}
 use Rattle.aos_preservation.proofs.Pieces.{asked_typed, given_typed, method_given, method_on}
 use Rattle.aos_preservation.proofs.Places.{AreFound, IsFound, room_found, text_found}
@@ -49,27 +51,16 @@ use Rattle.aos_preservation.proofs.Trees.{IsTold, Typed, typed_bind, typed_more}
 module _ (p : Program) (w : World Sort) (own : Option Procedure) where
   -- the results that items give are of the routine's type
   abbrev pub ItemsGive : List Item → Type 0
-  ItemsGive [] = Unit {0}
-  ItemsGive (Do s ∷ is) = ItemsGive is
-  ItemsGive (Rounds at x q last step b ∷ is) = ItemsGive is
-  ItemsGive (Round s ∷ is) = ItemsGive is
-  ItemsGive (Until at b e ∷ is) = ItemsGive is
-  ItemsGive (Region ss ∷ is) = ItemsGive is
-  ItemsGive (End ∷ is) = ItemsGive is
-  ItemsGive (Gives r ∷ is) = IsResult p w (result_of own) r × ItemsGive is
+  ItemsGive is = AllGive (IsResult p w (result_of own)) is
 
   abbrev pub AfterGives : After → Type 0
-  AfterGives (Into js) = ItemsGive js
-  AfterGives Exits = Unit {0}
-  AfterGives (Returns r) = IsResult p w (result_of own) r
+  AfterGives a = FollowGives (IsResult p w (result_of own)) a
 
   pub text_gives : (ss : Stats) (is : List Item) → ItemsGive is → ItemsGive (items_of ss ++ is)
-  text_gives Nothing is h = h
-  text_gives (Then s ss) is h = text_gives ss is h
+  text_gives ss is h = text_give (IsResult p w (result_of own)) ss is h
 
   pub items_give : (ss : Stats) → ItemsGive (items_of ss)
-  items_give Nothing = tt
-  items_give (Then s ss) = items_give ss
+  items_give ss = text_items_give (IsResult p w (result_of own)) ss
 
 module _ (p : Program) (typed : HasTypes p) (w : World Sort) (r : Routine) (here : Here) (known : Knows p r.own here w) where
   abbrev own : Option Procedure

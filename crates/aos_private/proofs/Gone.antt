@@ -13,7 +13,7 @@ use Rattle.aos_code.specs.declared.image.TypeDesc.{TypeDesc}
 use Rattle.aos_code.specs.Memory.{Memory, Addr}
 use Rattle.aos_base.specs.Question.{Ends}
 use Rattle.aos_code.specs.Silent.{Stack, Keeps, is_of}
-use Rattle.aos_code.specs.Machine.{object_of, arguments_of, Frame, Frames, works, rooted, cells_at, leaves, goes_on, behind, reads, writes, copies, stores_text, fitted, puts_text, compares, enters, called_frame, calls_with, calls, goes, stop_of, handed, text_in, code_in, character_then, character_cells}
+use Rattle.aos_code.specs.Machine.{asker, fitted_in, object_of, arguments_of, Frame, Frames, works, rooted, cells_at, leaves, goes_on, behind, reads, writes, copies, stores_text, fitted, puts_text, compares, enters, called_frame, calls_with, calls, goes, stop_of, handed, text_in, code_in, character_then, character_cells}
 use Rattle.aos_store.specs.declared.frames.Frames.{Frames as KeptFrames}
 use Rattle.aos_store.specs.Store.{list_in, frames_in, has_all, deep}
 use Rattle.aos_silent.specs.declared.silent.Stop.{Stop as KeptStop}
@@ -34,29 +34,29 @@ module _ (following : List ℕ) (at : ℕ) (k : Keeps) (s : Stack) (f : Frame) (
   if_gone true v = refl
   if_gone false v = refl
 
-  pub read_gone : (kind : Kind) (o : Option Cell) → holds kind o ≡ has_gone (reads following kind o at k s f fs mem).left
+  pub read_gone : (kind : Kind) (o : Option Cell) → holds kind o ≡ has_gone (reads following kind o (asker at k s f fs mem)).left
   read_gone kind None = refl
   read_gone kind (Some v) = if_gone (is_of kind v) v
 
-  pub write_gone : (b : Bool) (a : Addr) (vs : List Cell) → b ≡ has_gone (writes following b a vs at k s f fs mem).left
+  pub write_gone : (b : Bool) (a : Addr) (vs : List Cell) → b ≡ has_gone (writes following b a vs (asker at k s f fs mem)).left
   write_gone true a vs = refl
   write_gone false a vs = refl
 
-  copy_gone : (o : Option (List Cell)) (b : Bool) (to : Addr) → (is_some o && b) ≡ has_gone (copies following o b to at k s f fs mem).left
+  copy_gone : (o : Option (List Cell)) (b : Bool) (to : Addr) → (is_some o && b) ≡ has_gone (copies following o b to (asker at k s f fs mem)).left
   copy_gone None b to = refl
   copy_gone (Some vs) b to = write_gone b to vs
 
   pub copies_gone : (n : ℕ) (from to : Addr) (x : Rooted (List Cell)) →
-      (has_all n from.cell (at_root from.root x) && has_all n to.cell (at_root to.root x)) ≡ has_gone (copies following (cells_at n from x) (is_some (cells_at n to x)) to at k s f fs mem).left
+      (has_all n from.cell (at_root from.root x) && has_all n to.cell (at_root to.root x)) ≡ has_gone (copies following (cells_at n from x) (is_some (cells_at n to x)) to (asker at k s f fs mem)).left
   copies_gone n from to x = (λ i. sym (if_there n from x) i && sym (if_there n to x) i) ∙ copy_gone (cells_at n from x) (is_some (cells_at n to x)) to
 
-  pub compare_gone : (r : Relation) (o p : Option (List ℕ)) → is_some (ordered o p) ≡ has_gone (compares following r o p at k s f fs mem).left
+  pub compare_gone : (r : Relation) (o p : Option (List ℕ)) → is_some (ordered o p) ≡ has_gone (compares following r o p (asker at k s f fs mem)).left
   compare_gone r (Some a) (Some b) = refl
   compare_gone r (Some a) None = refl
   compare_gone r None p = refl
 
   -- the end of a frame whose region isn't open
-  pub end_gone : (shapes : List ProcShape) (types : List TypeDesc) (r : Option Cell) (b : Bool) → b ≡ has_gone (works following shapes types b (Ends r) at k s f fs mem).left
+  pub end_gone : (shapes : List ProcShape) (types : List TypeDesc) (r : Option Cell) (b : Bool) → b ≡ has_gone (works following shapes types b (Ends r) (asker at k s f fs mem)).left
   end_gone shapes types r true = refl
   end_gone shapes types r false = refl
 
@@ -69,16 +69,16 @@ module _ (following : List ℕ) (at : ℕ) (k : Keeps) (s : Stack) (f : Frame) (
       by false = refl
   fitted_len false room cs = ap Some (sym (length-append (take (room - 1) cs) (0 ∷ []) ∙ ap (λ n. n + 1) (length-take (room - 1) cs)))
 
-  store_gone : (o : Option (List ℕ)) (to : Addr) (x : Rooted (List Cell)) → has_cells (option_map length o) to x ≡ has_gone (stores_text following o to x at k s f fs mem).left
+  store_gone : (o : Option (List ℕ)) (to : Addr) (x : Rooted (List Cell)) → has_cells (option_map length o) to x ≡ has_gone (stores_text following o to x (asker at k s f fs mem)).left
   store_gone None to x = refl
   store_gone (Some cs) to x = sym (if_there (length cs) to x) ∙ write_gone (is_some (cells_at (length cs) to x)) to (character_cells following cs)
 
-  pub text_gone : (strict : Bool) (o : Option (List ℕ)) (room : Option ℕ) (to : Addr) (x : Rooted (List Cell)) → takes_text strict (option_map length o) room to x ≡ has_gone (puts_text following strict o room to x at k s f fs mem).left
+  pub text_gone : (strict : Bool) (o : Option (List ℕ)) (room : Option ℕ) (to : Addr) (x : Rooted (List Cell)) → takes_text strict (option_map length o) room to x ≡ has_gone (puts_text following (fitted_in following strict o room) to x (asker at k s f fs mem)).left
   text_gone strict None room to x = refl
   text_gone strict (Some cs) None to x = refl
   text_gone strict (Some cs) (Some room) to x = ap (λ o. has_cells o to x) (fitted_len strict room cs) ∙ store_gone (fitted following strict room cs) to x
 
-  enter_gone : (b c : Bool) (g : Frame) → c ≡ not b → c ≡ has_gone (enters following b g at k s f fs mem).left
+  enter_gone : (b c : Bool) (g : Frame) → c ≡ not b → c ≡ has_gone (enters following b g (asker at k s f fs mem)).left
   enter_gone true c g e = e
   enter_gone false c g e = e
 
@@ -90,16 +90,16 @@ module _ (following : List ℕ) (at : ℕ) (k : Keeps) (s : Stack) (f : Frame) (
       ∙ ap (option_map (put_as following (suc (length fs)) (rooted (f ∷ fs) mem) (length shape.kinds.items))) e
 
   -- a call whose arguments can't be handed over
-  pub call_lost : (shape : ProcShape) (p : ℕ) (vs : List Cell) → gifts (rooted (f ∷ fs) mem) shape.params.items (arguments_of shape.method vs) ≡ None → false ≡ has_gone (calls following (Some shape) p vs at k s f fs mem).left
-  call_lost shape p vs e = ap (λ h. has_gone (calls_with following p (object_of shape.method vs) shape h at k s f fs mem).left) (sym (handed_is shape (arguments_of shape.method vs) None e))
+  pub call_lost : (shape : ProcShape) (p : ℕ) (vs : List Cell) → gifts (rooted (f ∷ fs) mem) shape.params.items (arguments_of shape.method vs) ≡ None → false ≡ has_gone (calls following (Some shape) p vs (asker at k s f fs mem)).left
+  call_lost shape p vs e = ap (λ h. has_gone (calls_with following (option_map (called_frame following p (object_of shape.method vs) shape) h) (asker at k s f fs mem)).left) (sym (handed_is shape (arguments_of shape.method vs) None e))
 
   -- one whose arguments can be, where the frame isn't one too many
   pub call_gone : (shape : ProcShape) (p : ℕ) (vs : List Cell) (gs : List Gift) (is : Bool) → gifts (rooted (f ∷ fs) mem) shape.params.items (arguments_of shape.method vs) ≡ Some gs →
-      is ≡ not (deep (shape.counted + length (all_copied gs)) (f ∷ fs)) → is ≡ has_gone (calls following (Some shape) p vs at k s f fs mem).left
+      is ≡ not (deep (shape.counted + length (all_copied gs)) (f ∷ fs)) → is ≡ has_gone (calls following (Some shape) p vs (asker at k s f fs mem)).left
   call_gone shape p vs gs is e h =
       let given = put_as following (suc (length fs)) (rooted (f ∷ fs) mem) (length shape.kinds.items) gs in
       enter_gone (deep (shape.counted + length (all_copied gs)) (f ∷ fs)) is (called_frame following p (object_of shape.method vs) shape given) h
-      ∙ ap (λ x. has_gone (calls_with following p (object_of shape.method vs) shape x at k s f fs mem).left) (sym (handed_is shape (arguments_of shape.method vs) (Some gs) e))
+      ∙ ap (λ x. has_gone (calls_with following (option_map (called_frame following p (object_of shape.method vs) shape) x) (asker at k s f fs mem)).left) (sym (handed_is shape (arguments_of shape.method vs) (Some gs) e))
 
 -- turns of frames that are alike are private alike
 pub private_alike : (image : Image) (fs gs : Frames) → Alike image (made_by []) fs gs → is_private image fs ≡ is_private image gs

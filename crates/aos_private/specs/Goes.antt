@@ -7,7 +7,7 @@ use Rattle.aos_code.specs.declared.image.ProcShape.{ProcShape}
 use Rattle.aos_code.specs.declared.image.TypeDesc.{TypeDesc}
 use Rattle.aos_code.specs.Memory.{Memory, Addr}
 use Rattle.aos_code.specs.Silent.{Stack, Keeps, is_of}
-use Rattle.aos_code.specs.Machine.{Frame, calls, works, finds, goes}
+use Rattle.aos_code.specs.Machine.{asker, Frame, calls, works, finds, goes}
 use Rattle.aos_store.specs.declared.frames.Frames.{Frames as KeptFrames}
 use Rattle.aos_store.specs.Store.{list_in, has_all}
 use Rattle.aos_silent.specs.declared.act.Question.{Question as KeptQuestion}
@@ -42,13 +42,13 @@ takes_text strict (Some n) (Some room) to x = has_cells (stored_len strict room 
 abbrev pub TellsCall : Bool → Option ProcShape → Way → (count : ℕ) → KeptFrames → Memory → Type 0
 TellsCall is shape way count frames mem =
     (f : Frame) (fs : List Frame) → list_in frames.list.items ≡ f ∷ fs → (following : List ℕ) (p at : ℕ) (k : Keeps) (s : Stack) →
-    is ≡ has_gone (calls following shape p (passed way (reverse (take count f.stack))) at k s f fs mem).left
+    is ≡ has_gone (calls following shape p (passed way (reverse (take count f.stack))) (asker at k s f fs mem)).left
 
 -- this tells whether the answer comes to the question of the topmost frame, if that needs nothing but the frames
 abbrev pub TellsOwn : Bool → List ProcShape → List TypeDesc → KeptQuestion → KeptFrames → Memory → Type 0
 TellsOwn is shapes types q frames mem =
     (f : Frame) (fs : List Frame) → list_in frames.list.items ≡ f ∷ fs → is_own shapes (question_in q f.stack) ≡ true → (following : List ℕ) (at : ℕ) (k : Keeps) (s : Stack) →
-    is ≡ has_gone (works following shapes types (finds types (question_in q f.stack) f mem) (question_in q f.stack) at k s f fs mem).left
+    is ≡ has_gone (works following shapes types (finds types (question_in q f.stack) f mem) (question_in q f.stack) (asker at k s f fs mem)).left
 
 -- and so does this where silent work ends
 abbrev pub TellsStop : Bool → List ProcShape → List TypeDesc → KeptStop → KeptFrames → Memory → Type 0

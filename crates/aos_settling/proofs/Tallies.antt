@@ -22,10 +22,15 @@ not_less_same c =
       | inr e ↦ e.0
     ]
 
+spent_next : (a c budget : ℕ) (spent : Option ℕ) (x : Bool) → let n = if x then suc c else c in spent_by x budget n a spent ≡ spent_by (nat_lt c n) budget n a spent
+spent_next a c budget spent true = sym (ap (λ q. spent_by q budget (suc c) a spent) (less_next c))
+spent_next a c budget spent false = sym (ap (λ q. spent_by q budget c a spent) (not_less_same c))
+
 pub one_tallied : (a : ℕ) (x : Bool) (b : Book) → IsTallied a (if x then suc (b.activity a).begun else (b.activity a).begun) b (counted a [] x b)
 unfolding counted
-one_tallied a true b =
-    let v : Activity = record (b.activity a) { begun = suc (b.activity a).begun } in
+one_tallied a x b =
+    let c = (b.activity a).begun in
+    let v : Activity = record (b.activity a) { begun = if x then suc c else c } in
     let here = put_same number b.activity a v in
     record {
       budget = refl;
@@ -40,25 +45,7 @@ one_tallied a true b =
       next = ap (λ (r : Activity). r.next) here;
       begun = ap (λ (r : Activity). r.begun) here;
       others = λ x ne. put_other number b.activity a v x ne;
-      spent = let c = (b.activity a).begun in sym (ap (λ q. spent_by q b.budget (suc c) a b.spent) (less_next c));
-    }
-one_tallied a false b =
-    let v : Activity = record (b.activity a) { begun = (b.activity a).begun } in
-    let here = put_same number b.activity a v in
-    record {
-      budget = refl;
-      started = refl;
-      line = refl;
-      owner = refl;
-      output = append-nil b.output;
-      traps = refl;
-      events = refl;
-      priority = ap (λ (r : Activity). r.priority) here;
-      restarts = ap (λ (r : Activity). r.restarts) here;
-      next = ap (λ (r : Activity). r.next) here;
-      begun = ap (λ (r : Activity). r.begun) here;
-      others = λ x ne. put_other number b.activity a v x ne;
-      spent = let c = (b.activity a).begun in sym (ap (λ q. spent_by q b.budget c a b.spent) (not_less_same c));
+      spent = spent_next a c b.budget b.spent x;
     }
 
 pub unspent : (b : Book) → outcome b ≡ outcome_is.Going → b.spent ≡ None

@@ -6,20 +6,19 @@ use Rattle.aos_base.specs.declared.place.Root.{Root}
 use Rattle.aos_base.specs.declared.place.Root.TheVariants.{Frame as FrameRoot, Module as ModuleRoot, Object as ObjectRoot}
 use Rattle.aos_base.specs.Rooted.{Made, by_number}
 use Rattle.aos_base.specs.Question.{Val, Asks, Traps, feed, Reads, Stores, Copies, PutsText, ComparesTexts, Calls, Ends, Makes, Starts, Enters, Leaves, Awaits, PutsInt, PutsChar, PutsString, PutsLn, PutsNothing, Places, Lengths, Opens, Sizes, Tests}
-use Rattle.aos_types.specs.Shape.{Shape}
 use Rattle.aos_base.specs.Number.{array_lengths}
-use Rattle.aos_types.specs.Content.{Content, Scalar, placed, overlay, first_content}
+use Rattle.aos_types.specs.Content.{Content, Scalar, placed, first_content}
 use Rattle.aos_types.specs.World.{read}
 use Rattle.aos_typed.specs.Program.{Repeat, Program}
 use Rattle.aos_typed.specs.Numbers.{id_of}
 use Rattle.aos_typed.specs.Routines.{Routine, routines}
-use Rattle.aos_typed.specs.Sort.{Sort, variable_shape}
+use Rattle.aos_typed.specs.Sort.{variable_shape}
 use Rattle.aos_typed.specs.Spot.{Spot}
 use Rattle.aos_typed.specs.Text.{text_in, with_text, fitted}
 use Rattle.aos_typed.specs.Value.{Value, Int, Flag, Char, Set, Object, Callable, Place, number_of, is_true}
 use Rattle.aos_typed.specs.Store.{Store, store_with, has_room, made_in}
 use Rattle.aos_typed.specs.Meaning.{Question, Doing, Item, Do, Rounds, Round, Until, Region, End, Gives, After, Into, Returns, Exits, leave, leave_all, item_of, value_of}
-use Rattle.aos_typed.specs.Source.{here_of, Frame, Turned, answered, done, all_rooted, begins, ends, tests, finishes, settles, first_value, made_shape, written, prints, makes, makes_with, starts, copies, stores_text, calm, noted, is_deep, enters, called_frame, calls, answer, goes, item_turn, turn_at, awaits, locks_in, lock_of}
+use Rattle.aos_typed.specs.Source.{Top, top, copied, here_of, Frame, Turned, all_rooted, begins, ends, tests, finishes, settles, first_value, made_shape, written, prints, makes, makes_with, starts, copies, stores_text, calm, noted, is_deep, enters, called_frame, calls, answer, goes, item_turn, turn_at, awaits, locks_in, lock_of}
 
 -- more objects than before
 abbrev pub Grown : List Made → List Made → Type 0
@@ -38,15 +37,15 @@ module _ (following : List ℕ) where
   writes_grown (ModuleRoot m) g s = none s.made
   writes_grown (ObjectRoot o) g s = none s.made
 
-  prints_grown : (bytes : Option (List ℕ)) (f : Frame) (fs : List Frame) (s : Store) → Grown s.made (prints following bytes f fs s).store.made
+  prints_grown : (bytes : Option (List ℕ)) (f : Frame) (fs : List Frame) (s : Store) → Grown s.made (prints following bytes (top f fs s)).store.made
   prints_grown None f fs s = none s.made
   prints_grown (Some bytes) f fs s = none s.made
 
-  makes_grown : (room : Bool) (m : Made) (c : Content Value) (f : Frame) (fs : List Frame) (s : Store) → Grown s.made (makes following room m c f fs s).store.made
+  makes_grown : (room : Bool) (m : Made) (c : Content Value) (f : Frame) (fs : List Frame) (s : Store) → Grown s.made (makes following room m c (top f fs s)).store.made
   makes_grown true m c f fs s = (m ∷ [], refl)
   makes_grown false m c f fs s = none s.made
 
-  starts_grown : (v : Value) (f : Frame) (fs : List Frame) (s : Store) → Grown s.made (starts following v f fs s).store.made
+  starts_grown : (v : Value) (f : Frame) (fs : List Frame) (s : Store) → Grown s.made (starts following v (top f fs s)).store.made
   starts_grown (Object zero) f fs s = none s.made
   starts_grown (Object (suc k)) f fs s = none s.made
   starts_grown (Int z) f fs s = none s.made
@@ -56,16 +55,15 @@ module _ (following : List ℕ) where
   starts_grown (Callable p o) f fs s = none s.made
   starts_grown (Place p) f fs s = none s.made
 
-  awaits_grown : (locks : List LockName) (c : ℕ) (f : Frame) (fs : List Frame) (s : Store) → Grown s.made (awaits following locks c f fs s).store.made
+  awaits_grown : (locks : List LockName) (c : ℕ) (f : Frame) (fs : List Frame) (s : Store) → Grown s.made (awaits following locks c (top f fs s)).store.made
   awaits_grown [] c f fs s = none s.made
   awaits_grown (l ∷ locks) c f fs s = none s.made
 
-  copies_grown : (c : Shape Sort) (from to : Option (Content Value)) (p : Spot) (fs : List Frame) (s : Store) → Grown s.made (copies following c from to p fs s).store.made
-  copies_grown c (Some new) (Some old) p fs s = writes_grown p.root (placed p.path (overlay c new old)) s
-  copies_grown c (Some new) None p fs s = none s.made
-  copies_grown c None to p fs s = none s.made
+  copies_grown : (c : Option (Content Value)) (p : Spot) (h : Top) → Grown h.store.made (copies following c p h).store.made
+  copies_grown None p h = none h.store.made
+  copies_grown (Some c) p h = writes_grown p.root (placed p.path c) h.store
 
-  stores_text_grown : (text : Option (List ℕ)) (old : Option (Content Value)) (p : Spot) (f : Frame) (fs : List Frame) (s : Store) → Grown s.made (stores_text following text old p f fs s).store.made
+  stores_text_grown : (text : Option (List ℕ)) (old : Option (Content Value)) (p : Spot) (f : Frame) (fs : List Frame) (s : Store) → Grown s.made (stores_text following text old p (top f fs s)).store.made
   stores_text_grown None old p f fs s = none s.made
   stores_text_grown (Some cs) None p f fs s = none s.made
   stores_text_grown (Some cs) (Some old) p f fs s = writes_grown p.root (placed p.path (with_text cs old)) s
@@ -75,18 +73,18 @@ module _ (following : List ℕ) where
   enters_grown false g fs s = none s.made
 
 module _ (program : Program) (following : List ℕ) where
-  calls_grown : (r : Option Routine) (vs : List Value) (f : Frame) (fs : List Frame) (s : Store) → Grown s.made (calls program following r vs f fs s).store.made
+  calls_grown : (r : Option Routine) (vs : List Value) (f : Frame) (fs : List Frame) (s : Store) → Grown s.made (calls program following r vs (top f fs s)).store.made
   calls_grown None vs f fs s = none s.made
   calls_grown (Some r) vs f fs s =
       let g = called_frame program following r vs (f ∷ fs) s in enters_grown following (is_deep following g (f ∷ fs)) g (f ∷ fs) s
 
-  makes_with_grown : (ns : Option (List ℕ)) (t : ℕ) (f : Frame) (fs : List Frame) (s : Store) → Grown s.made (makes_with program following ns t f fs s).store.made
+  makes_with_grown : (ns : Option (List ℕ)) (t : ℕ) (f : Frame) (fs : List Frame) (s : Store) → Grown s.made (makes_with program following ns t (top f fs s)).store.made
   makes_with_grown None t f fs s = none s.made
   makes_with_grown (Some ns) t f fs s =
       let m : Made = record { type = t; lengths = ns } in
       let c = first_content (first_value program) (made_shape program.types m) in makes_grown following (has_room m c s) m c f fs s
 
-  answer_grown : (q : Question) (f : Frame) (fs : List Frame) (s : Store) → Grown s.made (answer program following q f fs s).store.made
+  answer_grown : (q : Question) (f : Frame) (fs : List Frame) (s : Store) → Grown s.made (answer program following q (top f fs s)).store.made
   answer_grown (Stores p v) f fs s = writes_grown following p.root (placed p.path (Scalar v)) s
   answer_grown (Ends result) f fs s = none s.made
   answer_grown (Makes t vs) f fs s = makes_with_grown (array_lengths (map number_of vs)) t f fs s
@@ -101,7 +99,7 @@ module _ (program : Program) (following : List ℕ) where
   answer_grown PutsLn f fs s = none s.made
   answer_grown (Copies t from to) f fs s =
       let x = all_rooted (f ∷ fs) s in
-      copies_grown following (variable_shape program.types (id_of t)) (read from.root from.path x) (read to.root to.path x) to (answered done f ∷ fs) s
+      copies_grown following (copied (variable_shape program.types (id_of t)) (read from.root from.path x) (read to.root to.path x)) to (top f fs s)
   answer_grown (PutsText strict from n to room) f fs s =
       let x = all_rooted (f ∷ fs) s in
       let text = fitted strict (unsigned_abs (number_of room)) (text_in (read from.root from.path x)) in
@@ -115,7 +113,7 @@ module _ (program : Program) (following : List ℕ) where
   answer_grown (Sizes v d) f fs s = none s.made
   answer_grown (Tests v t) f fs s = none s.made
 
-  tests_grown : (d : Doing Value) (if_true if_false : Turned) (f : Frame) (fs : List Frame) (s : Store) → Grown s.made if_true.store.made → Grown s.made if_false.store.made → Grown s.made (tests program following d if_true if_false f fs s).store.made
+  tests_grown : (d : Doing Value) (if_true if_false : Turned) (f : Frame) (fs : List Frame) (s : Store) → Grown s.made if_true.store.made → Grown s.made if_false.store.made → Grown s.made (tests program following d if_true if_false (top f fs s)).store.made
   tests_grown (Val v) if_true if_false f fs s h k = by (is_true v)
     where
       by : (b : Bool) → Grown s.made (if b then if_true else if_false).store.made
@@ -124,31 +122,31 @@ module _ (program : Program) (following : List ℕ) where
   tests_grown (Asks q g) if_true if_false f fs s h k = answer_grown q f fs s
   tests_grown (Traps n c) if_true if_false f fs s h k = none s.made
 
-  finishes_grown : (gives : Bool) (f : Frame) (fs : List Frame) (s : Store) → Grown s.made (finishes program following gives f fs s).store.made
+  finishes_grown : (gives : Bool) (f : Frame) (fs : List Frame) (s : Store) → Grown s.made (finishes program following gives (top f fs s)).store.made
   finishes_grown true f fs s = none s.made
   finishes_grown false f fs s = none s.made
 
-  settles_grown : (is : List Item) (f : Frame) (fs : List Frame) (s : Store) → Grown s.made (settles program following is f fs s).store.made
+  settles_grown : (is : List Item) (f : Frame) (fs : List Frame) (s : Store) → Grown s.made (settles program following is (top f fs s)).store.made
   settles_grown [] f fs s = finishes_grown f.gives f fs s
   settles_grown (Do st ∷ is) f fs s = none s.made
   settles_grown (Rounds at w p last step b ∷ is) f fs s = none s.made
   settles_grown (Round st ∷ is) f fs s = none s.made
   settles_grown (Until at b e ∷ is) f fs s =
       let test = value_of program (here_of f fs) e in
-      tests_grown (calm program.types (made_in s) f.variables test) (settles program following is f fs s) (begins following at (Do (Repeat at b e) ∷ is) f fs s)
+      tests_grown (calm program.types (made_in s) f.variables test) (settles program following is (top f fs s)) (begins following at (Do (Repeat at b e) ∷ is) (top f fs s))
       (record f { items = Until at b e ∷ is; answers = Some (noted program.types (made_in s) f.variables test) }) fs s (settles_grown is f fs s) (none s.made)
   settles_grown (Region ss ∷ is) f fs s = none s.made
   settles_grown (End ∷ is) f fs s = none s.made
   settles_grown (Gives r ∷ is) f fs s = ends_grown following r fs s
 
-  goes_grown : (d : Doing After) (rest : List Item) (f : Frame) (fs : List Frame) (s : Store) → Grown s.made (goes program following d rest f fs s).store.made
+  goes_grown : (d : Doing After) (rest : List Item) (f : Frame) (fs : List Frame) (s : Store) → Grown s.made (goes program following d rest (top f fs s)).store.made
   goes_grown (Val (Into is)) rest f fs s = settles_grown (is ++ rest) f fs s
   goes_grown (Val Exits) rest f fs s = settles_grown (leave rest) f fs s
   goes_grown (Val (Returns r)) rest f fs s = settles_grown (leave_all r rest) f fs s
   goes_grown (Asks q k) rest f fs s = answer_grown q f fs s
   goes_grown (Traps n c) rest f fs s = none s.made
 
-  item_grown : (answers : Option (List Value)) (is : List Item) (f : Frame) (fs : List Frame) (s : Store) → Grown s.made (item_turn program following answers is f fs s).store.made
+  item_grown : (answers : Option (List Value)) (is : List Item) (f : Frame) (fs : List Frame) (s : Store) → Grown s.made (item_turn program following answers is (top f fs s)).store.made
   item_grown None is f fs s = settles_grown is f fs s
   item_grown (Some vs) [] f fs s = none s.made
   item_grown (Some vs) (i ∷ is) f fs s =

@@ -17,7 +17,6 @@ use Rattle.aos_base.specs.Observation.{Observation, observation}
 use Rattle.aos_base.specs.Rooted.{Made, by_number, Rooted}
 use Rattle.aos_base.specs.Question.{Val, Asks, Traps, bind, ask, feed, Reads, Stores, Copies, PutsText, ComparesTexts, Calls, Ends, Makes, Starts, Enters as EntersRegion, Leaves as LeavesRegion, Awaits, PutsInt, PutsChar, PutsString, PutsLn, PutsNothing, Places, Lengths, Opens, Sizes, Tests}
 use Rattle.aos_types.specs.declared.row.TypeRow.{TypeRow}
-use Rattle.aos_types.specs.Shape.{Shape}
 use Rattle.aos_types.specs.Content.{Content, first_content}
 use Rattle.aos_types.specs.World.{read}
 use Rattle.aos_code.specs.declared.image.Image.{Image}
@@ -27,14 +26,14 @@ use Rattle.aos_typed.specs.declared.tree.Change.TheVariants as change
 use Rattle.aos_typed.specs.declared.tree.TType.TheVariants as type
 use Rattle.aos_types.specs.Extension.{comes_to}
 use Rattle.aos_typed.specs.Numbers.{id_of, id_of_made}
-use Rattle.aos_typed.specs.Sort.{Sort as ScalarSort, variable_shape}
+use Rattle.aos_typed.specs.Sort.{variable_shape}
 use Rattle.aos_typed.specs.Spot.{Spot}
 use Rattle.aos_typed.specs.Text.{text_in, fitted}
 use Rattle.aos_typed.specs.Value.{Value, Int, Flag, Char, Set, Object, Callable, Place as Spotted, number_of, Sort, Integer, Character, Elements, element, given, unary_sort, binary_sort, is_true}
 use Rattle.aos_typed.specs.Store.{Store, has_room, made_in}
 use Rattle.aos_typed.specs.Routines.{Routine, routines}
 use Rattle.aos_typed.specs.Meaning.{Here, Question, Doing, object_in, by_number as by_object, dereferenced, sizes_from, spread, is_instance, guarded, has_type, record_guarded, place_in, dispatched, calls as calls_of, receiver_of, called, Item, Do, Rounds, Round, Until, Region, End, Gives as GivesItem, After, Into, Exits, Returns, leave, leave_all, is_in, element_of, Found, row_at, lengths_from, place_of, rows_of, arguments_of, value_of, values_of, changed, arms_of, case_of, out_of, stat_of, item_of, bound, bound_to, carried_out, initialized, procedure_in}
-use Rattle.aos_typed.specs.Source.{here_of, Frame, Turned, answered, done, all_rooted, begins, ends, finishes, tests, settles, first_value, made_shape, written, prints, makes, makes_with, starts, copies, stores_text, is_deep, enters, called_frame, calls, known, length_in, object_place, has_type_in, calm, noted, answer, goes, item_turn, turn_at, opened, source, first_state, first_store, first_frames, awaits, locks_in, lock_of, judged, verdict_over}
+use Rattle.aos_typed.specs.Source.{Top, top, copied, here_of, Frame, Turned, all_rooted, begins, ends, finishes, tests, settles, first_value, made_shape, written, prints, makes, makes_with, starts, copies, stores_text, is_deep, enters, called_frame, calls, known, length_in, object_place, has_type_in, calm, noted, answer, goes, item_turn, turn_at, opened, source, first_state, first_store, first_frames, awaits, locks_in, lock_of, judged, verdict_over}
 use Rattle.aos_base.specs.declared.kernel.Verdict.TheVariants.{Holds, Fails}
 use Rattle.aos_base.specs.declared.kernel.LockName.{LockName}
 use Rattle.aos_typed.specs.Conditions.{Condition, conditions}
@@ -452,15 +451,15 @@ module _ (following : List ℕ) where
   ends_known None fs s = tt
   ends_known (Some v) fs s = tt
 
-  prints_known : (bytes : Option (List ℕ)) (f : Frame) (fs : List Frame) (s : Store) → Known (prints following bytes f fs s)
+  prints_known : (bytes : Option (List ℕ)) (f : Frame) (fs : List Frame) (s : Store) → Known (prints following bytes (top f fs s))
   prints_known None f fs s = omega arith
   prints_known (Some bytes) f fs s = tt
 
-  makes_known : (room : Bool) (m : Made) (c : Content Value) (f : Frame) (fs : List Frame) (s : Store) → Known (makes following room m c f fs s)
+  makes_known : (room : Bool) (m : Made) (c : Content Value) (f : Frame) (fs : List Frame) (s : Store) → Known (makes following room m c (top f fs s))
   makes_known true m c f fs s = tt
   makes_known false m c f fs s = omega arith
 
-  starts_known : (v : Value) (f : Frame) (fs : List Frame) (s : Store) → Known (starts following v f fs s)
+  starts_known : (v : Value) (f : Frame) (fs : List Frame) (s : Store) → Known (starts following v (top f fs s))
   starts_known (Object zero) f fs s = tt
   starts_known (Object (suc k)) f fs s = tt
   starts_known (Int z) f fs s = tt
@@ -470,16 +469,15 @@ module _ (following : List ℕ) where
   starts_known (Callable p o) f fs s = tt
   starts_known (Spotted p) f fs s = tt
 
-  awaits_known : (locks : List LockName) (c : ℕ) (f : Frame) (fs : List Frame) (s : Store) → Known (awaits following locks c f fs s)
+  awaits_known : (locks : List LockName) (c : ℕ) (f : Frame) (fs : List Frame) (s : Store) → Known (awaits following locks c (top f fs s))
   awaits_known [] c f fs s = tt
   awaits_known (l ∷ locks) c f fs s = tt
 
-  copies_known : (c : Shape ScalarSort) (from to : Option (Content Value)) (p : Spot) (fs : List Frame) (s : Store) → Known (copies following c from to p fs s)
-  copies_known c (Some new) (Some old) p fs s = tt
-  copies_known c (Some new) None p fs s = tt
-  copies_known c None to p fs s = tt
+  copies_known : (c : Option (Content Value)) (p : Spot) (h : Top) → Known (copies following c p h)
+  copies_known None p h = tt
+  copies_known (Some c) p h = tt
 
-  stores_text_known : (text : Option (List ℕ)) (old : Option (Content Value)) (p : Spot) (f : Frame) (fs : List Frame) (s : Store) → Known (stores_text following text old p f fs s)
+  stores_text_known : (text : Option (List ℕ)) (old : Option (Content Value)) (p : Spot) (f : Frame) (fs : List Frame) (s : Store) → Known (stores_text following text old p (top f fs s))
   stores_text_known None old p f fs s = omega arith
   stores_text_known (Some cs) None p f fs s = tt
   stores_text_known (Some cs) (Some old) p f fs s = tt
@@ -489,19 +487,19 @@ module _ (following : List ℕ) where
   enters_known false g fs s = tt
 
 module _ (program : Program) (following : List ℕ) where
-  calls_known : (r : Option Routine) (vs : List Value) (f : Frame) (fs : List Frame) (s : Store) → Known (calls program following r vs f fs s)
+  calls_known : (r : Option Routine) (vs : List Value) (f : Frame) (fs : List Frame) (s : Store) → Known (calls program following r vs (top f fs s))
   calls_known None vs f fs s = tt
   calls_known (Some r) vs f fs s =
       let g = called_frame program following r vs (f ∷ fs) s in
       enters_known following (is_deep following g (f ∷ fs)) g (f ∷ fs) s
 
-  makes_with_known : (ns : Option (List ℕ)) (t : ℕ) (f : Frame) (fs : List Frame) (s : Store) → Known (makes_with program following ns t f fs s)
+  makes_with_known : (ns : Option (List ℕ)) (t : ℕ) (f : Frame) (fs : List Frame) (s : Store) → Known (makes_with program following ns t (top f fs s))
   makes_with_known None t f fs s = omega arith
   makes_with_known (Some ns) t f fs s =
       let m : Made = record { type = t; lengths = ns } in
       let c = first_content (first_value program) (made_shape program.types m) in makes_known following (has_room m c s) m c f fs s
 
-  answer_known : (q : Question) (f : Frame) (fs : List Frame) (s : Store) → Known (answer program following q f fs s)
+  answer_known : (q : Question) (f : Frame) (fs : List Frame) (s : Store) → Known (answer program following q (top f fs s))
   answer_known (Ends result) f fs s = tt
   answer_known (Makes t vs) f fs s = makes_with_known (array_lengths (map number_of vs)) t f fs s
   answer_known (Starts v) f fs s = starts_known following v f fs s
@@ -516,7 +514,7 @@ module _ (program : Program) (following : List ℕ) where
   answer_known PutsLn f fs s = tt
   answer_known (Copies t from to) f fs s =
       let x = all_rooted (f ∷ fs) s in
-      copies_known following (variable_shape program.types (id_of t)) (read from.root from.path x) (read to.root to.path x) to (answered done f ∷ fs) s
+      copies_known following (copied (variable_shape program.types (id_of t)) (read from.root from.path x) (read to.root to.path x)) to (top f fs s)
   answer_known (PutsText strict from n to room) f fs s =
       let x = all_rooted (f ∷ fs) s in
       let text = fitted strict (unsigned_abs (number_of room)) (text_in (read from.root from.path x)) in
@@ -530,7 +528,7 @@ module _ (program : Program) (following : List ℕ) where
   answer_known (Sizes v d) f fs s = tt
   answer_known (Tests v t) f fs s = tt
 
-  tests_known : (d : Doing Value) (if_true if_false : Turned) (f : Frame) (fs : List Frame) (s : Store) → Comes d → Known if_true → Known if_false → Known (tests program following d if_true if_false f fs s)
+  tests_known : (d : Doing Value) (if_true if_false : Turned) (f : Frame) (fs : List Frame) (s : Store) → Comes d → Known if_true → Known if_false → Known (tests program following d if_true if_false (top f fs s))
   tests_known (Val v) if_true if_false f fs s c h k = by (is_true v)
     where
       by : (b : Bool) → Known (if b then if_true else if_false)
@@ -539,32 +537,32 @@ module _ (program : Program) (following : List ℕ) where
   tests_known (Asks q g) if_true if_false f fs s c h k = answer_known q f fs s
   tests_known (Traps n code) if_true if_false f fs s c h k = c
 
-  finishes_known : (function : Bool) (f : Frame) (fs : List Frame) (s : Store) → Known (finishes program following function f fs s)
+  finishes_known : (function : Bool) (f : Frame) (fs : List Frame) (s : Store) → Known (finishes program following function (top f fs s))
   finishes_known true f fs s = omega arith
   finishes_known false f fs s = tt
 
-  settles_known : (is : List Item) (f : Frame) (fs : List Frame) (s : Store) → Known (settles program following is f fs s)
+  settles_known : (is : List Item) (f : Frame) (fs : List Frame) (s : Store) → Known (settles program following is (top f fs s))
   settles_known [] f fs s = finishes_known f.gives f fs s
   settles_known (Do st ∷ is) f fs s = tt
   settles_known (Rounds at w p last step b ∷ is) f fs s = tt
   settles_known (Round st ∷ is) f fs s = tt
   settles_known (Until at b e ∷ is) f fs s =
       let test = value_of program (here_of f fs) e in
-      tests_known (calm program.types (made_in s) f.variables test) (settles program following is f fs s) (begins following at (Do (Repeat at b e) ∷ is) f fs s)
+      tests_known (calm program.types (made_in s) f.variables test) (settles program following is (top f fs s)) (begins following at (Do (Repeat at b e) ∷ is) (top f fs s))
       (record f { items = Until at b e ∷ is; answers = Some (noted program.types (made_in s) f.variables test) }) fs s
       (calm_comes program.types (made_in s) f.variables test (value_comes program (here_of f fs) e)) (settles_known is f fs s) tt
   settles_known (Region ss ∷ is) f fs s = tt
   settles_known (End ∷ is) f fs s = tt
   settles_known (GivesItem r ∷ is) f fs s = ends_known following r fs s
 
-  goes_known : (d : Doing After) (rest : List Item) (f : Frame) (fs : List Frame) (s : Store) → AsksInside true d → Known (goes program following d rest f fs s)
+  goes_known : (d : Doing After) (rest : List Item) (f : Frame) (fs : List Frame) (s : Store) → AsksInside true d → Known (goes program following d rest (top f fs s))
   goes_known (Val (Into is)) rest f fs s h = settles_known (is ++ rest) f fs s
   goes_known (Val Exits) rest f fs s h = settles_known (leave rest) f fs s
   goes_known (Val (Returns r)) rest f fs s h = settles_known (leave_all r rest) f fs s
   goes_known (Asks q k) rest f fs s h = answer_known q f fs s
   goes_known (Traps n c) rest f fs s h = h
 
-  item_known : (answers : Option (List Value)) (is : List Item) (f : Frame) (fs : List Frame) (s : Store) → Known (item_turn program following answers is f fs s)
+  item_known : (answers : Option (List Value)) (is : List Item) (f : Frame) (fs : List Frame) (s : Store) → Known (item_turn program following answers is (top f fs s))
   item_known None is f fs s = settles_known is f fs s
   item_known (Some vs) [] f fs s = tt
   item_known (Some vs) (i ∷ is) f fs s =

@@ -12,21 +12,20 @@ use Rattle.aos_base.specs.Number.{holds, array_lengths}
 use Rattle.aos_base.specs.Rooted.{Made, by_number, change_from_last}
 use Rattle.aos_base.specs.Question.{Val, Asks, Traps, bind, feed, Reads, Stores, Copies, PutsText, ComparesTexts, Calls, Ends, Makes, Starts, Enters, Leaves, Awaits, PutsInt, PutsChar, PutsString, PutsLn, PutsNothing, Places, Lengths, Opens, Sizes, Tests}
 use Rattle.aos_types.specs.declared.row.TypeRow.{TypeRow}
-use Rattle.aos_types.specs.Shape.{Shape}
 use Rattle.aos_types.specs.Content.{Content, first_content}
 use Rattle.aos_types.specs.World.{read}
 use Rattle.aos_typed.specs.declared.tree.TType.TheVariants.{Integer}
 use Rattle.aos_typed.specs.Program.{Read, Stat, Assign, Copy, PutText, If, Case, While, Repeat, Loop, Exit, For, Block, Await, Assert, Halt, Change, Perform, Return, New, Make, With, WithRecord, Out, Stats, Nothing, Then, Arms, Otherwise, Arm, Cases, NoElse, Else, OfLabels, Call, Open, Char as CharCall, Int as IntCall, String, Ln, Body, ObjectType, Module, Program}
 use Rattle.aos_typed.specs.Numbers.{id_of}
 use Rattle.aos_typed.specs.Routines.{Routine, routines}
-use Rattle.aos_typed.specs.Sort.{Sort, variable_shape}
+use Rattle.aos_typed.specs.Sort.{variable_shape}
 use Rattle.aos_typed.specs.Spot.{Spot}
 use Rattle.aos_typed.specs.Text.{text_in, fitted}
 use Rattle.aos_typed.specs.Value.{Value, Int, Flag, Char, Set, Object, Callable, Place, number_of, is_true}
 use Rattle.aos_typed.specs.Store.{Store, has_room, made_in, type_of_object}
 use Rattle.aos_typed.specs.Meaning.{Here, Question, Doing, Item, Do, Rounds, Round, Until, Region, End, Gives, After, Into, Exits, Returns, leave, leave_all, items_of, block_items, body_items, is_in, place_of, rows_of, value_of, values_of, arguments_of, called, changed, case_of, arms_of, rounds_of, out_of, stat_of, item_of, initialized, carried_out, until, next_value}
 use Rattle.aos_typed.specs.Methods.{body_type, initializer}
-use Rattle.aos_typed.specs.Source.{awaits, Frame, Frames, Turned, here_of, lock_of, answered, done, all_rooted, frames_with, begins, with_result, ends, prints, makes, starts, copies, stores_text, is_deep, enters, called_frame, calls, makes_with, first_value, made_shape, written, calm, noted, answer, tests, finishes, settles, goes, item_turn, turn_at, body_frame, object_frames, opened, opened_by, next_body, past_by, locks_in, regions_of, made_body, source, turn}
+use Rattle.aos_typed.specs.Source.{top, copied, awaits, Frame, Frames, Turned, here_of, lock_of, answered, done, all_rooted, frames_with, begins, with_result, ends, prints, makes, starts, copies, stores_text, is_deep, enters, called_frame, calls, makes_with, first_value, made_shape, written, calm, noted, answer, tests, finishes, settles, goes, item_turn, turn_at, body_frame, object_frames, opened, opened_by, next_body, past_by, locks_in, regions_of, made_body, source, turn}
 use Rattle.aos_concurrency.proofs.Tables.{lock, is_itself}
 use Rattle.aos_concurrency.specs.Regions.{times, Outside, Passes, KeepsFits, KeepsRegions}
 
@@ -292,15 +291,15 @@ module _ (following : List ℕ) where
   ends_keep None fs s = record { regions = result_same done fs; at = tt }
   ends_keep (Some v) fs s = record { regions = result_same v fs; at = tt }
 
-  prints_keep : (o : Option (List ℕ)) (f : Frame) (fs : List Frame) (s : Store) → Keeps (regions_of (f ∷ fs)) (prints following o f fs s)
+  prints_keep : (o : Option (List ℕ)) (f : Frame) (fs : List Frame) (s : Store) → Keeps (regions_of (f ∷ fs)) (prints following o (top f fs s))
   prints_keep None f fs s = record { regions = refl; at = tt }
   prints_keep (Some bytes) f fs s = record { regions = refl; at = tt }
 
-  makes_keep : (room : Bool) (m : Made) (c : Content Value) (f : Frame) (fs : List Frame) (s : Store) → Keeps (regions_of (f ∷ fs)) (makes following room m c f fs s)
+  makes_keep : (room : Bool) (m : Made) (c : Content Value) (f : Frame) (fs : List Frame) (s : Store) → Keeps (regions_of (f ∷ fs)) (makes following room m c (top f fs s))
   makes_keep true m c f fs s = record { regions = refl; at = tt }
   makes_keep false m c f fs s = record { regions = refl; at = tt }
 
-  starts_keep : (v : Value) (f : Frame) (fs : List Frame) (s : Store) → HasBegun f → Keeps (regions_of (f ∷ fs)) (starts following v f fs s)
+  starts_keep : (v : Value) (f : Frame) (fs : List Frame) (s : Store) → HasBegun f → Keeps (regions_of (f ∷ fs)) (starts following v (top f fs s))
   starts_keep (Object zero) f fs s h = record { regions = refl; at = tt }
   starts_keep (Object (suc k)) f fs s h = record { regions = refl; at = h }
   starts_keep (Int z) f fs s h = record { regions = refl; at = tt }
@@ -310,16 +309,15 @@ module _ (following : List ℕ) where
   starts_keep (Callable q o) f fs s h = record { regions = refl; at = tt }
   starts_keep (Place q) f fs s h = record { regions = refl; at = tt }
 
-  awaits_keep : (locks : List LockName) (c : ℕ) (f : Frame) (fs : List Frame) (s : Store) → locks_in (lock_of f) f.items ≡ locks → HasBegun f → Keeps (regions_of (f ∷ fs)) (awaits following locks c f fs s)
+  awaits_keep : (locks : List LockName) (c : ℕ) (f : Frame) (fs : List Frame) (s : Store) → locks_in (lock_of f) f.items ≡ locks → HasBegun f → Keeps (regions_of (f ∷ fs)) (awaits following locks c (top f fs s))
   awaits_keep [] c f fs s e h = record { regions = refl; at = tt }
   awaits_keep (l ∷ locks) c f fs s e h = record { regions = refl; at = (h, (locks, e)) }
 
-  copies_keep : (c : Shape Sort) (from to : Option (Content Value)) (q : Spot) (f : Frame) (fs : List Frame) (s : Store) → Keeps (regions_of (f ∷ fs)) (copies following c from to q (answered done f ∷ fs) s)
-  copies_keep c (Some new) (Some old) q f fs s = record { regions = with_same q.root _ (answered done f ∷ fs); at = tt }
-  copies_keep c (Some new) None q f fs s = record { regions = refl; at = tt }
-  copies_keep c None to q f fs s = record { regions = refl; at = tt }
+  copies_keep : (c : Option (Content Value)) (q : Spot) (f : Frame) (fs : List Frame) (s : Store) → Keeps (regions_of (f ∷ fs)) (copies following c q (top f fs s))
+  copies_keep None q f fs s = record { regions = refl; at = tt }
+  copies_keep (Some c) q f fs s = record { regions = with_same q.root _ (answered done f ∷ fs); at = tt }
 
-  stores_text_keep : (text : Option (List ℕ)) (old : Option (Content Value)) (q : Spot) (f : Frame) (fs : List Frame) (s : Store) → Keeps (regions_of (f ∷ fs)) (stores_text following text old q f fs s)
+  stores_text_keep : (text : Option (List ℕ)) (old : Option (Content Value)) (q : Spot) (f : Frame) (fs : List Frame) (s : Store) → Keeps (regions_of (f ∷ fs)) (stores_text following text old q (top f fs s))
   stores_text_keep None old q f fs s = record { regions = refl; at = tt }
   stores_text_keep (Some cs) None q f fs s = record { regions = refl; at = tt }
   stores_text_keep (Some cs) (Some old) q f fs s = record { regions = with_same q.root _ (answered done f ∷ fs); at = tt }
@@ -329,19 +327,19 @@ module _ (following : List ℕ) where
   enters_keep false g fs s none = record { regions = ap (λ ls. ls ++ regions_of fs) none; at = tt }
 
 module _ (p : Program) (following : List ℕ) where
-  calls_keep : (r : Option Routine) (vs : List Value) (f : Frame) (fs : List Frame) (s : Store) → Keeps (regions_of (f ∷ fs)) (calls p following r vs f fs s)
+  calls_keep : (r : Option Routine) (vs : List Value) (f : Frame) (fs : List Frame) (s : Store) → Keeps (regions_of (f ∷ fs)) (calls p following r vs (top f fs s))
   calls_keep None vs f fs s = record { regions = refl; at = tt }
   calls_keep (Some r) vs f fs s =
       let g = called_frame p following r vs (f ∷ fs) s in
       enters_keep following (is_deep following g (f ∷ fs)) g (f ∷ fs) s (body_none (lock_of g) r.body)
 
-  makes_with_keep : (ns : Option (List ℕ)) (t : ℕ) (f : Frame) (fs : List Frame) (s : Store) → Keeps (regions_of (f ∷ fs)) (makes_with p following ns t f fs s)
+  makes_with_keep : (ns : Option (List ℕ)) (t : ℕ) (f : Frame) (fs : List Frame) (s : Store) → Keeps (regions_of (f ∷ fs)) (makes_with p following ns t (top f fs s))
   makes_with_keep None t f fs s = record { regions = refl; at = tt }
   makes_with_keep (Some ns) t f fs s =
       let m : Made = record { type = t; lengths = ns } in
       let c = first_content (first_value p) (made_shape p.types m) in makes_keep following (has_room m c s) m c f fs s
 
-  answer_keeps : (q : Question) (f : Frame) (fs : List Frame) (s : Store) → HasBegun f → Keeps (regions_of (f ∷ fs)) (answer p following q f fs s)
+  answer_keeps : (q : Question) (f : Frame) (fs : List Frame) (s : Store) → HasBegun f → Keeps (regions_of (f ∷ fs)) (answer p following q (top f fs s))
   answer_keeps (Reads t q) f fs s h = record { regions = refl; at = tt }
   answer_keeps (Stores q v) f fs s h = record { regions = with_same q.root _ (answered done f ∷ fs); at = tt }
   answer_keeps (Makes t vs) f fs s h = makes_with_keep (array_lengths (map number_of vs)) t f fs s
@@ -352,7 +350,7 @@ module _ (p : Program) (following : List ℕ) where
   answer_keeps PutsLn f fs s h = record { regions = refl; at = tt }
   answer_keeps (Copies t from to) f fs s h =
       let x = all_rooted (f ∷ fs) s in
-      copies_keep following (variable_shape p.types (id_of t)) (read from.root from.path x) (read to.root to.path x) to f fs s
+      copies_keep following (copied (variable_shape p.types (id_of t)) (read from.root from.path x) (read to.root to.path x)) to f fs s
   answer_keeps (PutsText strict from n to room) f fs s h =
       let x = all_rooted (f ∷ fs) s in
       let text = fitted strict (unsigned_abs (number_of room)) (text_in (read from.root from.path x)) in
@@ -370,7 +368,7 @@ module _ (p : Program) (following : List ℕ) where
   answer_keeps Leaves f fs s h = record { regions = refl; at = tt }
   answer_keeps (Awaits c) f fs s h = awaits_keep following (locks_in (lock_of f) f.items) c f fs s refl h
 
-  tests_keep : (d : Doing Value) (if_true if_false : Turned) (f : Frame) (fs : List Frame) (s : Store) → HasBegun f → Keeps (regions_of (f ∷ fs)) if_true → Keeps (regions_of (f ∷ fs)) if_false → Keeps (regions_of (f ∷ fs)) (tests p following d if_true if_false f fs s)
+  tests_keep : (d : Doing Value) (if_true if_false : Turned) (f : Frame) (fs : List Frame) (s : Store) → HasBegun f → Keeps (regions_of (f ∷ fs)) if_true → Keeps (regions_of (f ∷ fs)) if_false → Keeps (regions_of (f ∷ fs)) (tests p following d if_true if_false (top f fs s))
   tests_keep (Val v) if_true if_false f fs s h a b = by (is_true v)
     where
       by : (c : Bool) → Keeps (regions_of (f ∷ fs)) (if c then if_true else if_false)
@@ -382,12 +380,12 @@ module _ (p : Program) (following : List ℕ) where
   along_locks : (xs ys : List LockName) (t : Turned) → xs ≡ ys → Keeps xs t → Keeps ys t
   along_locks xs ys t e h = record { regions = h.regions ∙ e; at = h.at }
 
-  finishes_keep : (function : Bool) (f : Frame) (fs : List Frame) (s : Store) → [] ≡ locks_in (lock_of f) f.items → Keeps (regions_of (f ∷ fs)) (finishes p following function f fs s)
+  finishes_keep : (function : Bool) (f : Frame) (fs : List Frame) (s : Store) → [] ≡ locks_in (lock_of f) f.items → Keeps (regions_of (f ∷ fs)) (finishes p following function (top f fs s))
   finishes_keep true f fs s none = record { regions = refl; at = tt }
   finishes_keep false f fs s none = along_locks (regions_of fs) (regions_of (f ∷ fs)) (ends following None fs s) (ap (λ ls. ls ++ regions_of fs) none) (ends_keep following None fs s)
 
   -- these items of a frame are next, which have the marks of all that it has
-  settles_keep : (is : List Item) (f : Frame) (fs : List Frame) (s : Store) → locks_in (lock_of f) is ≡ locks_in (lock_of f) f.items → Keeps (regions_of (f ∷ fs)) (settles p following is f fs s)
+  settles_keep : (is : List Item) (f : Frame) (fs : List Frame) (s : Store) → locks_in (lock_of f) is ≡ locks_in (lock_of f) f.items → Keeps (regions_of (f ∷ fs)) (settles p following is (top f fs s))
   settles_keep [] f fs s e = finishes_keep f.gives f fs s e
   settles_keep (Do st ∷ is) f fs s e = record { regions = ap (λ ls. ls ++ regions_of fs) e; at = tt }
   settles_keep (Rounds at w q last step b ∷ is) f fs s e = record { regions = ap (λ ls. ls ++ regions_of fs) e; at = tt }
@@ -398,7 +396,7 @@ module _ (p : Program) (following : List ℕ) where
       let begun : Frame = record f { items = Until at b x ∷ is; answers = Some (noted p.types (made_in s) f.variables test) } in
       let same : whole ≡ regions_of (begun ∷ fs) = ap (λ ls. ls ++ regions_of fs) (sym e) in
       along_locks (regions_of (begun ∷ fs)) whole _ (sym same)
-      (tests_keep (calm p.types (made_in s) f.variables test) (settles p following is f fs s) (begins following at (Do (Repeat at b x) ∷ is) f fs s) begun fs s (_, refl)
+      (tests_keep (calm p.types (made_in s) f.variables test) (settles p following is (top f fs s)) (begins following at (Do (Repeat at b x) ∷ is) (top f fs s)) begun fs s (_, refl)
       (along_locks whole (regions_of (begun ∷ fs)) _ same (settles_keep is f fs s e))
       (record { regions = refl; at = tt }))
   settles_keep (Region ss ∷ is) f fs s e =
@@ -408,7 +406,7 @@ module _ (p : Program) (following : List ℕ) where
   settles_keep (Gives r ∷ is) f fs s e =
       along_locks (regions_of fs) (regions_of (f ∷ fs)) (ends following r fs s) (ap (λ ls. ls ++ regions_of fs) e) (ends_keep following r fs s)
 
-  goes_keep : (i : Item) (d : Doing After) (rest : List Item) (f : Frame) (fs : List Frame) (s : Store) → Each (Marked i) d → f.items ≡ i ∷ rest → HasBegun f → Keeps (regions_of (f ∷ fs)) (goes p following d rest f fs s)
+  goes_keep : (i : Item) (d : Doing After) (rest : List Item) (f : Frame) (fs : List Frame) (s : Store) → Each (Marked i) d → f.items ≡ i ∷ rest → HasBegun f → Keeps (regions_of (f ∷ fs)) (goes p following d rest (top f fs s))
   goes_keep i (Val (Into js)) rest f fs s h e begun = settles_keep (js ++ rest) f fs s (h (lock_of f) rest ∙ ap (locks_in (lock_of f)) (sym e))
   goes_keep i (Val Exits) rest f fs s h e begun =
       settles_keep (leave rest) f fs s (leave_marks (lock_of f) rest ∙ h (lock_of f) rest ∙ ap (locks_in (lock_of f)) (sym e))
@@ -417,7 +415,7 @@ module _ (p : Program) (following : List ℕ) where
   goes_keep i (Asks q k) rest f fs s h e begun = answer_keeps q f fs s begun
   goes_keep i (Traps n c) rest f fs s h e begun = record { regions = refl; at = tt }
 
-  item_keeps : (answers : Option (List Value)) (is : List Item) (f : Frame) (fs : List Frame) (s : Store) → f.items ≡ is → Keeps (regions_of (f ∷ fs)) (item_turn p following answers is f fs s)
+  item_keeps : (answers : Option (List Value)) (is : List Item) (f : Frame) (fs : List Frame) (s : Store) → f.items ≡ is → Keeps (regions_of (f ∷ fs)) (item_turn p following answers is (top f fs s))
   item_keeps None is f fs s e = settles_keep is f fs s (ap (locks_in (lock_of f)) (sym e))
   item_keeps (Some vs) [] f fs s e =
       along_locks (regions_of fs) (regions_of (f ∷ fs)) (ends following None fs s) (ap (λ is. locks_in (lock_of f) is ++ regions_of fs) (sym e)) (ends_keep following None fs s)

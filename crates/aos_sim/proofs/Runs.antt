@@ -19,7 +19,7 @@ use Rattle.aos_code.specs.declared.image.ProcShape.{ProcShape}
 use Rattle.aos_code.specs.declared.image.TypeDesc.{TypeDesc}
 use Rattle.aos_code.specs.declared.image.Image.{Image}
 use Rattle.aos_code.specs.Numbered.{numbered}
-use Rattle.aos_code.specs.Silent.{Here as CodeHere, Stack, Keeps, Question, End, Begins, Fails, Decides, Stop, Work, Ended, Look, AtCell, AtElements, IsType, AsType, AsMethod, AtSlot, Act, Goes, Puts, Takes, Looks, Sees, Stops, is_of, kept, extends, length_cells, Noted, Visible, Answered, Unknown, noted, on_noted, Told, Tells, Refuses, Invokes, Unheard, stands_for, invoked, bound, method_at, told_by, on_told, act, on_act, walk, silent}
+use Rattle.aos_code.specs.Silent.{Stack, Keeps, Question, End, Begins, Fails, Decides, Stop, Work, Ended, Look, AtCell, AtElements, IsType, AsType, AsMethod, AtSlot, Act, Goes, Puts, Takes, Looks, Sees, Stops, is_of, kept, extends, length_cells, Noted, Visible, Answered, Unknown, noted, on_noted, Told, Tells, Refuses, Invokes, Unheard, stands_for, invoked, bound, method_at, told_by, on_told, act, on_act, walk, silent}
 
 -- where code comes to a Begin: its place in the code and the text, what is kept, and the operands; or to the end of a condition
 pub data Left : Type 0 where
@@ -51,10 +51,6 @@ pub record Tables : Type 0 where
 abbrev pub tables_of : Program → Image → Tables
 tables_of p image =
     record { procedures = image.shapes.items; types = image.types.items; dimensions = λ t. open_dimensions p.types (id_of_made t) }
-
--- where the code stands whose statements are carried out here
-abbrev pub in_code : Here → CodeHere
-in_code here = record { below = here.below; self = here.self }
 
 -- what an object tells is asked of it as a row of questions
 
@@ -191,7 +187,7 @@ module _ (types : List TypeDesc) (made : ℕ → Option Made) (cells : List Cell
 module _ (tables : Tables) (own : ℕ) (here : Here) (code : List Instr) where
   abbrev pub runs : List Instr → Onward
   runs [] over at k s = Traps 16 0
-  runs (i ∷ rest) zero at k s = on_run tables (act tables.procedures tables.types own (in_code here) i code at s) (runs rest) at k
+  runs (i ∷ rest) zero at k s = on_run tables (act tables.procedures tables.types own here i code at s) (runs rest) at k
   runs (i ∷ rest) (suc n) at k s = runs rest n (at + 1) k s
 
   -- from a place of the code
@@ -453,7 +449,7 @@ module _ (tables : Tables) (made : ℕ → Option Made) (long : (o : ℕ) (m : M
   calm_here = calm tables.types made cells
 
   abbrev stops : List Instr → ℕ → ℕ → Keeps → Stack → Stop
-  stops = walk tables.procedures tables.types made own (in_code here) cells code
+  stops = walk tables.procedures tables.types made own here cells code
 
   abbrev from_stop : Stop → Run
   from_stop = resume tables own here code
@@ -504,10 +500,10 @@ module _ (tables : Tables) (made : ℕ → Option Made) (long : (o : ℕ) (m : M
   run_by_walk (i ∷ rest) at e (suc n) k s = run_by_walk rest (at + 1) (drop_next at code i rest e) n k s
   run_by_walk (i ∷ rest) at e zero k s =
       let next = drop_next at code i rest e in
-      by_act rest at next (run_by_walk rest (at + 1) next) k (act tables.procedures tables.types own (in_code here) i code at s)
+      by_act rest at next (run_by_walk rest (at + 1) next) k (act tables.procedures tables.types own here i code at s)
 
   -- the run from a place of the code, as far as it's silent, is that from where silent work from there stops
-  pub run_by_silent : (at : ℕ) (k : Keeps) (s : Stack) → calm tables.types made cells (run tables own here code at k s) ≡ resume tables own here code (silent tables.procedures tables.types made own (in_code here) cells code at k s)
+  pub run_by_silent : (at : ℕ) (k : Keeps) (s : Stack) → calm tables.types made cells (run tables own here code at k s) ≡ resume tables own here code (silent tables.procedures tables.types made own here cells code at k s)
   run_by_silent at k s = run_by_walk (drop at code) at refl 0 k s
 
 feed-traps : {Q V A : Type 0} (u : List V) (n c : ℕ) → feed {Q = Q} {V = V} {A = A} u (Traps n c) ≡ Traps n c

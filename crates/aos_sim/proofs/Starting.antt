@@ -18,7 +18,7 @@ use Rattle.aos_code.specs.Memory.{Addr}
 use Rattle.aos_code.specs.Numbered.{numbered}
 use Rattle.aos_code.specs.Silent.{Stack, Keeps, Question, Fails, Decides, Stop, Work, Ended, Look, AtCell, AtElements, IsType, AsType, AsMethod, Act, Goes, Puts, Takes, Looks, Sees, Stops, object_then, on_object, unless_nil, looks, on_receiver, called, callable_then, on_callable, same_formals, applies_to, applies_as, applies, calls_value, sends, gives_self, extends, Told, Tells, Refuses, Invokes, Unheard, told_by, on_told, lost, kept, is_of, on_any, on_kind, on_number, number_then, place_then, on_place, on_text, length_then, lengths_on, counted_on, gives, given, asserts, gives_place, element, cells_of, length_cells, in_rows, gives_picked, on_kinds, kinds_of, calls, ends, lands, jumps, jumps_on_false, act, Noted, Visible, Answered, Unknown, noted, on_noted, on_act, walk, silent}
 use Rattle.aos_base.specs.Rooted.{Made}
-use Rattle.aos_sim.proofs.Runs.{Tables, in_code, on_run, runs, run, drop_next}
+use Rattle.aos_sim.proofs.Runs.{Tables, on_run, runs, run, drop_next}
 use Rattle.aos_typed.specs.Meaning.{Here}
 
 -- What is no start, no entry of a region, and no end of one.
@@ -203,7 +203,7 @@ start_on_top [] v s' e = absurd (cc e)
 start_on_top (w ∷ s) v s' e = start_if (is_of R w) w v s s' e
 
 -- what an instruction does is none of these, or it is one of three
-act_kind : (tables : Tables) (own : ℕ) (here : Here) (i : Instr) (code : List Instr) (at : ℕ) (s : Stack) → (mark (act tables.procedures tables.types own (in_code here) i code at s) ≡ 0) ⊎ ((i ≡ instr.Start) ⊎ ((i ≡ instr.Enter) ⊎ ((i ≡ instr.Leave) ⊎ ((c : ℕ) × (i ≡ instr.Await c)))))
+act_kind : (tables : Tables) (own : ℕ) (here : Here) (i : Instr) (code : List Instr) (at : ℕ) (s : Stack) → (mark (act tables.procedures tables.types own here i code at s) ≡ 0) ⊎ ((i ≡ instr.Start) ⊎ ((i ≡ instr.Enter) ⊎ ((i ≡ instr.Leave) ⊎ ((c : ℕ) × (i ≡ instr.Await c)))))
 act_kind tables own here (instr.Num n) code at s = inl refl
 act_kind tables own here instr.Nil code at s = inl refl
 act_kind tables own here instr.SelfRef code at s = inl (calm_self here.self s)
@@ -350,15 +350,15 @@ region_finds r q s s' h w e =
     let b : s ≡ s' = cc e in
     subst (λ x. Found q s x) b (subst (λ x. Found x s s) a h)
 
-act_finds : (tables : Tables) (own : ℕ) (here : Here) (i : Instr) (code : List Instr) (at : ℕ) (s : Stack) (q : Question) (s' : Stack) → IsWork q → act tables.procedures tables.types own (in_code here) i code at s ≡ Sees q s' → Found q s s'
+act_finds : (tables : Tables) (own : ℕ) (here : Here) (i : Instr) (code : List Instr) (at : ℕ) (s : Stack) (q : Question) (s' : Stack) → IsWork q → act tables.procedures tables.types own here i code at s ≡ Sees q s' → Found q s s'
 act_finds tables own here i code at s q s' w e = by (act_kind tables own here i code at s)
   where
-    by : (mark (act tables.procedures tables.types own (in_code here) i code at s) ≡ 0) ⊎ ((i ≡ instr.Start) ⊎ ((i ≡ instr.Enter) ⊎ ((i ≡ instr.Leave) ⊎ ((c : ℕ) × (i ≡ instr.Await c))))) → Found q s s'
+    by : (mark (act tables.procedures tables.types own here i code at s) ≡ 0) ⊎ ((i ≡ instr.Start) ⊎ ((i ≡ instr.Enter) ⊎ ((i ≡ instr.Leave) ⊎ ((c : ℕ) × (i ≡ instr.Await c))))) → Found q s s'
     by (inl h) = absurd (let z : 0 ≡ 1 = sym h ∙ ap mark e ∙ one_marked q s' w in cc z)
-    by (inr (inl h)) = start_finds q s s' w (ap (λ x. act tables.procedures tables.types own (in_code here) x code at s) (sym h) ∙ e)
-    by (inr (inr (inl h))) = region_finds Enters q s s' refl w (ap (λ x. act tables.procedures tables.types own (in_code here) x code at s) (sym h) ∙ e)
-    by (inr (inr (inr (inl h)))) = region_finds Leaves q s s' refl w (ap (λ x. act tables.procedures tables.types own (in_code here) x code at s) (sym h) ∙ e)
-    by (inr (inr (inr (inr h)))) = region_finds (Awaits h.0) q s s' refl w (ap (λ x. act tables.procedures tables.types own (in_code here) x code at s) (sym h.1) ∙ e)
+    by (inr (inl h)) = start_finds q s s' w (ap (λ x. act tables.procedures tables.types own here x code at s) (sym h) ∙ e)
+    by (inr (inr (inl h))) = region_finds Enters q s s' refl w (ap (λ x. act tables.procedures tables.types own here x code at s) (sym h) ∙ e)
+    by (inr (inr (inr (inl h)))) = region_finds Leaves q s s' refl w (ap (λ x. act tables.procedures tables.types own here x code at s) (sym h) ∙ e)
+    by (inr (inr (inr (inr h)))) = region_finds (Awaits h.0) q s s' refl w (ap (λ x. act tables.procedures tables.types own here x code at s) (sym h.1) ∙ e)
 
 module _ (tables : Tables) (made : ℕ → Option Made) (own : ℕ) (here : Here) (cells : List Cell) (code : List Instr) (q : Question) (work : IsWork q) (p : ℕ) (k' : Keeps) (s' : Stack) where
   -- the instruction that asks, and the operands that it finds
@@ -367,11 +367,11 @@ module _ (tables : Tables) (made : ℕ → Option Made) (own : ℕ) (here : Here
     rest : List Instr
     there : drop p code ≡ instruction ∷ rest
     stack : Stack
-    asks : act tables.procedures tables.types own (in_code here) instruction code p stack ≡ Sees q s'
+    asks : act tables.procedures tables.types own here instruction code p stack ≡ Sees q s'
     visible : noted cells q ≡ Visible
 
   module _ (i : Instr) (rest : List Instr) (at : ℕ) (there : drop at code ≡ i ∷ rest) (next : ℕ → ℕ → Keeps → Stack → Stop) (ih : (over : ℕ) (k : Keeps) (s : Stack) → next over (at + 1) k s ≡ Work q p k' s' → Asked) (s : Stack) where
-    noted_asks : (n : Noted) (asked : Question) (k : Keeps) (s1 : Stack) → noted cells asked ≡ n → act tables.procedures tables.types own (in_code here) i code at s ≡ Sees asked s1 → on_noted n asked next at k s1 ≡ Work q p k' s' → Asked
+    noted_asks : (n : Noted) (asked : Question) (k : Keeps) (s1 : Stack) → noted cells asked ≡ n → act tables.procedures tables.types own here i code at s ≡ Sees asked s1 → on_noted n asked next at k s1 ≡ Work q p k' s' → Asked
     noted_asks Visible asked k s1 n seen e =
         let a : asked ≡ q = cc e in
         let b : at ≡ p = cc e in
@@ -381,7 +381,7 @@ module _ (tables : Tables) (made : ℕ → Option Made) (own : ℕ) (here : Here
           rest = rest;
           there = ap (λ x. drop x code) (sym b) ∙ there;
           stack = s;
-          asks = ap (λ x. act tables.procedures tables.types own (in_code here) i code x s) (sym b) ∙ seen ∙ (λ j. Sees (a j) (c j));
+          asks = ap (λ x. act tables.procedures tables.types own here i code x s) (sym b) ∙ seen ∙ (λ j. Sees (a j) (c j));
           visible = ap (noted cells) (sym a) ∙ n;
         }
     noted_asks (Answered v) asked k s1 n seen e = ih 0 k (v ∷ s1) e
@@ -397,7 +397,7 @@ module _ (tables : Tables) (made : ℕ → Option Made) (own : ℕ) (here : Here
     told_asks (Invokes n us) k s1 e = let other : q ≡ Calls ByName n us = cc e in absurd (subst IsWork other work)
     told_asks Unheard k s1 e = absurd (cc e)
 
-    act_asks : (a : Act) (k : Keeps) → act tables.procedures tables.types own (in_code here) i code at s ≡ a → on_act tables.procedures tables.types made cells a next at k ≡ Work q p k' s' → Asked
+    act_asks : (a : Act) (k : Keeps) → act tables.procedures tables.types own here i code at s ≡ a → on_act tables.procedures tables.types made cells a next at k ≡ Work q p k' s' → Asked
     act_asks (Goes over s1) k seen e = ih over k s1 e
     act_asks (Puts c v s1) k seen e = ih 0 (kept c v k) s1 e
     act_asks (Takes c kind s1) k seen e = if_asks (is_of kind (k c)) k (k c ∷ s1) e
@@ -405,30 +405,30 @@ module _ (tables : Tables) (made : ℕ → Option Made) (own : ℕ) (here : Here
     act_asks (Sees asked s1) k seen e = noted_asks (noted cells asked) asked k s1 refl seen e
     act_asks (Stops end) k seen e = absurd (cc e)
 
-  walk_asks : (rest : List Instr) (over at : ℕ) (k : Keeps) (s : Stack) → drop at code ≡ rest → walk tables.procedures tables.types made own (in_code here) cells code rest over at k s ≡ Work q p k' s' → Asked
+  walk_asks : (rest : List Instr) (over at : ℕ) (k : Keeps) (s : Stack) → drop at code ≡ rest → walk tables.procedures tables.types made own here cells code rest over at k s ≡ Work q p k' s' → Asked
   walk_asks [] over at k s there e = absurd (cc e)
   walk_asks (i ∷ rest) (suc n) at k s there e = walk_asks rest n (at + 1) k s (drop_next at code i rest there) e
   walk_asks (i ∷ rest) zero at k s there e =
-      act_asks i rest at there (walk tables.procedures tables.types made own (in_code here) cells code rest) (λ over k1 s1 e1. walk_asks rest over (at + 1) k1 s1 (drop_next at code i rest there) e1) s (act tables.procedures tables.types own (in_code here) i code at s) k refl e
+      act_asks i rest at there (walk tables.procedures tables.types made own here cells code rest) (λ over k1 s1 e1. walk_asks rest over (at + 1) k1 s1 (drop_next at code i rest there) e1) s (act tables.procedures tables.types own here i code at s) k refl e
 
 -- from where silent work has come to such work, with what it finds on the stack
-module _ (tables : Tables) (made : ℕ → Option Made) (own : ℕ) (here : Here) (cells : List Cell) (code : List Instr) (at : ℕ) (k : Keeps) (s : Stack) (q : Question) (work : IsWork q) (p : ℕ) (k' : Keeps) (s' : Stack) (e : silent tables.procedures tables.types made own (in_code here) cells code at k s ≡ Work q p k' s') (top : Stack) (found : (st : Stack) → Found q st s' → st ≡ top) where
+module _ (tables : Tables) (made : ℕ → Option Made) (own : ℕ) (here : Here) (cells : List Cell) (code : List Instr) (at : ℕ) (k : Keeps) (s : Stack) (q : Question) (work : IsWork q) (p : ℕ) (k' : Keeps) (s' : Stack) (e : silent tables.procedures tables.types made own here cells code at k s ≡ Work q p k' s') (top : Stack) (found : (st : Stack) → Found q st s' → st ≡ top) where
   abbrev asking : Asked tables made own here cells code q work p k' s'
   asking = walk_asks tables made own here cells code q work p k' s' (drop at code) 0 at k s refl e
 
-  asks_so : act tables.procedures tables.types own (in_code here) asking.instruction code p top ≡ Sees q s'
+  asks_so : act tables.procedures tables.types own here asking.instruction code p top ≡ Sees q s'
   asks_so =
-      ap (λ x. act tables.procedures tables.types own (in_code here) asking.instruction code p x) (sym (found asking.stack (act_finds tables own here asking.instruction code p asking.stack q s' work asking.asks))) ∙ asking.asks
+      ap (λ x. act tables.procedures tables.types own here asking.instruction code p x) (sym (found asking.stack (act_finds tables own here asking.instruction code p asking.stack q s' work asking.asks))) ∙ asking.asks
 
   -- it comes to the same, whatever objects are known
-  pub silent_at_work : (known : ℕ → Option Made) → silent tables.procedures tables.types known own (in_code here) cells code p k' top ≡ Work q p k' s'
+  pub silent_at_work : (known : ℕ → Option Made) → silent tables.procedures tables.types known own here cells code p k' top ≡ Work q p k' s'
   silent_at_work known =
-      ap (λ l. walk tables.procedures tables.types known own (in_code here) cells code l 0 p k' top) asking.there
-      ∙ ap (λ a. on_act tables.procedures tables.types known cells a (walk tables.procedures tables.types known own (in_code here) cells code asking.rest) p k') asks_so
-      ∙ ap (λ n. on_noted n q (walk tables.procedures tables.types known own (in_code here) cells code asking.rest) p k' s') asking.visible
+      ap (λ l. walk tables.procedures tables.types known own here cells code l 0 p k' top) asking.there
+      ∙ ap (λ a. on_act tables.procedures tables.types known cells a (walk tables.procedures tables.types known own here cells code asking.rest) p k') asks_so
+      ∙ ap (λ n. on_noted n q (walk tables.procedures tables.types known own here cells code asking.rest) p k' s') asking.visible
 
-module _ (tables : Tables) (made : ℕ → Option Made) (own : ℕ) (here : Here) (cells : List Cell) (code : List Instr) (at : ℕ) (k : Keeps) (s : Stack) (v : Cell) (p : ℕ) (k' : Keeps) (s' : Stack) (e : silent tables.procedures tables.types made own (in_code here) cells code at k s ≡ Work (Starts v) p k' s') where
-  pub silent_at_start : (known : ℕ → Option Made) → silent tables.procedures tables.types known own (in_code here) cells code p k' (v ∷ s') ≡ Work (Starts v) p k' s'
+module _ (tables : Tables) (made : ℕ → Option Made) (own : ℕ) (here : Here) (cells : List Cell) (code : List Instr) (at : ℕ) (k : Keeps) (s : Stack) (v : Cell) (p : ℕ) (k' : Keeps) (s' : Stack) (e : silent tables.procedures tables.types made own here cells code at k s ≡ Work (Starts v) p k' s') where
+  pub silent_at_start : (known : ℕ → Option Made) → silent tables.procedures tables.types known own here cells code p k' (v ∷ s') ≡ Work (Starts v) p k' s'
   silent_at_start = silent_at_work tables made own here cells code at k s (Starts v) tt p k' s' e (v ∷ s') (λ st h. h)
 
   abbrev started : Asked tables made own here cells code (Starts v) tt p k' s'
@@ -443,22 +443,22 @@ module _ (tables : Tables) (made : ℕ → Option Made) (own : ℕ) (here : Here
 
 -- so it does at the entry of a region, and at its end
 module _ (tables : Tables) (made : ℕ → Option Made) (own : ℕ) (here : Here) (cells : List Cell) (code : List Instr) (at : ℕ) (k : Keeps) (s : Stack) (p : ℕ) (k' : Keeps) (s' : Stack) where
-  pub silent_at_entry : silent tables.procedures tables.types made own (in_code here) cells code at k s ≡ Work Enters p k' s' → (known : ℕ → Option Made) → silent tables.procedures tables.types known own (in_code here) cells code p k' s' ≡ Work Enters p k' s'
+  pub silent_at_entry : silent tables.procedures tables.types made own here cells code at k s ≡ Work Enters p k' s' → (known : ℕ → Option Made) → silent tables.procedures tables.types known own here cells code p k' s' ≡ Work Enters p k' s'
   silent_at_entry e = silent_at_work tables made own here cells code at k s Enters tt p k' s' e s' (λ st h. h)
 
-  pub silent_at_end : silent tables.procedures tables.types made own (in_code here) cells code at k s ≡ Work Leaves p k' s' → (known : ℕ → Option Made) → silent tables.procedures tables.types known own (in_code here) cells code p k' s' ≡ Work Leaves p k' s'
+  pub silent_at_end : silent tables.procedures tables.types made own here cells code at k s ≡ Work Leaves p k' s' → (known : ℕ → Option Made) → silent tables.procedures tables.types known own here cells code p k' s' ≡ Work Leaves p k' s'
   silent_at_end e = silent_at_work tables made own here cells code at k s Leaves tt p k' s' e s' (λ st h. h)
 
 -- and from there the code asks so
 module _ (tables : Tables) (made : ℕ → Option Made) (own : ℕ) (here : Here) (cells : List Cell) (code : List Instr) (at : ℕ) (k : Keeps) (s : Stack) (p : ℕ) (k' : Keeps) (s' : Stack) where
-  pub run_at_entry : silent tables.procedures tables.types made own (in_code here) cells code at k s ≡ Work Enters p k' s' → run tables own here code p k' s' ≡ Asks Enters (λ x. run tables own here code (p + 1) k' s')
+  pub run_at_entry : silent tables.procedures tables.types made own here cells code at k s ≡ Work Enters p k' s' → run tables own here code p k' s' ≡ Asks Enters (λ x. run tables own here code (p + 1) k' s')
   run_at_entry e =
       let there = asking tables made own here cells code at k s Enters tt p k' s' e s' (λ st h. h) in
       ap (λ l. runs tables own here code l 0 p k' s') there.there
       ∙ ap (λ a. on_run tables a (runs tables own here code there.rest) p k') (asks_so tables made own here cells code at k s Enters tt p k' s' e s' (λ st h. h))
       ∙ ap (λ l. Asks Enters (λ x. runs tables own here code l 0 (p + 1) k' s')) (sym (drop_next p code there.instruction there.rest there.there))
 
-  pub run_at_end : silent tables.procedures tables.types made own (in_code here) cells code at k s ≡ Work Leaves p k' s' → run tables own here code p k' s' ≡ Asks Leaves (λ x. run tables own here code (p + 1) k' s')
+  pub run_at_end : silent tables.procedures tables.types made own here cells code at k s ≡ Work Leaves p k' s' → run tables own here code p k' s' ≡ Asks Leaves (λ x. run tables own here code (p + 1) k' s')
   run_at_end e =
       let there = asking tables made own here cells code at k s Leaves tt p k' s' e s' (λ st h. h) in
       ap (λ l. runs tables own here code l 0 p k' s') there.there
@@ -466,8 +466,8 @@ module _ (tables : Tables) (made : ℕ → Option Made) (own : ℕ) (here : Here
       ∙ ap (λ l. Asks Leaves (λ x. runs tables own here code l 0 (p + 1) k' s')) (sym (drop_next p code there.instruction there.rest there.there))
 
 -- and at a condition that is awaited
-module _ (tables : Tables) (made : ℕ → Option Made) (own : ℕ) (here : Here) (cells : List Cell) (code : List Instr) (at : ℕ) (k : Keeps) (s : Stack) (c : ℕ) (p : ℕ) (k' : Keeps) (s' : Stack) (e : silent tables.procedures tables.types made own (in_code here) cells code at k s ≡ Work (Awaits c) p k' s') where
-  pub silent_at_await : (known : ℕ → Option Made) → silent tables.procedures tables.types known own (in_code here) cells code p k' s' ≡ Work (Awaits c) p k' s'
+module _ (tables : Tables) (made : ℕ → Option Made) (own : ℕ) (here : Here) (cells : List Cell) (code : List Instr) (at : ℕ) (k : Keeps) (s : Stack) (c : ℕ) (p : ℕ) (k' : Keeps) (s' : Stack) (e : silent tables.procedures tables.types made own here cells code at k s ≡ Work (Awaits c) p k' s') where
+  pub silent_at_await : (known : ℕ → Option Made) → silent tables.procedures tables.types known own here cells code p k' s' ≡ Work (Awaits c) p k' s'
   silent_at_await = silent_at_work tables made own here cells code at k s (Awaits c) tt p k' s' e s' (λ st h. h)
 
   pub run_at_await : run tables own here code p k' s' ≡ Asks (Awaits c) (λ x. run tables own here code (p + 1) k' s')

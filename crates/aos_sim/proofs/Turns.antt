@@ -42,7 +42,7 @@ use Rattle.aos_code.specs.declared.image.TypeDesc.{TypeDesc}
 use Rattle.aos_code.specs.declared.image.Image.{Image}
 use Rattle.aos_code.specs.Numbered.{numbered}
 use Rattle.aos_code.specs.Memory.{Memory, has_room as memory_room, with_object as with_cells}
-use Rattle.aos_code.specs.Silent.{Here as CodeHere, Stack, Keeps, Question, Begins, Fails, Decides, Stop, Work, Ended, silent}
+use Rattle.aos_code.specs.Silent.{Stack, Keeps, Question, Begins, Fails, Decides, Stop, Work, Ended, silent}
 use Rattle.aos_code.specs.Machine as I
 use Rattle.aos_code.specs.Machine.{first_cell, code_of}
 use Rattle.aos_concurrency.specs.Spot.{GoesPast}
@@ -58,7 +58,7 @@ use Rattle.aos_sim.specs.Shows.{shape_of, type_kinds, made_kinds}
 use Rattle.aos_layout.specs.Layout.{kind_of as layout_kind}
 use Rattle.aos_layout.specs.Seen.{seen_shape}
 use Rattle.aos_sim.proofs.Kept.{values_kept}
-use Rattle.aos_sim.proofs.Runs.{Run, Tables, tables_of, in_code, is_asked_at_once, AtBegin, Decided, Onward, gives_result, past, calm, runs, run, resume, run_by_silent, feed-append}
+use Rattle.aos_sim.proofs.Runs.{Run, Tables, tables_of, is_asked_at_once, AtBegin, Decided, Onward, gives_result, past, calm, runs, run, resume, run_by_silent, feed-append}
 use Rattle.aos_sim.proofs.Types.{integer_is, character_is}
 use Rattle.aos_sim.proofs.Results.{natural_is}
 use Rattle.aos_sim.proofs.References.{stored_kind}
@@ -268,7 +268,7 @@ module _ (program : Program) (image : Image) where
     onward over at k st = runs tables g.procedure here code (drop at code) over at k st
 
     abbrev stop_from : ℕ → Keeps → Stack → Stop
-    stop_from = silent shapes types now.made g.procedure (in_code here) g.cells code
+    stop_from = silent shapes types now.made g.procedure here g.cells code
 
     abbrev resumed : Stop → Run
     resumed = resume tables g.procedure here code
@@ -352,7 +352,7 @@ module _ (program : Program) (image : Image) where
         let shown' = ends_shown program image s.made ms ps (answer_of program image r) c fs gs shown.1 in
         subst (λ z. Alike z (I.goes ps shapes types stop g' gs mem)) (sym (ends_is ms r fs s))
         (subst (λ z. Alike (S.goes_on ms uppers' s) (I.goes ps shapes types z g' gs mem)) (sym v.is)
-        (subst (λ b. Alike (S.goes_on ms uppers' s) (I.works ps shapes types (not b) (Ends c) v.at v.keeps v.stack g' gs mem)) (sym closed)
+        (subst (λ b. Alike (S.goes_on ms uppers' s) (I.works ps shapes types (not b) (Ends c) (I.asker v.at v.keeps v.stack g' gs mem))) (sym closed)
         (went s mem [] false Went (S.all_frames ms uppers') (I.all_frames ps lowers') (λ k. k)
         (record {
           stores = stores;
@@ -360,9 +360,9 @@ module _ (program : Program) (image : Image) where
         }))))
 
     -- an item begins
-    begins_alike : (there : Pos) (i : Item) (is items : List Item) (answers : Option (List Value)) (next : ℕ) (k0 : Keeps) (st0 : Stack) (stop : Stop) (m : Run) → Marked (i ∷ is) → BeginsAt program own tables g.procedure here code there i is now m → resumed stop ≡ calm types now.made g.cells m → Alike (S.begins ms there (i ∷ is) (upper items answers) fs s) (I.goes ps shapes types stop (lower next k0 st0) gs mem)
+    begins_alike : (there : Pos) (i : Item) (is items : List Item) (answers : Option (List Value)) (next : ℕ) (k0 : Keeps) (st0 : Stack) (stop : Stop) (m : Run) → Marked (i ∷ is) → BeginsAt program own tables g.procedure here code there i is now m → resumed stop ≡ calm types now.made g.cells m → Alike (S.begins ms there (i ∷ is) (S.top (upper items answers) fs s)) (I.goes ps shapes types stop (lower next k0 st0) gs mem)
     begins_alike there i is items answers next k0 st0 stop m marked b e =
-        subst (λ z. Alike (S.begins ms there (i ∷ is) (upper items answers) fs s) (I.goes ps shapes types z (lower next k0 st0) gs mem)) (sym (stop_begins tables g.procedure here code stop b.at there b.keeps [] (e ∙ ap (calm types now.made g.cells) b.runs)))
+        subst (λ z. Alike (S.begins ms there (i ∷ is) (S.top (upper items answers) fs s)) (I.goes ps shapes types z (lower next k0 st0) gs mem)) (sym (stop_begins tables g.procedure here code stop b.at there b.keeps [] (e ∙ ap (calm types now.made g.cells) b.runs)))
         (went s mem [] true Went _ _ (λ k. k)
         (record {
           stores = stores;
@@ -428,7 +428,7 @@ module _ (program : Program) (image : Image) where
       puts_alike : (bytes : List ℕ) (p : ℕ) (k' : Keeps) (st' : Stack) → SameState program image s mem (uppers (i ∷ is) (Some (t ++ S.done ∷ []))) (lowers (p + 1) k' st') → Alike (S.puts ms bytes (S.answered S.done top ∷ fs) s) (I.puts ps bytes (I.behind ps p k' st' low ∷ gs) mem)
       puts_alike bytes p k' st' h = went s mem bytes false Went _ _ (λ x. x) h
 
-      prints_alike : (o : Option (List ℕ)) (p : ℕ) (k' : Keeps) (st' : Stack) → SameState program image s mem (uppers (i ∷ is) (Some (t ++ S.done ∷ []))) (lowers (p + 1) k' st') → Alike (S.prints ms o top fs s) (I.prints ps o p k' st' low gs mem)
+      prints_alike : (o : Option (List ℕ)) (p : ℕ) (k' : Keeps) (st' : Stack) → SameState program image s mem (uppers (i ∷ is) (Some (t ++ S.done ∷ []))) (lowers (p + 1) k' st') → Alike (S.prints ms o (S.top top fs s)) (I.prints ps o (I.asker p k' st' low gs mem))
       prints_alike None p k' st' h = went s mem [] false (Trapped 14 0) _ _ (λ x. x) (state (i ∷ is) (Some t) next k st marked left)
       prints_alike (Some bytes) p k' st' h = puts_alike bytes p k' st' h
 
@@ -448,39 +448,39 @@ module _ (program : Program) (image : Image) where
       read_at p z e = read_alike (Is program) cell_of IsPlain (values_kept program) (scheme program) s.made shapes_now variables cells p.root p.path z shows e
 
       -- a scalar is read
-      reads_alike : (u : TType) (a : Spot) (x : Asking (Reads u a)) → Alike (S.answer program ms (Reads u a) top fs s) (I.answer ps shapes types (placed program now (Reads u a)) x.at x.keeps x.stack low gs mem)
+      reads_alike : (u : TType) (a : Spot) (x : Asking (Reads u a)) → Alike (S.answer program ms (Reads u a) (S.top top fs s)) (I.answer ps shapes types (placed program now (Reads u a)) (I.asker x.at x.keeps x.stack low gs mem))
       reads_alike u a x =
           let r = read_at a (Plain (id_of u)) x.valid.1 in
           let source : Value → S.Turned = λ v. S.goes_on ms (S.answered v top ∷ fs) s in
           let there = I.goes_on ps (I.behind ps x.at x.keeps (cell_of now r.value ∷ x.stack) low ∷ gs) mem in
           let lost = I.leaves ps (Trapped 16 0) (low ∷ gs) mem in
-          subst (λ z. Alike (source z) (I.answer ps shapes types (placed program now (Reads u a)) x.at x.keeps x.stack low gs mem)) (sym (ap scalar_in r.source))
-          (subst (λ o. Alike (source r.value) (I.reads ps (kind_of program.types u) o x.at x.keeps x.stack low gs mem)) (sym r.image)
+          subst (λ z. Alike (source z) (I.answer ps shapes types (placed program now (Reads u a)) (I.asker x.at x.keeps x.stack low gs mem))) (sym (ap scalar_in r.source))
+          (subst (λ o. Alike (source r.value) (I.reads ps (kind_of program.types u) o (I.asker x.at x.keeps x.stack low gs mem))) (sym r.image)
           (subst (λ b. Alike (source r.value) (if b then there else lost)) (sym (stored_kind program typed.predeclared u x.valid.0 now r.value r.is))
           (went s mem [] false Went _ _ (λ z. z) (answered_now (Reads u a) x r.value r.is (cell_of now r.value ∷ x.stack) refl))))
 
       -- a scalar is stored
-      stores_alike : (a : Spot) (v : Value) (x : Asking (Stores a v)) → Alike (S.answer program ms (Stores a v) top fs s) (I.answer ps shapes types (placed program now (Stores a v)) x.at x.keeps x.stack low gs mem)
+      stores_alike : (a : Spot) (v : Value) (x : Asking (Stores a v)) → Alike (S.answer program ms (Stores a v) (S.top top fs s)) (I.answer ps shapes types (placed program now (Stores a v)) (I.asker x.at x.keeps x.stack low gs mem))
       stores_alike a v x =
           let sort = x.valid.0 in
           let r = read_at a sort x.valid.2 in
           let cell = cell_of now v in
-          let source = S.answer program ms (Stores a v) top fs s in
+          let source = S.answer program ms (Stores a v) (S.top top fs s) in
           let new = stored_alike (Is program) cell_of IsPlain (values_kept program) (scheme program) s.made shapes_now variables cells a.root a.path (One sort) (Scalar v) shows x.valid.2 x.valid.1 x.valid.3 in
           let h = answered_frames (Stores a v) x S.done tt x.stack refl in
-          subst (λ o. Alike source (I.writes ps (is_some o) (addr_of now a) (cell ∷ []) x.at x.keeps x.stack low gs mem)) (sym r.image)
+          subst (λ o. Alike source (I.writes ps (is_some o) (addr_of now a) (cell ∷ []) (I.asker x.at x.keeps x.stack low gs mem))) (sym r.image)
           (went _ _ [] false Went _ _ (λ z. z)
           (written program image shaped a.root (placed_at a.path (Scalar v)) (spliced (addr_of now a).cell (cell ∷ [])) s mem ms ps (S.answered S.done top ∷ fs) (I.behind ps x.at x.keeps x.stack low ∷ gs) stores.made stores.few follows h (marked, marks) new))
 
       -- a whole record or array is copied
-      copies_alike : (u : TType) (from to : Spot) (x : Asking (Copies u from to)) → Alike (S.answer program ms (Copies u from to) top fs s) (I.answer ps shapes types (placed program now (Copies u from to)) x.at x.keeps x.stack low gs mem)
+      copies_alike : (u : TType) (from to : Spot) (x : Asking (Copies u from to)) → Alike (S.answer program ms (Copies u from to) (S.top top fs s)) (I.answer ps shapes types (placed program now (Copies u from to)) (I.asker x.at x.keeps x.stack low gs mem))
       copies_alike u from to x =
           let c = copied_alike program s.made shapes_now variables cells shows u from to x.valid.0 x.valid.1 in
           let shape = variable_shape program.types (id_of u) in
-          let source : Option (Content Value) → Option (Content Value) → S.Turned = λ new old. S.copies ms shape new old to (S.answered S.done top ∷ fs) s in
-          let image_so : Option (List Cell) → Bool → I.Turned = λ all there. I.copies ps all there (addr_of now to) x.at x.keeps x.stack low gs mem in
+          let source : Option (Content Value) → Option (Content Value) → S.Turned = λ new old. S.copies ms (S.copied shape new old) to (S.top top fs s) in
+          let image_so : Option (List Cell) → Bool → I.Turned = λ all there. I.copies ps all there (addr_of now to) (I.asker x.at x.keeps x.stack low gs mem) in
           let h = answered_frames (Copies u from to) x S.done tt x.stack refl in
-          subst (λ z. Alike z (I.answer ps shapes types (placed program now (Copies u from to)) x.at x.keeps x.stack low gs mem)) (sym (λ j. source (c.read_from j) (c.read_to j)))
+          subst (λ z. Alike z (I.answer ps shapes types (placed program now (Copies u from to)) (I.asker x.at x.keeps x.stack low gs mem))) (sym (λ j. source (c.read_from j) (c.read_to j)))
           (subst (Alike (source (Some c.new) (Some c.old))) (sym (λ j. image_so (c.image j) (c.there j)))
           (went _ _ [] false Went _ _ (λ z. z)
           (written program image shaped to.root (placed_at to.path (overlay shape c.new c.old)) (spliced (addr_of now to).cell c.cells) s mem ms ps (S.answered S.done top ∷ fs) (I.behind ps x.at x.keeps x.stack low ∷ gs) stores.made stores.few follows h (marked, marks) c.alike)))
@@ -494,49 +494,49 @@ module _ (program : Program) (image : Image) where
 
       -- what is stored of a text, where there is room for it
       text_stored : (strict : Bool) (from : Spot) (n : Value) (to : Spot) (room : Value) (x : Asking (PutsText strict from n to room)) (m : ℕ) → HasCharacters now to m → 0 < m → (text : List ℕ) → AreCodes text → (o : Option (List ℕ)) → fitted strict m text ≡ o →
-          Alike (S.stores_text ms o (read to.root to.path variables) to top fs s) (I.stores_text ps o (addr_of now to) cells x.at x.keeps x.stack low gs mem)
+          Alike (S.stores_text ms o (read to.root to.path variables) to (S.top top fs s)) (I.stores_text ps o (addr_of now to) cells (I.asker x.at x.keeps x.stack low gs mem))
       text_stored strict from n to room x m has some text codes None e = went s mem [] false (Trapped 15 0) _ _ (λ z. z) (state (i ∷ is) (Some t) next k st marked left)
       text_stored strict from n to room x m has some text codes (Some cs) e =
           let c = text_stored_alike program typed.predeclared s.made shapes_now variables cells shows ps to m cs has (fitted_within strict m text cs some codes e) in
-          let source : Option (Content Value) → S.Turned = λ old. S.stores_text ms (Some cs) old to top fs s in
-          let image_so : Bool → I.Turned = λ there. I.writes ps there (addr_of now to) (I.character_cells ps cs) x.at x.keeps x.stack low gs mem in
+          let source : Option (Content Value) → S.Turned = λ old. S.stores_text ms (Some cs) old to (S.top top fs s) in
+          let image_so : Bool → I.Turned = λ there. I.writes ps there (addr_of now to) (I.character_cells ps cs) (I.asker x.at x.keeps x.stack low gs mem) in
           let h = answered_frames (PutsText strict from n to room) x S.done tt x.stack refl in
           subst (λ z. Alike (source z) (image_so (is_some (I.cells_at (length cs) (addr_of now to) cells)))) (sym c.source)
           (subst (λ b. Alike (source (Some c.old)) (image_so b)) (sym c.there)
           (went _ _ [] false Went _ _ (λ z. z)
           (written program image shaped to.root (placed_at to.path (with_text cs c.old)) (spliced (addr_of now to).cell (I.character_cells ps cs)) s mem ms ps (S.answered S.done top ∷ fs) (I.behind ps x.at x.keeps x.stack low ∷ gs) stores.made stores.few follows h (marked, marks) c.alike)))
 
-      texts_put_alike : (strict : Bool) (from : Spot) (n : Value) (to : Spot) (room : Value) (x : Asking (PutsText strict from n to room)) → Alike (S.answer program ms (PutsText strict from n to room) top fs s) (I.answer ps shapes types (placed program now (PutsText strict from n to room)) x.at x.keeps x.stack low gs mem)
+      texts_put_alike : (strict : Bool) (from : Spot) (n : Value) (to : Spot) (room : Value) (x : Asking (PutsText strict from n to room)) → Alike (S.answer program ms (PutsText strict from n to room) (S.top top fs s)) (I.answer ps shapes types (placed program now (PutsText strict from n to room)) (I.asker x.at x.keeps x.stack low gs mem))
       texts_put_alike strict from n to room x =
           let v = x.valid.0 in
           let into = x.valid.1 in
           let a = text_both from v.0 v.2 in
-          let source : Value → List ℕ → S.Turned = λ z text. S.stores_text ms (fitted strict (unsigned_abs (number_of z)) text) (read to.root to.path variables) to top fs s in
-          let image_so : Option (List ℕ) → Value → I.Turned = λ o z. I.puts_text ps strict o (I.length_in ps (cell_of now z)) (addr_of now to) cells x.at x.keeps x.stack low gs mem in
+          let source : Value → List ℕ → S.Turned = λ z text. S.stores_text ms (fitted strict (unsigned_abs (number_of z)) text) (read to.root to.path variables) to (S.top top fs s) in
+          let image_so : Option (List ℕ) → Value → I.Turned = λ o z. I.puts_text ps (I.fitted_in ps strict o (I.length_in ps (cell_of now z))) (addr_of now to) cells (I.asker x.at x.keeps x.stack low gs mem) in
           subst (λ z. Alike z (image_so (I.text_at ps (addr_of now from) (cell_of now n) cells) room)) (sym (λ j. source (into.1 j) (a.source j)))
           (subst (Alike (source (Int (pos into.0)) a.text)) (sym (λ j. image_so (text_found from n v j) (into.1 j)))
-          (subst (λ o. Alike (source (Int (pos into.0)) a.text) (I.stores_text ps o (addr_of now to) cells x.at x.keeps x.stack low gs mem)) (fitted_same ps strict into.0 a.text)
+          (subst (λ o. Alike (source (Int (pos into.0)) a.text) (I.stores_text ps o (addr_of now to) cells (I.asker x.at x.keeps x.stack low gs mem))) (fitted_same ps strict into.0 a.text)
           (text_stored strict from n to room x into.0 into.2 into.3 a.text a.codes (fitted strict into.0 a.text) refl)))
 
       -- a text is written
-      strings_alike : (a : Spot) (n : Value) (x : Asking (PutsString a n)) → Alike (S.answer program ms (PutsString a n) top fs s) (I.answer ps shapes types (placed program now (PutsString a n)) x.at x.keeps x.stack low gs mem)
+      strings_alike : (a : Spot) (n : Value) (x : Asking (PutsString a n)) → Alike (S.answer program ms (PutsString a n) (S.top top fs s)) (I.answer ps shapes types (placed program now (PutsString a n)) (I.asker x.at x.keeps x.stack low gs mem))
       strings_alike a n x =
           let b = text_both a x.valid.0 x.valid.2 in
           let source : List ℕ → S.Turned = λ text. S.puts ms text (S.answered S.done top ∷ fs) s in
-          subst (λ z. Alike (source z) (I.answer ps shapes types (placed program now (PutsString a n)) x.at x.keeps x.stack low gs mem)) (sym b.source)
-          (subst (λ o. Alike (source b.text) (I.writes_out ps o x.at x.keeps x.stack low gs mem)) (sym (text_found a n x.valid))
+          subst (λ z. Alike (source z) (I.answer ps shapes types (placed program now (PutsString a n)) (I.asker x.at x.keeps x.stack low gs mem))) (sym b.source)
+          (subst (λ o. Alike (source b.text) (I.writes_out ps o (I.asker x.at x.keeps x.stack low gs mem))) (sym (text_found a n x.valid))
           (puts_alike b.text x.at x.keeps x.stack (done_so (PutsString a n) x tt refl)))
 
       -- two texts are compared
-      compares_alike : (r : Relation) (a : Spot) (n : Value) (b : Spot) (m : Value) (x : Asking (ComparesTexts r a n b m)) → Alike (S.answer program ms (ComparesTexts r a n b m) top fs s) (I.answer ps shapes types (placed program now (ComparesTexts r a n b m)) x.at x.keeps x.stack low gs mem)
+      compares_alike : (r : Relation) (a : Spot) (n : Value) (b : Spot) (m : Value) (x : Asking (ComparesTexts r a n b m)) → Alike (S.answer program ms (ComparesTexts r a n b m) (S.top top fs s)) (I.answer ps shapes types (placed program now (ComparesTexts r a n b m)) (I.asker x.at x.keeps x.stack low gs mem))
       compares_alike r a n b m x =
           let first = text_both a x.valid.0.0 x.valid.0.2 in
           let second = text_both b x.valid.1.0 x.valid.1.2 in
           let v : List ℕ → List ℕ → Value = λ l z. Flag (holds r (order l z) (pos 0)) in
           let source : List ℕ → List ℕ → S.Turned = λ l z. S.goes_on ms (S.answered (v l z) top ∷ fs) s in
-          let image_so : Option (List ℕ) → Option (List ℕ) → I.Turned = λ l z. I.compares ps r l z x.at x.keeps x.stack low gs mem in
+          let image_so : Option (List ℕ) → Option (List ℕ) → I.Turned = λ l z. I.compares ps r l z (I.asker x.at x.keeps x.stack low gs mem) in
           let is = v first.text second.text in
-          subst (λ z. Alike z (I.answer ps shapes types (placed program now (ComparesTexts r a n b m)) x.at x.keeps x.stack low gs mem)) (sym (λ j. source (first.source j) (second.source j)))
+          subst (λ z. Alike z (I.answer ps shapes types (placed program now (ComparesTexts r a n b m)) (I.asker x.at x.keeps x.stack low gs mem))) (sym (λ j. source (first.source j) (second.source j)))
           (subst (Alike (source first.text second.text)) (sym (λ j. image_so (text_found a n x.valid.0 j) (text_found b m x.valid.1 j)))
           (went s mem [] false Went _ _ (λ z. z) (answered_now (ComparesTexts r a n b m) x is tt (cell_of now is ∷ x.stack) refl)))
 
@@ -564,7 +564,7 @@ module _ (program : Program) (image : Image) where
             subst (λ z. HasLengths program (type_row program.types (id_of_made z)) (record { type = z; lengths = ns })) (sym x.valid.1)
             (made_lengths program number (length vs) vs ns refl (x.valid.3 ∙ ap (λ z. open_dimensions program.types (id_of_made z)) x.valid.1) lengths_are few)
 
-        made_now : (room : Bool) → has_room one content s ≡ room → Alike (S.makes ms room one content top fs s) (I.makes ps room one zeros x.at x.keeps x.stack low gs mem)
+        made_now : (room : Bool) → has_room one content s ≡ room → Alike (S.makes ms room one content (S.top top fs s)) (I.makes ps room one zeros (I.asker x.at x.keeps x.stack low gs mem))
         made_now false e = went s mem [] false (Trapped 12 0) _ _ (λ z. z) (state (i ∷ is) (Some t) next k st marked left)
         made_now true e =
             let w = world_of program made shapes_now in
@@ -576,7 +576,7 @@ module _ (program : Program) (image : Image) where
             let few : AreFew program made = All-append (IsFew program) s.made (one ∷ []) stores.few (All-cons (IsFew program) one [] (room.0, lengths room.1) (All-nil (IsFew program))) in
             let conforms : Conforms program w (Makes u vs) v = (ns, lengths_are, record { number = length s.made; is = refl; made = found }, room.1) in
             let goes = answered_so (Makes u vs) x w more v conforms (Ref (new_number s) ∷ x.stack) refl in
-            subst (λ n. Alike (S.makes ms true one content top fs s) (I.goes_on ps (I.behind ps x.at x.keeps (Ref (suc n) ∷ x.stack) low ∷ gs) (with_cells one zeros mem))) (sym (ap length stores.made))
+            subst (λ n. Alike (S.makes ms true one content (S.top top fs s)) (I.goes_on ps (I.behind ps x.at x.keeps (Ref (suc n) ∷ x.stack) low ∷ gs) (with_cells one zeros mem))) (sym (ap length stores.made))
             (went (with_content one content s) (with_cells one zeros mem) [] false Went _ _ (λ z. z)
             (record {
               stores = record { made = ap (λ l. l ++ one ∷ []) stores.made; few = few; of_modules = new.of_modules; of_objects = new.of_objects };
@@ -596,31 +596,31 @@ module _ (program : Program) (image : Image) where
             empty [] l = refl
             empty (n ∷ ns) l = absurd (omega (arith, l))
 
-        made_alike_so : (d : TypeDesc) → d.kinds.items ≡ type_kinds program.types (id_of_made u) → Alike (S.makes_with program ms (Some ns) u top fs s) (I.makes_with ps (Some ns) u d x.at x.keeps x.stack low gs mem)
+        made_alike_so : (d : TypeDesc) → d.kinds.items ≡ type_kinds program.types (id_of_made u) → Alike (S.makes_with program ms (Some ns) u (S.top top fs s)) (I.makes_with ps (Some ns) u d (I.asker x.at x.keeps x.stack low gs mem))
         made_alike_so d kinds =
             let all : I.in_rows ps ns (map first_cell d.kinds.items) ≡ zeros = ap (λ ks. I.in_rows ps ns (map first_cell ks)) kinds ∙ made_cells program ps one closed in
-            subst (λ cs. Alike (S.makes_with program ms (Some ns) u top fs s) (I.makes ps (memory_room one cs mem) one cs x.at x.keeps x.stack low gs mem)) (sym all)
-            (subst (λ b. Alike (S.makes_with program ms (Some ns) u top fs s) (I.makes ps b one zeros x.at x.keeps x.stack low gs mem)) (sym (room_same program s mem stores one))
+            subst (λ cs. Alike (S.makes_with program ms (Some ns) u (S.top top fs s)) (I.makes ps (memory_room one cs mem) one cs (I.asker x.at x.keeps x.stack low gs mem))) (sym all)
+            (subst (λ b. Alike (S.makes_with program ms (Some ns) u (S.top top fs s)) (I.makes ps b one zeros (I.asker x.at x.keeps x.stack low gs mem))) (sym (room_same program s mem stores one))
             (made_now (has_room one content s) refl))
 
-      makes_alike : (u : ℕ) (vs : List Value) (x : Asking (Makes u vs)) → Alike (S.answer program ms (Makes u vs) top fs s) (I.answer ps shapes types (placed program now (Makes u vs)) x.at x.keeps x.stack low gs mem)
+      makes_alike : (u : ℕ) (vs : List Value) (x : Asking (Makes u vs)) → Alike (S.answer program ms (Makes u vs) (S.top top fs s)) (I.answer ps shapes types (placed program now (Makes u vs)) (I.asker x.at x.keeps x.stack low gs mem))
       makes_alike u vs x =
           let number = x.valid.0 in
           let zs = map number_of vs in
           let d = shaped.kinds number x.valid.2 in
-          let image_so : Option TypeDesc → Option (List ℤ) → I.Turned = λ o l. I.makes_of ps o l u x.at x.keeps x.stack low gs mem in
+          let image_so : Option TypeDesc → Option (List ℤ) → I.Turned = λ o l. I.makes_of ps o l u (I.asker x.at x.keeps x.stack low gs mem) in
           let there : numbered types u ≡ Some d.0 = ap (numbered types) x.valid.1 ∙ d.1 in
           let kinds : d.0.kinds.items ≡ type_kinds program.types (id_of_made u) = d.2 ∙ ap (λ n. made_kinds program.types (id_of_made n)) (sym x.valid.1)
           ∙ ap (λ b. if b then type_kinds program.types (id_of_made u) else []) x.valid.5 in
-          subst (Alike (S.makes_with program ms (array_lengths zs) u top fs s)) (sym (λ j. image_so (there j) (numbers_found ps now vs x.valid.4 j)))
+          subst (Alike (S.makes_with program ms (array_lengths zs) u (S.top top fs s))) (sym (λ j. image_so (there j) (numbers_found ps now vs x.valid.4 j)))
           (by (array_lengths zs) refl d.0 kinds)
         where
-          by : (o : Option (List ℕ)) → array_lengths (map number_of vs) ≡ o → (d : TypeDesc) → d.kinds.items ≡ type_kinds program.types (id_of_made u) → Alike (S.makes_with program ms o u top fs s) (I.makes_with ps o u d x.at x.keeps x.stack low gs mem)
+          by : (o : Option (List ℕ)) → array_lengths (map number_of vs) ≡ o → (d : TypeDesc) → d.kinds.items ≡ type_kinds program.types (id_of_made u) → Alike (S.makes_with program ms o u (S.top top fs s)) (I.makes_with ps o u d (I.asker x.at x.keeps x.stack low gs mem))
           by None e d kinds = went s mem [] false (Trapped 15 0) _ _ (λ z. z) (state (i ∷ is) (Some t) next k st marked left)
           by (Some ns) e d kinds = made_alike_so u vs x ns e d kinds
 
       -- the frames stand before the work, and past it the code is behind the instruction
-      starts_alike : (o : ℕ) (x : Asking (Starts (Object (suc o)))) → Alike (S.starts ms (Object (suc o)) top fs s) (I.starts ps (Ref (suc o)) x.at x.keeps x.stack low gs mem)
+      starts_alike : (o : ℕ) (x : Asking (Starts (Object (suc o)))) → Alike (S.starts ms (Object (suc o)) (S.top top fs s)) (I.starts ps (Ref (suc o)) (I.asker x.at x.keeps x.stack low gs mem))
       starts_alike o x =
           let q = Starts (Object (suc o)) in
           let at_start = I.before ps x.at x.keeps (Ref (suc o) ∷ x.stack) low in
@@ -645,13 +645,13 @@ module _ (program : Program) (image : Image) where
           }
 
       -- a condition is awaited: the frames stand before the instruction, and past it the code is behind it
-      awaits_alike : (c : ℕ) (x : Asking (Awaits c)) → Alike (S.answer program ms (Awaits c) top fs s) (I.answer ps shapes types (Awaits c) x.at x.keeps x.stack low gs mem)
+      awaits_alike : (c : ℕ) (x : Asking (Awaits c)) → Alike (S.answer program ms (Awaits c) (S.top top fs s)) (I.answer ps shapes types (Awaits c) (I.asker x.at x.keeps x.stack low gs mem))
       awaits_alike c x =
-          subst (λ l. Alike (S.awaits ms (locks_in (S.lock_of f) (i ∷ is)) c top fs s) (I.leaves ps (Await l c) (I.before ps x.at x.keeps x.stack low ∷ gs) mem)) (sym (lock_is (i ∷ is) (Some t) next k st))
-          (subst (λ ls. Alike (S.awaits ms ls c top fs s) (I.leaves ps (Await (S.lock_of f) c) (I.before ps x.at x.keeps x.stack low ∷ gs) mem))
+          subst (λ l. Alike (S.awaits ms (locks_in (S.lock_of f) (i ∷ is)) c (S.top top fs s)) (I.leaves ps (Await l c) (I.before ps x.at x.keeps x.stack low ∷ gs) mem)) (sym (lock_is (i ∷ is) (Some t) next k st))
+          (subst (λ ls. Alike (S.awaits ms ls c (S.top top fs s)) (I.leaves ps (Await (S.lock_of f) c) (I.before ps x.at x.keeps x.stack low ∷ gs) mem))
           (sym (marked.0 ∙ ap (λ b. locks_open b (S.lock_of f)) x.opened)) waits)
         where
-          waits : Alike (S.awaits ms (S.lock_of f ∷ []) c top fs s) (I.leaves ps (Await (S.lock_of f) c) (I.before ps x.at x.keeps x.stack low ∷ gs) mem)
+          waits : Alike (S.awaits ms (S.lock_of f ∷ []) c (S.top top fs s)) (I.leaves ps (Await (S.lock_of f) c) (I.before ps x.at x.keeps x.stack low ∷ gs) mem)
           waits =
               let q = Awaits c in
               let at_await = I.before ps x.at x.keeps x.stack low in
@@ -773,7 +773,7 @@ module _ (program : Program) (image : Image) where
             (λ j. I.handed ps (suc (sym long j)) cells shape.params.items (arguments_same j) (length shape.kinds.items))
             ∙ handed_there program typed.ranked ps ms s.made (top ∷ fs) s cells shows routine vs x.valid.2 n shape shape_is
 
-        enters_alike : (b : Bool) → S.is_deep ms new (top ∷ fs) ≡ b → Alike (S.enters ms b new (top ∷ fs) s) (I.enters ps b entered x.at x.keeps x.stack low gs mem)
+        enters_alike : (b : Bool) → S.is_deep ms new (top ∷ fs) ≡ b → Alike (S.enters ms b new (top ∷ fs) s) (I.enters ps b entered (I.asker x.at x.keeps x.stack low gs mem))
         enters_alike true e = went s mem [] false (Trapped 11 0) _ _ (λ z. z) (state (i ∷ is) (Some t) next k st marked left)
         enters_alike false e =
             let few = few_scalars (length (top ∷ fs)) (sum_by (λ (z : S.Frame). z.counted) (top ∷ fs)) new e in
@@ -811,39 +811,39 @@ module _ (program : Program) (image : Image) where
               };
             })
 
-        calls_alike : Alike (S.answer program ms (Calls how n vs) top fs s) (I.answer ps shapes types (placed program now (Calls how n vs)) x.at x.keeps x.stack low gs mem)
+        calls_alike : Alike (S.answer program ms (Calls how n vs) (S.top top fs s)) (I.answer ps shapes types (placed program now (Calls how n vs)) (I.asker x.at x.keeps x.stack low gs mem))
         calls_alike =
-            let image_so : Option ProcShape → I.Turned = λ o. I.calls ps o n cells_given x.at x.keeps x.stack low gs mem in
-            let handed_so : ℕ → Option (I.Handed ps) → I.Turned = λ m o. I.calls_with ps n m shape o x.at x.keeps x.stack low gs mem in
-            subst (λ o. Alike (S.calls program ms o vs top fs s) (image_so (numbered shapes n))) (sym there)
-            (subst (λ o. Alike (S.calls program ms (Some routine) vs top fs s) (image_so o)) (sym (shaped.shapes n routine there).1)
-            (subst (Alike (S.calls program ms (Some routine) vs top fs s)) (sym (λ j. handed_so (object_same j) (handed_same j)))
-            (subst (λ b. Alike (S.calls program ms (Some routine) vs top fs s) (I.enters ps b entered x.at x.keeps x.stack low gs mem)) (sym deep_same)
+            let image_so : Option ProcShape → I.Turned = λ o. I.calls ps o n cells_given (I.asker x.at x.keeps x.stack low gs mem) in
+            let handed_so : ℕ → Option (I.Handed ps) → I.Turned = λ m o. I.calls_with ps (option_map (I.called_frame ps n m shape) o) (I.asker x.at x.keeps x.stack low gs mem) in
+            subst (λ o. Alike (S.calls program ms o vs (S.top top fs s)) (image_so (numbered shapes n))) (sym there)
+            (subst (λ o. Alike (S.calls program ms (Some routine) vs (S.top top fs s)) (image_so o)) (sym (shaped.shapes n routine there).1)
+            (subst (Alike (S.calls program ms (Some routine) vs (S.top top fs s))) (sym (λ j. handed_so (object_same j) (handed_same j)))
+            (subst (λ b. Alike (S.calls program ms (Some routine) vs (S.top top fs s)) (I.enters ps b entered (I.asker x.at x.keeps x.stack low gs mem))) (sym deep_same)
             (enters_alike (S.is_deep ms new (top ∷ fs)) refl))))
 
       -- a character is written
-      chars_alike : (c : ℕ) (x : Asking (PutsChar (Char c))) → Alike (S.answer program ms (PutsChar (Char c)) top fs s) (I.answer ps shapes types (placed program now (PutsChar (Char c))) x.at x.keeps x.stack low gs mem)
+      chars_alike : (c : ℕ) (x : Asking (PutsChar (Char c))) → Alike (S.answer program ms (PutsChar (Char c)) (S.top top fs s)) (I.answer ps shapes types (placed program now (PutsChar (Char c))) (I.asker x.at x.keeps x.stack low gs mem))
       chars_alike c x =
-          subst (λ o. Alike (S.answer program ms (PutsChar (Char c)) top fs s) (I.writes_out ps (option_map (λ n. n ∷ []) o) x.at x.keeps x.stack low gs mem)) (sym (natural_is 256 c x.valid))
+          subst (λ o. Alike (S.answer program ms (PutsChar (Char c)) (S.top top fs s)) (I.writes_out ps (option_map (λ n. n ∷ []) o) (I.asker x.at x.keeps x.stack low gs mem))) (sym (natural_is 256 c x.valid))
           (puts_alike (c ∷ []) x.at x.keeps x.stack (done_so (PutsChar (Char c)) x tt refl))
 
       -- a question is answered
-      work_alike : (q : source.Question) (x : Asking q) → Alike (S.answer program ms q top fs s) (I.answer ps shapes types (placed program now q) x.at x.keeps x.stack low gs mem)
+      work_alike : (q : source.Question) (x : Asking q) → Alike (S.answer program ms q (S.top top fs s)) (I.answer ps shapes types (placed program now q) (I.asker x.at x.keeps x.stack low gs mem))
       work_alike (Reads u a) x = reads_alike u a x
       work_alike (Stores a v) x = stores_alike a v x
       work_alike (Makes u vs) x = makes_alike u vs x
       work_alike (Starts v) x =
-          subst (λ z. (y : Asking (Starts z)) → Alike (S.starts ms z top fs s) (I.starts ps (cell_of now z) y.at y.keeps y.stack low gs mem)) (sym x.valid.1)
+          subst (λ z. (y : Asking (Starts z)) → Alike (S.starts ms z (S.top top fs s)) (I.starts ps (cell_of now z) (I.asker y.at y.keeps y.stack low gs mem))) (sym x.valid.1)
           (starts_alike x.valid.0) x
       work_alike Enters x = absurd x.valid
       work_alike Leaves x = absurd x.valid
       work_alike (Awaits c) x = awaits_alike c x
       work_alike (PutsInt v n) x =
-          subst (λ o. Alike (S.prints ms (S.written v n) top fs s) (I.prints ps o x.at x.keeps x.stack low gs mem)) (written_alike now v n x.valid.0 x.valid.1)
+          subst (λ o. Alike (S.prints ms (S.written v n) (S.top top fs s)) (I.prints ps o (I.asker x.at x.keeps x.stack low gs mem))) (written_alike now v n x.valid.0 x.valid.1)
           (prints_alike (S.written v n) x.at x.keeps x.stack (done_so (PutsInt v n) x tt refl))
       work_alike (PutsChar v) x =
           let c = character_is v x.valid in
-          subst (λ z. (y : Asking (PutsChar z)) → Alike (S.answer program ms (PutsChar z) top fs s) (I.answer ps shapes types (placed program now (PutsChar z)) y.at y.keeps y.stack low gs mem)) (sym c.1)
+          subst (λ z. (y : Asking (PutsChar z)) → Alike (S.answer program ms (PutsChar z) (S.top top fs s)) (I.answer ps shapes types (placed program now (PutsChar z)) (I.asker y.at y.keeps y.stack low gs mem))) (sym c.1)
           (chars_alike c.0) x
       work_alike PutsNothing x = puts_alike [] x.at x.keeps x.stack (done_so PutsNothing x tt refl)
       work_alike PutsLn x = puts_alike (10 ∷ []) x.at x.keeps x.stack (done_so PutsLn x tt refl)
@@ -876,12 +876,12 @@ module _ (program : Program) (image : Image) where
       found q x = refl
 
       -- a question of the item is its code's
-      asks_alike : (q : source.Question) (f' : Value → Doing After) (stop : Stop) → IsVisible q → OpenFor q → feed t (item i) ≡ Asks q f' → stop_from next k st ≡ stop → (m : Run) → resumed stop ≡ calm types now.made g.cells m → Does program here (Leads is) now (calm types now.made g.cells m) (Asks q f') → Alike (S.answer program ms q top fs s) (I.goes ps shapes types stop low gs mem)
+      asks_alike : (q : source.Question) (f' : Value → Doing After) (stop : Stop) → IsVisible q → OpenFor q → feed t (item i) ≡ Asks q f' → stop_from next k st ≡ stop → (m : Run) → resumed stop ≡ calm types now.made g.cells m → Does program here (Leads is) now (calm types now.made g.cells m) (Asks q f') → Alike (S.answer program ms q (S.top top fs s)) (I.goes ps shapes types stop low gs mem)
       asks_alike q f' stop visible opened asks e m seen d =
           let v = stop_works tables g.procedure here code stop (placed program now q) d.0 (seen ∙ d.1) in
           let x : Asking q = record { onto = f'; code_on = d.0; at = v.at; keeps = v.keeps; stack = v.stack; visible = visible; asks = asks; valid = d.2; opened = opened; on = v.on; after = d.3; stop = e ∙ v.is } in
-          subst (λ z. Alike (S.answer program ms q top fs s) (I.goes ps shapes types z low gs mem)) (sym v.is)
-          (subst (λ b. Alike (S.answer program ms q top fs s) (I.works ps shapes types b (placed program now q) v.at v.keeps v.stack low gs mem)) (sym (found q x)) (work_alike q x))
+          subst (λ z. Alike (S.answer program ms q (S.top top fs s)) (I.goes ps shapes types z low gs mem)) (sym v.is)
+          (subst (λ b. Alike (S.answer program ms q (S.top top fs s)) (I.works ps shapes types b (placed program now q) (I.asker v.at v.keeps v.stack low gs mem))) (sym (found q x)) (work_alike q x))
 
     -- silent work of the frame's code, with what objects are made as
     stops_now : (next : ℕ) (k : Keeps) (st : Stack) → calm types now.made g.cells (run_from next k st) ≡ resumed (stop_from next k st)
@@ -951,14 +951,14 @@ module _ (program : Program) (image : Image) where
             (test_lasts.does w up h)
 
         abbrev TestsAlike : Doing Value → Type 0
-        TestsAlike r = BothGo (S.tests program ms r (S.settles program ms is (upper items answers) fs s) (S.begins ms there (again ∷ is) (upper items answers) fs s) (upper (Until there b e ∷ is) told) fs s)
+        TestsAlike r = BothGo (S.tests program ms r (S.settles program ms is (S.top (upper items answers) fs s)) (S.begins ms there (again ∷ is) (S.top (upper items answers) fs s)) (S.top (upper (Until there b e ∷ is) told) fs s))
 
         test_open : (q : source.Question) (h : Value → Doing Value) → known now test ≡ Asks q h → OpenFor q
         test_open (Awaits c) h is_r =
             absurd (never_awaits (known now test) c h (calm_comes program.types now.made f.variables test (value_comes program here e)) is_r)
         test_open q h is_r = tt
 
-        tests_alike : (Comes is next k st → BothGo (S.settles program ms is (upper items answers) fs s)) → (Comes (again ∷ is) next k st → BothGo (S.begins ms there (again ∷ is) (upper items answers) fs s)) → (r : Doing Value) → known now test ≡ r → IsCalm r → TestsAlike r
+        tests_alike : (Comes is next k st → BothGo (S.settles program ms is (S.top (upper items answers) fs s))) → (Comes (again ∷ is) next k st → BothGo (S.begins ms there (again ∷ is) (S.top (upper items answers) fs s))) → (r : Doing Value) → known now test ≡ r → IsCalm r → TestsAlike r
         tests_alike ends begins (Val v) is_r visible = by (is_true v) refl
           where
             comes_to : (c : Bool) → is_true v ≡ c → (w : World Sort) (up : Grows now w) → IsWhole program w → (m : Run) × (calm types w.made g.cells (run_from next k st) ≡ calm types w.made g.cells m) × Onto ((if c then [] else again ∷ []) ++ is) m
@@ -966,7 +966,7 @@ module _ (program : Program) (image : Image) where
                 subst (λ r. Calmly program here (Leads is) types g.cells w (calm types w.made g.cells (run_from next k st)) r)
                 (ap (λ r. goes_known now (bind r on)) is_r ∙ ap (λ (d : Bool). Val (Into (if d then [] else again ∷ []))) e) (tested w up h)
 
-            by : (c : Bool) → is_true v ≡ c → BothGo (if c then S.settles program ms is (upper items answers) fs s else S.begins ms there (again ∷ is) (upper items answers) fs s)
+            by : (c : Bool) → is_true v ≡ c → BothGo (if c then S.settles program ms is (S.top (upper items answers) fs s) else S.begins ms there (again ∷ is) (S.top (upper items answers) fs s))
             by true e = ends (comes_to true e)
             by false e = begins (comes_to false e)
         tests_alike ends begins (Asks q h) is_r visible =
@@ -979,7 +979,7 @@ module _ (program : Program) (image : Image) where
             traps_alike (Until there b e ∷ is) told next k st n c stop v.0 marked_is test_left v.1
 
       -- a body's end
-      finishes_alike : g.is_open ≡ false → (m : Run) → Seen m → (r : Option TType) → result_of own ≡ r → AtEnd r m → BothGo (S.finishes program ms (is_some r) (upper items answers) fs s)
+      finishes_alike : g.is_open ≡ false → (m : Run) → Seen m → (r : Option TType) → result_of own ≡ r → AtEnd r m → BothGo (S.finishes program ms (is_some r) (S.top (upper items answers) fs s))
       finishes_alike closed m seen None e o =
           ends_alike None (lower next k st) closed stop o.0 (subst (λ r. IsResult program now r None) (sym e) tt) (seen ∙ ap (calm types now.made g.cells) o.1)
       finishes_alike closed m seen (Some t) e o =
@@ -987,11 +987,11 @@ module _ (program : Program) (image : Image) where
           traps_alike items answers next k st 10 0 stop v.0 marked left v.1
 
       -- an item is next that begins
-      next_begins : (there : Pos) (i : Item) (is : List Item) (m : Run) → Marked (i ∷ is) → calm types now.made g.cells (run_from next k st) ≡ calm types now.made g.cells m → BeginsAt program own tables g.procedure here code there i is now m → BothGo (S.begins ms there (i ∷ is) (upper items answers) fs s)
+      next_begins : (there : Pos) (i : Item) (is : List Item) (m : Run) → Marked (i ∷ is) → calm types now.made g.cells (run_from next k st) ≡ calm types now.made g.cells m → BeginsAt program own tables g.procedure here code there i is now m → BothGo (S.begins ms there (i ∷ is) (S.top (upper items answers) fs s))
       next_begins there i is m marked' e b = begins_alike there i is items answers next k st stop m marked' b (seen m e)
 
       -- the entry of a region: the frames stand before it, and past it the code is behind the instruction, with the region open
-      region_alike : (ss : Stats) (is : List Item) → Marked (Region ss ∷ is) → (m : Run) → Seen m → Onto (Region ss ∷ is) m → AtNext program own tables g.procedure here code (Region ss ∷ is) now m → BothGo (S.settles program ms (Region ss ∷ is) (upper items answers) fs s)
+      region_alike : (ss : Stats) (is : List Item) → Marked (Region ss ∷ is) → (m : Run) → Seen m → Onto (Region ss ∷ is) m → AtNext program own tables g.procedure here code (Region ss ∷ is) now m → BothGo (S.settles program ms (Region ss ∷ is) (S.top (upper items answers) fs s))
       region_alike ss is marked_is m sees goes a =
           let v = stop_works tables g.procedure here code stop Enters a.0 (sees ∙ ap (calm types now.made g.cells) a.1) in
           let low' = lower v.at v.keeps v.stack in
@@ -1000,7 +1000,7 @@ module _ (program : Program) (image : Image) where
           let same : run_from v.at v.keeps v.stack ≡ m = there ∙ sym (a.1 ∙ (λ j. Asks Enters (λ x. v.on x j))) in
           let long = sym (waiting_length program image s.made (result_of own) fs gs below) in
           let again = (λ j. silent shapes types (λ o. None) g.procedure (record { below = long j; self = place.object_is j }) g.cells code v.at v.keeps v.stack) ∙ silent_at_entry tables now.made g.procedure here g.cells code next k st v.at v.keeps v.stack comes_there (λ o. None) in
-          subst (λ z. Alike (S.settles program ms (Region ss ∷ is) (upper items answers) fs s) (I.goes ps shapes types z (lower next k st) gs mem)) (sym v.is)
+          subst (λ z. Alike (S.settles program ms (Region ss ∷ is) (S.top (upper items answers) fs s)) (I.goes ps shapes types z (lower next k st) gs mem)) (sym v.is)
           (record {
             stores = stores;
             frames = record {
@@ -1022,7 +1022,7 @@ module _ (program : Program) (image : Image) where
           })
 
       -- the end of a region, behind which the code goes on with these items
-      end_alike : (is : List Item) → Marked (End ∷ is) → (m : Run) → Seen m → (d : Cell → Run) → m ≡ Asks Leaves d → ((next' : ℕ) (k' : Keeps) (st' : Stack) → run_from next' k' st' ≡ m → Left now None (End ∷ is) next' k' st') → ((x : Cell) (next' : ℕ) (k' : Keeps) (st' : Stack) → d x ≡ run_from next' k' st' → Left now None is next' k' st') → BothGo (S.settles program ms (End ∷ is) (upper items answers) fs s)
+      end_alike : (is : List Item) → Marked (End ∷ is) → (m : Run) → Seen m → (d : Cell → Run) → m ≡ Asks Leaves d → ((next' : ℕ) (k' : Keeps) (st' : Stack) → run_from next' k' st' ≡ m → Left now None (End ∷ is) next' k' st') → ((x : Cell) (next' : ℕ) (k' : Keeps) (st' : Stack) → d x ≡ run_from next' k' st' → Left now None is next' k' st') → BothGo (S.settles program ms (End ∷ is) (S.top (upper items answers) fs s))
       end_alike is marked_is m sees d asks before_it behind_it =
           let v = stop_works tables g.procedure here code stop Leaves d (sees ∙ ap (calm types now.made g.cells) asks) in
           let low' = lower v.at v.keeps v.stack in
@@ -1032,8 +1032,8 @@ module _ (program : Program) (image : Image) where
           let long = sym (waiting_length program image s.made (result_of own) fs gs below) in
           let again = (λ j. silent shapes types (λ o. None) g.procedure (record { below = long j; self = place.object_is j }) g.cells code v.at v.keeps v.stack) ∙ silent_at_end tables now.made g.procedure here g.cells code next k st v.at v.keeps v.stack comes_there (λ o. None) in
           let opened : g.is_open ≡ true = marked_open g.is_open (S.lock_of f) (ap is_inside (sym marked_is.0)) in
-          subst (λ z. Alike (S.settles program ms (End ∷ is) (upper items answers) fs s) (I.goes ps shapes types z (lower next k st) gs mem)) (sym v.is)
-          (subst (λ b. Alike (S.settles program ms (End ∷ is) (upper items answers) fs s) (I.works ps shapes types b Leaves v.at v.keeps v.stack (lower next k st) gs mem)) (sym opened)
+          subst (λ z. Alike (S.settles program ms (End ∷ is) (S.top (upper items answers) fs s)) (I.goes ps shapes types z (lower next k st) gs mem)) (sym v.is)
+          (subst (λ b. Alike (S.settles program ms (End ∷ is) (S.top (upper items answers) fs s)) (I.works ps shapes types b Leaves (I.asker v.at v.keeps v.stack (lower next k st) gs mem))) (sym opened)
           (record {
             stores = stores;
             frames = record {
@@ -1054,21 +1054,21 @@ module _ (program : Program) (image : Image) where
           }))
 
       -- a result is given: at the frame's end, or behind the end of its region
-      returning_alike : (r : Option Value) (is : List Item) → Marked is → (m : Run) → Seen m → Returning program own tables g.procedure here code now r is m → BothGo (S.settles program ms is (upper items answers) fs s)
+      returning_alike : (r : Option Value) (is : List Item) → Marked is → (m : Run) → Seen m → Returning program own tables g.procedure here code now r is m → BothGo (S.settles program ms is (S.top (upper items answers) fs s))
       returning_alike r is marked_is m sees (inl h) =
-          subst (λ xs. BothGo (S.settles program ms xs (upper items answers) fs s)) (sym h.0)
+          subst (λ xs. BothGo (S.settles program ms xs (S.top (upper items answers) fs s))) (sym h.0)
           (ends_alike r (lower next k st) (unmarked_closed g.is_open (S.lock_of f) (sym (ap (locks_in (S.lock_of f)) h.0) ∙ marked_is.0)) stop h.1.0 h.1.2 (sees ∙ ap (calm types now.made g.cells) h.1.1))
       returning_alike r is marked_is m sees (inr h) =
-          subst (λ xs. BothGo (S.settles program ms xs (upper items answers) fs s)) (sym h.0)
+          subst (λ xs. BothGo (S.settles program ms xs (S.top (upper items answers) fs s))) (sym h.0)
           (end_alike (Gives r ∷ []) (subst Marked h.0 marked_is) m sees h.1.0 h.1.1
           (λ n k' st' e. inr (r, inr (refl, (h.1.0, e ∙ h.1.1, h.1.2))))
           (λ x n k' st' e. inr (r, inl (refl, subst (GivesBack program own tables g.procedure here code now r) e (h.1.2 x)))))
 
       -- what is next of these items
-      settles_alike : (is : List Item) → Marked is → Comes is next k st → BothGo (S.settles program ms is (upper items answers) fs s)
+      settles_alike : (is : List Item) → Marked is → Comes is next k st → BothGo (S.settles program ms is (S.top (upper items answers) fs s))
       settles_alike [] marked_is comes =
           let c = comes now (grows_same now) whole in
-          subst (λ b. BothGo (S.finishes program ms b (upper items answers) fs s)) (sym place.gives_is)
+          subst (λ b. BothGo (S.finishes program ms b (S.top (upper items answers) fs s))) (sym place.gives_is)
           (finishes_alike (unmarked_closed g.is_open (S.lock_of f) marked_is.0) c.0 (seen c.0 c.1) (result_of own) refl (items_do own tables g.procedure here code now [] c.0 typed shaped is_own knows c.2))
       settles_alike (Do x ∷ is) marked_is comes =
           let c = comes now (grows_same now) whole in
@@ -1103,7 +1103,7 @@ module _ (program : Program) (image : Image) where
     open_for q f' is opens = tt
 
     -- what an item that has begun comes to, in each world that has grown
-    goes_alike : (i : Item) (is : List Item) (t : List Value) (next : ℕ) (k : Keeps) (st : Stack) (marked : Marked (i ∷ is)) (left : Left now (Some t) (i ∷ is) next k st) (r : Doing After) → Each (ItsMarks i) r → Each (ComesInside (is_inside (locks_in (S.lock_of f) is))) r → AsksInside (is_inside (locks_in (S.lock_of f) (i ∷ is))) r → feed t (item i) ≡ r → IsCalm r → ((w : World Sort) → Grows now w → IsWhole program w → Calmly program here (Leads is) types g.cells w (calm types w.made g.cells (run_from next k st)) r) → Alike (S.goes program ms r is (upper (i ∷ is) (Some t)) fs s) (I.goes ps shapes types (stop_from next k st) (lower next k st) gs mem)
+    goes_alike : (i : Item) (is : List Item) (t : List Value) (next : ℕ) (k : Keeps) (st : Stack) (marked : Marked (i ∷ is)) (left : Left now (Some t) (i ∷ is) next k st) (r : Doing After) → Each (ItsMarks i) r → Each (ComesInside (is_inside (locks_in (S.lock_of f) is))) r → AsksInside (is_inside (locks_in (S.lock_of f) (i ∷ is))) r → feed t (item i) ≡ r → IsCalm r → ((w : World Sort) → Grows now w → IsWhole program w → Calmly program here (Leads is) types g.cells w (calm types w.made g.cells (run_from next k st)) r) → Alike (S.goes program ms r is (S.top (upper (i ∷ is) (Some t)) fs s)) (I.goes ps shapes types (stop_from next k st) (lower next k st) gs mem)
     goes_alike i is t next k st marked left (Val (Into new)) each comes opens asks visible d =
         settles_alike (i ∷ is) (Some t) next k st marked left (stop_from next k st) refl (new ++ is) (each (S.lock_of f) is ∙ marked.0, comes (S.lock_of f) is refl marked.1.1) d
     goes_alike i is t next k st marked left (Val Exits) each comes opens asks visible d =
@@ -1119,7 +1119,7 @@ module _ (program : Program) (image : Image) where
         traps_alike (i ∷ is) (Some t) next k st n c (stop_from next k st) v.0 marked left v.1
 
     -- what is left of the frame goes on
-    top_alike : (answers : Option (List Value)) (items : List Item) (next : ℕ) (k : Keeps) (st : Stack) → Marked items → Left now answers items next k st → Alike (S.item_turn program ms answers items (upper items answers) fs s) (I.goes ps shapes types (stop_from next k st) (lower next k st) gs mem)
+    top_alike : (answers : Option (List Value)) (items : List Item) (next : ℕ) (k : Keeps) (st : Stack) → Marked items → Left now answers items next k st → Alike (S.item_turn program ms answers items (S.top (upper items answers) fs s)) (I.goes ps shapes types (stop_from next k st) (lower next k st) gs mem)
     top_alike None is next k st marked (inl h) =
         settles_alike is None next k st marked (inl h) (stop_from next k st) refl is marked (λ w up whole'. (run_from next k st, refl, h))
     top_alike None is next k st marked (inr h) =
@@ -1150,7 +1150,7 @@ module _ (program : Program) (image : Image) where
         let place = h.0.place in
         let shapes = image.shapes.items in
         let types = image.types.items in
-        let image_so : CodeHere → List Made → I.Turned = λ n made. I.goes ps shapes types (silent shapes types (λ o. by_number o made) g.procedure n g.cells (code_of image g.procedure) g.next g.keeps g.stack) g gs mem in
+        let image_so : Here → List Made → I.Turned = λ n made. I.goes ps shapes types (silent shapes types (λ o. by_number o made) g.procedure n g.cells (code_of image g.procedure) g.next g.keeps g.stack) g gs mem in
         let long = waiting_length program image s.made (result_of place.routine.own) fs gs h.1 in
         subst (Alike (S.turn_at program ms (f ∷ fs) s)) (λ j. image_so (record { below = long j; self = sym place.object_is j }) (sym stores.made j))
         (top_alike typed shaped routines_run items_do ms ps f g fs gs s mem place follows h.1 stores shown marks.1 f.answers f.items g.next g.keeps g.stack marks.0 h.0.remains)

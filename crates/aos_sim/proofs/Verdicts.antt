@@ -37,7 +37,7 @@ use Rattle.aos_code.specs.declared.image.ProcShape.{ProcShape}
 use Rattle.aos_code.specs.declared.image.TypeDesc.{TypeDesc}
 use Rattle.aos_code.specs.declared.image.Image.{Image}
 use Rattle.aos_code.specs.Memory.{Memory}
-use Rattle.aos_code.specs.Silent.{Here as CodeHere, Stack, Keeps, Question, Stop, Work, Ended, Act, Goes, Puts, Takes, Looks, Sees, Stops, lost, kept, is_of, Noted, Visible, Answered, Unknown, noted, on_noted, Told, Tells, Refuses, Invokes, Unheard, told_by, on_told, act, on_act, walk, silent}
+use Rattle.aos_code.specs.Silent.{Stack, Keeps, Question, Stop, Work, Ended, Act, Goes, Puts, Takes, Looks, Sees, Stops, lost, kept, is_of, Noted, Visible, Answered, Unknown, noted, on_noted, Told, Tells, Refuses, Invokes, Unheard, told_by, on_told, act, on_act, walk, silent}
 use Rattle.aos_code.specs.Machine as I
 use Rattle.aos_places.specs.Shows.{Shows}
 use Rattle.aos_places.proofs.Grow.{grows_same}
@@ -45,7 +45,7 @@ use Rattle.aos_places.proofs.Places.{read_alike}
 use Rattle.aos_sim.specs.Cells.{cell_of}
 use Rattle.aos_sim.specs.Code.{dimensions, kind_of, literal_code, lengths_code, drops, operands_code, and_code, or_code, place_code, rows_code, value_code, condition_code}
 use Rattle.aos_sim.proofs.Kept.{values_kept}
-use Rattle.aos_sim.proofs.Runs.{Run, tables_of, in_code, Decided, calm, runs, run, resume, run_by_silent}
+use Rattle.aos_sim.proofs.Runs.{Run, tables_of, Decided, calm, runs, run, resume, run_by_silent}
 use Rattle.aos_sim.proofs.References.{stored_kind}
 use Rattle.aos_sim.proofs.Bodies.{alike_at}
 use Rattle.aos_sim.proofs.Exprs.{value_does}
@@ -161,7 +161,7 @@ module _ (program : Program) (own : Option Procedure) where
   condition_evaluates e h = both (value_at e 0) _ (value_evaluates e 0 h) refl
 
 -- Silent work only goes on in its code.
-module _ (shapes : List ProcShape) (types : List TypeDesc) (made : ℕ → Option Made) (own : ℕ) (here : CodeHere) (cells : List Cell) (code : List Instr) (q : Question) (p : ℕ) (k' : Keeps) (s' : Stack) where
+module _ (shapes : List ProcShape) (types : List TypeDesc) (made : ℕ → Option Made) (own : ℕ) (here : Here) (cells : List Cell) (code : List Instr) (q : Question) (p : ℕ) (k' : Keeps) (s' : Stack) where
   abbrev Onto : Stop → Type 0
   Onto stop = stop ≡ Work q p k' s'
 
@@ -261,7 +261,7 @@ module _ (program : Program) (image : Image) (typed : HasTypes program) (shaped 
   run_from = run (tables_of program image) g.procedure here code
 
   abbrev stop_from : ℕ → Keeps → Stack → Stop
-  stop_from = silent shapes types now.made g.procedure (in_code here) g.cells code
+  stop_from = silent shapes types now.made g.procedure here g.cells code
 
   abbrev variables : Rooted (Content Value)
   variables = S.all_rooted (f ∷ fs) s
@@ -378,7 +378,7 @@ module _ (program : Program) (image : Image) (typed : HasTypes program) (shaped 
           ap (λ y. I.judged cells (verdict_from n) y) z.1
       by (Asks q next) visible h again =
           let v = stop_works (tables_of program image) g.procedure here code stop (placed program now q) h.0 (sym stopped ∙ h.1) in
-          let on : at ≤ v.at = walk_on shapes types now.made g.procedure (in_code here) g.cells code (placed program now q) v.at v.keeps v.stack (drop at code) 0 at k st v.is in
+          let on : at ≤ v.at = walk_on shapes types now.made g.procedure here g.cells code (placed program now q) v.at v.keeps v.stack (drop at code) 0 at k st v.is in
           ap (λ y. I.judged cells (verdict_from n) y) v.is
           ∙ asked_same n (calm types now.made g.cells (run_from at k st)) stop q next visible h v
           (λ x st' r' d'. again (v.at + 1) v.keeps (cell_of now x ∷ st') r' (omega (arith, less, on)) d')

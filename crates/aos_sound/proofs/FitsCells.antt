@@ -62,7 +62,7 @@ module _ (image : Image) (laid : IsLaidOut image) where
     Have t = HaveCells image t.frames
 
     module _ (at : ℕ) (k : Keeps) (s : Stack) (mem : Memory) where
-      writes_have : (b : Bool) (a : Addr) (vs : List Cell) → Have (machine.writes following b a vs at k s f fs mem)
+      writes_have : (b : Bool) (a : Addr) (vs : List Cell) → Have (machine.writes following b a vs (machine.asker at k s f fs mem))
       writes_have true a vs = (written_have a.root a.cell vs (behind following at k s f ∷ fs) have, none)
       writes_have false a vs = (have, none)
 
@@ -70,56 +70,56 @@ module _ (image : Image) (laid : IsLaidOut image) where
       if_have true t u h g = h
       if_have false t u h g = g
 
-      reads_have : (kind : Kind) (o : Option Cell) → Have (machine.reads following kind o at k s f fs mem)
+      reads_have : (kind : Kind) (o : Option Cell) → Have (machine.reads following kind o (machine.asker at k s f fs mem))
       reads_have kind None = (have, none)
       reads_have kind (Some v) = if_have (is_of kind v) (machine.goes_on following (behind following at k (v ∷ s) f ∷ fs) mem) (machine.leaves following (Trapped 16 0) (f ∷ fs) mem) (have, none) (have, none)
 
-      copies_have : (o : Option (List Cell)) (b : Bool) (to : Addr) → Have (machine.copies following o b to at k s f fs mem)
+      copies_have : (o : Option (List Cell)) (b : Bool) (to : Addr) → Have (machine.copies following o b to (machine.asker at k s f fs mem))
       copies_have None b to = (have, none)
       copies_have (Some vs) b to = writes_have b to vs
 
-      prints_have : (o : Option (List ℕ)) → Have (machine.prints following o at k s f fs mem)
+      prints_have : (o : Option (List ℕ)) → Have (machine.prints following o (machine.asker at k s f fs mem))
       prints_have None = (have, none)
       prints_have (Some bytes) = (have, none)
 
-      writes_out_have : (o : Option (List ℕ)) → Have (machine.writes_out following o at k s f fs mem)
+      writes_out_have : (o : Option (List ℕ)) → Have (machine.writes_out following o (machine.asker at k s f fs mem))
       writes_out_have None = (have, none)
       writes_out_have (Some bytes) = (have, none)
 
-      makes_have : (b : Bool) (m : Made) (cells : List Cell) → Have (machine.makes following b m cells at k s f fs mem)
+      makes_have : (b : Bool) (m : Made) (cells : List Cell) → Have (machine.makes following b m cells (machine.asker at k s f fs mem))
       makes_have true m cells = (have, none)
       makes_have false m cells = (have, none)
 
-      makes_with_have : (ns : Option (List ℕ)) (t : ℕ) (d : TypeDesc) → Have (machine.makes_with following ns t d at k s f fs mem)
+      makes_with_have : (ns : Option (List ℕ)) (t : ℕ) (d : TypeDesc) → Have (machine.makes_with following ns t d (machine.asker at k s f fs mem))
       makes_with_have None t d = (have, none)
       makes_with_have (Some ns) t d =
           let m : Made = record { type = t; lengths = ns } in
           let cells = machine.in_rows following ns (map first_cell d.kinds.items) in makes_have (has_room m cells mem) m cells
 
-      makes_of_have : (d : Option TypeDesc) (zs : Option (List ℤ)) (t : ℕ) → Have (machine.makes_of following d zs t at k s f fs mem)
+      makes_of_have : (d : Option TypeDesc) (zs : Option (List ℤ)) (t : ℕ) → Have (machine.makes_of following d zs t (machine.asker at k s f fs mem))
       makes_of_have None zs t = (have, none)
       makes_of_have (Some d) None t = (have, none)
       makes_of_have (Some d) (Some zs) t = makes_with_have (array_lengths zs) t d
 
-      starts_have : (v : Cell) → Have (machine.starts following v at k s f fs mem)
+      starts_have : (v : Cell) → Have (machine.starts following v (machine.asker at k s f fs mem))
       starts_have (Ref (suc o)) = (have, none)
       starts_have v = (have, none)
 
-      stores_text_have : (o : Option (List ℕ)) (to : Addr) (x : Rooted (List Cell)) → Have (machine.stores_text following o to x at k s f fs mem)
+      stores_text_have : (o : Option (List ℕ)) (to : Addr) (x : Rooted (List Cell)) → Have (machine.stores_text following o to x (machine.asker at k s f fs mem))
       stores_text_have None to x = (have, none)
       stores_text_have (Some cs) to x = writes_have (is_some (machine.cells_at (length cs) to x)) to (machine.character_cells following cs)
 
-      puts_text_have : (strict : Bool) (o : Option (List ℕ)) (n : Option ℕ) (to : Addr) (x : Rooted (List Cell)) → Have (machine.puts_text following strict o n to x at k s f fs mem)
+      puts_text_have : (strict : Bool) (o : Option (List ℕ)) (n : Option ℕ) (to : Addr) (x : Rooted (List Cell)) → Have (machine.puts_text following (machine.fitted_in following strict o n) to x (machine.asker at k s f fs mem))
       puts_text_have strict None n to x = (have, none)
       puts_text_have strict (Some cs) None to x = (have, none)
       puts_text_have strict (Some cs) (Some n) to x = stores_text_have (machine.fitted following strict n cs) to x
 
-      compares_have : (r : Relation) (o p : Option (List ℕ)) → Have (machine.compares following r o p at k s f fs mem)
+      compares_have : (r : Relation) (o p : Option (List ℕ)) → Have (machine.compares following r o p (machine.asker at k s f fs mem))
       compares_have r (Some a) (Some b) = (have, none)
       compares_have r (Some a) None = (have, none)
       compares_have r None p = (have, none)
 
-      enters_have : (b : Bool) (p o : ℕ) (shape : ProcShape) (h : Handed following) → numbered image.shapes.items p ≡ Some shape → Have (machine.enters following b (called_frame following p o shape h) at k s f fs mem)
+      enters_have : (b : Bool) (p o : ℕ) (shape : ProcShape) (h : Handed following) → numbered image.shapes.items p ≡ Some shape → Have (machine.enters following b (called_frame following p o shape h) (machine.asker at k s f fs mem))
       enters_have true p o shape h e = (have, none)
       enters_have false p o shape h e =
           let a = laid.kinds p shape e in
@@ -127,11 +127,11 @@ module _ (image : Image) (laid : IsLaidOut image) where
           let c : cells_named image p ≡ shape.cells = ap frame_cells e in
           ((omega (arith, a, b, c), have), none)
 
-      calls_with_have : (p o : ℕ) (shape : ProcShape) (h : Option (Handed following)) → numbered image.shapes.items p ≡ Some shape → Have (machine.calls_with following p o shape h at k s f fs mem)
+      calls_with_have : (p o : ℕ) (shape : ProcShape) (h : Option (Handed following)) → numbered image.shapes.items p ≡ Some shape → Have (machine.calls_with following (option_map (machine.called_frame following p o shape) h) (machine.asker at k s f fs mem))
       calls_with_have p o shape None e = (have, none)
       calls_with_have p o shape (Some h) e = enters_have (machine.is_deep following (called_frame following p o shape h) (f ∷ fs)) p o shape h e
 
-      calls_have : (o : Option ProcShape) (p : ℕ) (vs : List Cell) → numbered image.shapes.items p ≡ o → Have (machine.calls following o p vs at k s f fs mem)
+      calls_have : (o : Option ProcShape) (p : ℕ) (vs : List Cell) → numbered image.shapes.items p ≡ o → Have (machine.calls following o p vs (machine.asker at k s f fs mem))
       calls_have None p vs e = (have, none)
       calls_have (Some shape) p vs e = calls_with_have p (machine.object_of shape.method vs) shape (machine.handed following (suc (length fs)) (rooted (f ∷ fs) mem) shape.params.items (machine.arguments_of shape.method vs) (length shape.kinds.items)) e
 
@@ -140,7 +140,7 @@ module _ (image : Image) (laid : IsLaidOut image) where
       ends_have (Some v) [] h = tt
       ends_have (Some v) (g ∷ gs) h = h
 
-      answer_has : (q : Question) → Have (machine.answer following image.shapes.items image.types.items q at k s f fs mem)
+      answer_has : (q : Question) → Have (machine.answer following image.shapes.items image.types.items q (machine.asker at k s f fs mem))
       answer_has (Reads kind a) = reads_have kind (load a.root a.cell (rooted (f ∷ fs) mem))
       answer_has (Stores a v) = writes_have (is_some (load a.root a.cell (rooted (f ∷ fs) mem))) a (v ∷ [])
       answer_has (Copies n from to) = copies_have (machine.cells_at n from (rooted (f ∷ fs) mem)) (is_some (machine.cells_at n to (rooted (f ∷ fs) mem))) to
@@ -164,7 +164,7 @@ module _ (image : Image) (laid : IsLaidOut image) where
       answer_has (Sizes v d) = (have, none)
       answer_has (Tests v t) = (have, none)
 
-      works_have : (found : Bool) (q : Question) → Have (machine.works following image.shapes.items image.types.items found q at k s f fs mem)
+      works_have : (found : Bool) (q : Question) → Have (machine.works following image.shapes.items image.types.items found q (machine.asker at k s f fs mem))
       works_have true q = answer_has q
       works_have false q = (have, none)
 

@@ -111,11 +111,11 @@ module _ (image : Image) (whole : IsSoundImage image) where
       on : (s' : Stack) → On (at + 1) s' → FitFor image None (behind following at k s' f ∷ fs)
       on s' st = (fit.0, st, fit.2)
 
-      writes_fit : (b : Bool) (a : Addr) (vs : List Cell) → On (at + 1) s → Fit (machine.writes following b a vs at k s f fs mem)
+      writes_fit : (b : Bool) (a : Addr) (vs : List Cell) → On (at + 1) s → Fit (machine.writes following b a vs (machine.asker at k s f fs mem))
       writes_fit true a vs st = ((written_fit a.root (spliced a.cell vs) None (behind following at k s f ∷ fs) (on s st), follow), λ e. absurd (cc e))
       writes_fit false a vs st = ((fit, follow), λ e. absurd (cc e))
 
-      reads_fit : (kind : Kind) (o : Option Cell) → Asked (Some kind) at s → Fit (machine.reads following kind o at k s f fs mem)
+      reads_fit : (kind : Kind) (o : Option Cell) → Asked (Some kind) at s → Fit (machine.reads following kind o (machine.asker at k s f fs mem))
       reads_fit kind None st = ((fit, follow), λ e. absurd (cc e))
       reads_fit kind (Some v) st = by (is_of kind v) refl
         where
@@ -123,34 +123,34 @@ module _ (image : Image) (whole : IsSoundImage image) where
           by true e = ((on (v ∷ s) (st v e), follow), λ e. absurd (cc e))
           by false e = ((fit, follow), λ e. absurd (cc e))
 
-      copies_fit : (o : Option (List Cell)) (b : Bool) (to : Addr) → On (at + 1) s → Fit (machine.copies following o b to at k s f fs mem)
+      copies_fit : (o : Option (List Cell)) (b : Bool) (to : Addr) → On (at + 1) s → Fit (machine.copies following o b to (machine.asker at k s f fs mem))
       copies_fit None b to st = ((fit, follow), λ e. absurd (cc e))
       copies_fit (Some vs) b to st = writes_fit b to vs st
 
-      prints_fit : (o : Option (List ℕ)) → On (at + 1) s → Fit (machine.prints following o at k s f fs mem)
+      prints_fit : (o : Option (List ℕ)) → On (at + 1) s → Fit (machine.prints following o (machine.asker at k s f fs mem))
       prints_fit None st = ((fit, follow), λ e. absurd (cc e))
       prints_fit (Some bytes) st = ((on s st, follow), λ e. absurd (cc e))
 
-      writes_out_fit : (o : Option (List ℕ)) → On (at + 1) s → Fit (machine.writes_out following o at k s f fs mem)
+      writes_out_fit : (o : Option (List ℕ)) → On (at + 1) s → Fit (machine.writes_out following o (machine.asker at k s f fs mem))
       writes_out_fit None st = ((fit, follow), λ e. absurd (cc e))
       writes_out_fit (Some bytes) st = ((on s st, follow), λ e. absurd (cc e))
 
-      makes_fit : (b : Bool) (m : Made) (cells : List Cell) → Asked (Some R) at s → Fit (machine.makes following b m cells at k s f fs mem)
+      makes_fit : (b : Bool) (m : Made) (cells : List Cell) → Asked (Some R) at s → Fit (machine.makes following b m cells (machine.asker at k s f fs mem))
       makes_fit true m cells st = let v = Ref (new_number mem) in ((on (v ∷ s) (st v refl), follow), λ e. absurd (cc e))
       makes_fit false m cells st = ((fit, follow), λ e. absurd (cc e))
 
-      makes_with_fit : (ns : Option (List ℕ)) (t : ℕ) (d : TypeDesc) → Asked (Some R) at s → Fit (machine.makes_with following ns t d at k s f fs mem)
+      makes_with_fit : (ns : Option (List ℕ)) (t : ℕ) (d : TypeDesc) → Asked (Some R) at s → Fit (machine.makes_with following ns t d (machine.asker at k s f fs mem))
       makes_with_fit None t d st = ((fit, follow), λ e. absurd (cc e))
       makes_with_fit (Some ns) t d st =
           let m : Made = record { type = t; lengths = ns } in
           let cells = machine.in_rows following ns (map first_cell d.kinds.items) in makes_fit (has_room m cells mem) m cells st
 
-      makes_of_fit : (d : Option TypeDesc) (zs : Option (List ℤ)) (t : ℕ) → Asked (Some R) at s → Fit (machine.makes_of following d zs t at k s f fs mem)
+      makes_of_fit : (d : Option TypeDesc) (zs : Option (List ℤ)) (t : ℕ) → Asked (Some R) at s → Fit (machine.makes_of following d zs t (machine.asker at k s f fs mem))
       makes_of_fit None zs t st = ((fit, follow), λ e. absurd (cc e))
       makes_of_fit (Some d) None t st = ((fit, follow), λ e. absurd (cc e))
       makes_of_fit (Some d) (Some zs) t st = makes_with_fit (array_lengths zs) t d st
 
-      starts_fit : (v : Cell) → slice_get (code_of image f.procedure) at ≡ Some instr.Start → On at (v ∷ s) → On (at + 1) s → Fit (machine.starts following v at k s f fs mem)
+      starts_fit : (v : Cell) → slice_get (code_of image f.procedure) at ≡ Some instr.Start → On at (v ∷ s) → On (at + 1) s → Fit (machine.starts following v (machine.asker at k s f fs mem))
       starts_fit (Ref (suc o)) is st behind_st =
           let z : Work (Starts (Ref (suc o))) at k s ≡ stop_of image (λ o. None) (machine.before following at k (Ref (suc o) ∷ s) f) fs = sym (at_start image.shapes.items image.types.items (λ o. None) f.procedure (here_of f fs) f.cells (code_of image f.procedure) at k s (suc o) is) in
           (((fit.0, st, fit.2), follow), λ e. subst (λ x. FramesFit image (record { following = following; frames = past_stop x (machine.before following at k (Ref (suc o) ∷ s) f) ∷ fs })) z ((fit.0, behind_st, fit.2), follow))
@@ -161,43 +161,43 @@ module _ (image : Image) (whole : IsSoundImage image) where
       left_fits q w is st behind_st =
           (((fit.0, st, fit.2), follow), λ p. subst (λ x. FramesFit image (record { following = following; frames = past_stop x (machine.before following at k s f) ∷ fs })) (sym is) ((fit.0, behind_st, fit.2), follow))
 
-      enter_fits : slice_get (code_of image f.procedure) at ≡ Some instr.Enter → On at s → On (at + 1) s → Fit (machine.answer following image.shapes.items image.types.items Enters at k s f fs mem)
+      enter_fits : slice_get (code_of image f.procedure) at ≡ Some instr.Enter → On at s → On (at + 1) s → Fit (machine.answer following image.shapes.items image.types.items Enters (machine.asker at k s f fs mem))
       enter_fits is st behind_st = left_fits Enters (Enter (machine.lock_in (numbered image.shapes.items f.procedure) f)) (at_enter image.shapes.items image.types.items (λ o. None) f.procedure (here_of f fs) f.cells (code_of image f.procedure) at k s is) st behind_st
 
-      leave_fits : slice_get (code_of image f.procedure) at ≡ Some instr.Leave → On at s → On (at + 1) s → Fit (machine.answer following image.shapes.items image.types.items Leaves at k s f fs mem)
+      leave_fits : slice_get (code_of image f.procedure) at ≡ Some instr.Leave → On at s → On (at + 1) s → Fit (machine.answer following image.shapes.items image.types.items Leaves (machine.asker at k s f fs mem))
       leave_fits is st behind_st = left_fits Leaves (Leave (machine.lock_in (numbered image.shapes.items f.procedure) f)) (at_leave image.shapes.items image.types.items (λ o. None) f.procedure (here_of f fs) f.cells (code_of image f.procedure) at k s is) st behind_st
 
-      awaits_fit : (c : ℕ) → slice_get (code_of image f.procedure) at ≡ Some (instr.Await c) → On at s → On (at + 1) s → Fit (machine.answer following image.shapes.items image.types.items (Awaits c) at k s f fs mem)
+      awaits_fit : (c : ℕ) → slice_get (code_of image f.procedure) at ≡ Some (instr.Await c) → On at s → On (at + 1) s → Fit (machine.answer following image.shapes.items image.types.items (Awaits c) (machine.asker at k s f fs mem))
       awaits_fit c is st behind_st = left_fits (Awaits c) (Await (machine.lock_in (numbered image.shapes.items f.procedure) f) c) (at_await image.shapes.items image.types.items (λ o. None) f.procedure (here_of f fs) f.cells (code_of image f.procedure) at k s c is) st behind_st
 
-      stores_text_fit : (o : Option (List ℕ)) (to : Addr) (x : Rooted (List Cell)) → On (at + 1) s → Fit (machine.stores_text following o to x at k s f fs mem)
+      stores_text_fit : (o : Option (List ℕ)) (to : Addr) (x : Rooted (List Cell)) → On (at + 1) s → Fit (machine.stores_text following o to x (machine.asker at k s f fs mem))
       stores_text_fit None to x st = ((fit, follow), λ e. absurd (cc e))
       stores_text_fit (Some cs) to x st = writes_fit (is_some (machine.cells_at (length cs) to x)) to (machine.character_cells following cs) st
 
-      puts_text_fit : (strict : Bool) (o : Option (List ℕ)) (n : Option ℕ) (to : Addr) (x : Rooted (List Cell)) → On (at + 1) s → Fit (machine.puts_text following strict o n to x at k s f fs mem)
+      puts_text_fit : (strict : Bool) (o : Option (List ℕ)) (n : Option ℕ) (to : Addr) (x : Rooted (List Cell)) → On (at + 1) s → Fit (machine.puts_text following (machine.fitted_in following strict o n) to x (machine.asker at k s f fs mem))
       puts_text_fit strict None n to x st = ((fit, follow), λ e. absurd (cc e))
       puts_text_fit strict (Some cs) None to x st = ((fit, follow), λ e. absurd (cc e))
       puts_text_fit strict (Some cs) (Some n) to x st = stores_text_fit (machine.fitted following strict n cs) to x st
 
-      compares_fit : (r : Relation) (o p : Option (List ℕ)) → Asked (Some N) at s → Fit (machine.compares following r o p at k s f fs mem)
+      compares_fit : (r : Relation) (o p : Option (List ℕ)) → Asked (Some N) at s → Fit (machine.compares following r o p (machine.asker at k s f fs mem))
       compares_fit r (Some a) (Some b) st = let v = Num (flag (holds r (order a b) (pos 0))) in ((on (v ∷ s) (st v refl), follow), λ e. absurd (cc e))
       compares_fit r (Some a) None st = ((fit, follow), λ e. absurd (cc e))
       compares_fit r None p st = ((fit, follow), λ e. absurd (cc e))
 
-      enters_fit : (b : Bool) (p o : ℕ) (shape : ProcShape) (h : Handed following) → HasBody image p → Asked (result_of (numbered image.shapes.items p)) at s → Fit (machine.enters following b (called_frame following p o shape h) at k s f fs mem)
+      enters_fit : (b : Bool) (p o : ℕ) (shape : ProcShape) (h : Handed following) → HasBody image p → Asked (result_of (numbered image.shapes.items p)) at s → Fit (machine.enters following b (called_frame following p o shape h) (machine.asker at k s f fs mem))
       enters_fit true p o shape h body st = ((fit, follow), λ e. absurd (cc e))
       enters_fit false p o shape h body st = (((body, ([], sound.Begins, tt), (fit.0, st, fit.2)), follow), λ e. absurd (cc e))
 
-      calls_with_fit : (p o : ℕ) (shape : ProcShape) (h : Option (Handed following)) → HasBody image p → Asked (result_of (numbered image.shapes.items p)) at s → Fit (machine.calls_with following p o shape h at k s f fs mem)
+      calls_with_fit : (p o : ℕ) (shape : ProcShape) (h : Option (Handed following)) → HasBody image p → Asked (result_of (numbered image.shapes.items p)) at s → Fit (machine.calls_with following (option_map (machine.called_frame following p o shape) h) (machine.asker at k s f fs mem))
       calls_with_fit p o shape None body st = ((fit, follow), λ e. absurd (cc e))
       calls_with_fit p o shape (Some h) body st = enters_fit (machine.is_deep following (called_frame following p o shape h) (f ∷ fs)) p o shape h body st
 
-      calls_fit : (o : Option ProcShape) (p : ℕ) (vs : List Cell) → numbered image.shapes.items p ≡ o → Asked (result_of (numbered image.shapes.items p)) at s → Fit (machine.calls following o p vs at k s f fs mem)
+      calls_fit : (o : Option ProcShape) (p : ℕ) (vs : List Cell) → numbered image.shapes.items p ≡ o → Asked (result_of (numbered image.shapes.items p)) at s → Fit (machine.calls following o p vs (machine.asker at k s f fs mem))
       calls_fit None p vs e st = ((fit, follow), λ e. absurd (cc e))
       calls_fit (Some shape) p vs e st =
           calls_with_fit p (machine.object_of shape.method vs) shape (machine.handed following (suc (length fs)) (rooted (f ∷ fs) mem) shape.params.items (machine.arguments_of shape.method vs) (length shape.kinds.items)) (whole.shapes p shape e) st
 
-      pub answer_fits : (q : Question) → StandsAsked image f.procedure (code_of image f.procedure) q at s → Fit (machine.answer following image.shapes.items image.types.items q at k s f fs mem)
+      pub answer_fits : (q : Question) → StandsAsked image f.procedure (code_of image f.procedure) q at s → Fit (machine.answer following image.shapes.items image.types.items q (machine.asker at k s f fs mem))
       answer_fits (Reads kind a) st = reads_fit kind (load a.root a.cell (rooted (f ∷ fs) mem)) st
       answer_fits (Stores a v) st = writes_fit (is_some (load a.root a.cell (rooted (f ∷ fs) mem))) a (v ∷ []) st
       answer_fits (Copies n from to) st = copies_fit (machine.cells_at n from (rooted (f ∷ fs) mem)) (is_some (machine.cells_at n to (rooted (f ∷ fs) mem))) to st
@@ -222,7 +222,7 @@ module _ (image : Image) (whole : IsSoundImage image) where
       answer_fits (Tests v t) st = ((fit, follow), λ e. absurd (cc e))
 
       -- and where what it needs isn't found nothing is done
-      works_fit : (found : Bool) (q : Question) → StandsAsked image f.procedure (code_of image f.procedure) q at s → Fit (machine.works following image.shapes.items image.types.items found q at k s f fs mem)
+      works_fit : (found : Bool) (q : Question) → StandsAsked image f.procedure (code_of image f.procedure) q at s → Fit (machine.works following image.shapes.items image.types.items found q (machine.asker at k s f fs mem))
       works_fit true q st = answer_fits q st
       works_fit false q st = ((fit, follow), λ e. absurd (cc e))
 

@@ -21,17 +21,12 @@ use Rattle.aos_types.specs.declared.row.TypeRow.{TypeRow}
 use Rattle.aos_types.specs.Extension.{comes_to}
 use Rattle.aos_typed.specs.Value.{Value, Int, Flag, Object, Callable, Place as PlaceValue, number_of, literal_value, unary, binary, element, ord, chr, is_true}
 use Rattle.aos_base.specs.declared.place.Root.TheVariants.{Frame as FrameRoot, Module as ModuleRoot}
+pub use Rattle.aos_base.specs.Frames.{Here}
 use Rattle.aos_typed.specs.declared.tree.TType.{TType}
 use Rattle.aos_typed.specs.Spot.{Spot, InFrame, OfModule}
 use Rattle.aos_typed.specs.Fields.{declared_as}
 use Rattle.aos_typed.specs.Methods.{method_number, is_active, body_type, initializer}
 use Rattle.aos_typed.specs.Numbers.{id_of, body_number, procedure_number, id_of_made}
-
--- where statements are carried out: how many frames of the activity are below theirs, and the object whose method or body it is, 0
--- for none
-pub record Here : Type 0 where
-  pub below : ℕ
-  pub self : ℕ
 
 -- a scalar is known by its type, and so is what is copied
 abbrev pub Question : Type 0
@@ -137,25 +132,27 @@ has_type rows s t = comes_to rows (id_of_made s.type) (id_of_made (suc t))
 abbrev pub record_guarded : List TypeRow → Spot → ℕ → Doing Spot
 record_guarded rows s t = if has_type rows s t then Val s else Traps 3 0
 
--- whether the object's type extends the one that is known of it, whose slot this is: then what its own type has there is called on it
--- with these arguments. No well-typed program comes to another object
-abbrev pub dispatched : Program → Value → (type slot : ℕ) → List Value → (made : ℕ) → Doing Value
-dispatched p v t k vs zero = Traps 1 0
-dispatched p v t k vs (suc d) =
-    if comes_to p.types (id_of_made (suc d)) (id_of_made (suc t)) then ask (Calls ByType (method_number p d k) (v ∷ vs)) else Traps 1 0
+-- of an object whose type is known to extend this one: the method in a slot
+module _ (p : Program) (v : Value) (type slot : ℕ) where
+  -- whether the object's type does extend it: then what its own type has there is called on it with these arguments. No well-typed
+  -- program comes to another object
+  abbrev pub dispatched : List Value → (made : ℕ) → Doing Value
+  dispatched vs zero = Traps 1 0
+  dispatched vs (suc d) =
+      if comes_to p.types (id_of_made (suc d)) (id_of_made (suc type)) then ask (Calls ByType (method_number p d slot) (v ∷ vs)) else Traps 1 0
 
--- a method is called on an object; whether that is NIL is asked behind the arguments
-abbrev pub sent : Program → Value → (type slot : ℕ) → List Value → Doing Value
-sent p v t k vs = unless_nil v (Traps 1 0) (bind (ask (Opens v)) (λ x. dispatched p v t k vs (place_in x).type))
+  -- the method is called on the object; whether that is NIL is asked behind the arguments
+  abbrev pub sent : List Value → Doing Value
+  sent vs = unless_nil v (Traps 1 0) (bind (ask (Opens v)) (λ x. dispatched vs (place_in x).type))
 
--- the same method as a value, with the object
-abbrev pub bound_to : Program → Value → (type slot : ℕ) → (made : ℕ) → Doing Value
-bound_to p v t k zero = Traps 1 0
-bound_to p v t k (suc d) =
-    if comes_to p.types (id_of_made (suc d)) (id_of_made (suc t)) then Val (Callable (method_number p d k) (object_in v)) else Traps 1 0
+  -- the same method as a value, with the object
+  abbrev pub bound_to : (made : ℕ) → Doing Value
+  bound_to zero = Traps 1 0
+  bound_to (suc d) =
+      if comes_to p.types (id_of_made (suc d)) (id_of_made (suc type)) then Val (Callable (method_number p d slot) (object_in v)) else Traps 1 0
 
-abbrev pub bound : Program → Value → (type slot : ℕ) → Doing Value
-bound p v t k = unless_nil v (Traps 1 0) (bind (ask (Opens v)) (λ x. bound_to p v t k (place_in x).type))
+  abbrev pub bound : Doing Value
+  bound = unless_nil v (Traps 1 0) (bind (ask (Opens v)) (λ x. bound_to (place_in x).type))
 
 -- what a procedure value stands for is called, a method on the value's object
 abbrev pub on_instance : ℕ → List Value → List Value
@@ -179,9 +176,10 @@ calls p (Through e t) o vs = applied o vs
 -- Objects that are made (Reali 2002, section on object types).
 
 -- the initializer is called on a new object, where its type has one
-abbrev pub initialized : Program → (slot : Option ℕ) → (type : ℕ) → Value → List Value → Doing Value
-initialized p None t o vs = Val o
-initialized p (Some k) t o vs = ask (Calls Initially (method_number p t k) (o ∷ vs))
+module _ (p : Program) where
+  abbrev pub initialized : (slot : Option ℕ) → (type : ℕ) → Value → List Value → Doing Value
+  initialized None t o vs = Val o
+  initialized (Some k) t o vs = ask (Calls Initially (method_number p t k) (o ∷ vs))
 
 -- its body is carried out, by an activity of its own or by its creator, where the type has one
 abbrev pub carried_out : Program → (body_of : Option ℕ) → Value → Doing Value

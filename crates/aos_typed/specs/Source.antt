@@ -1,12 +1,12 @@
 -- A program as a machine: its store, its frames, and the turns of an activity.
-use Rattle.std.specs.Prelude.{ℕ, zero, suc, ◌+◌, nat_lt, sum_by, ◌++◌, List, [], ◌∷◌, length, drop, Bool, true, false, Option, Some, None, if◌then◌else◌, map, pos, unsigned_abs, slice_get, option_and_then, option_map}
+use Rattle.std.specs.Prelude.{ℕ, zero, suc, ◌+◌, ◌++◌, List, [], ◌∷◌, length, drop, Bool, true, false, Option, Some, None, if◌then◌else◌, map, pos, unsigned_abs, slice_get, option_and_then, option_map}
 use Rattle.std.specs.List.{range_with_len}
 use Rattle.std.specs.Option.{unwrap_or}
 use Rattle.aos_base.specs.declared.text.Pos.{Pos}
 use Rattle.aos_base.specs.declared.place.Root.{Root}
-use Rattle.aos_base.specs.declared.place.Root.TheVariants.{Frame as FrameRoot, Module as ModuleRoot, Object as ObjectRoot}
+use Rattle.aos_base.specs.declared.place.Root.TheVariants.{Object as ObjectRoot}
 use Rattle.aos_base.specs.declared.kernel.Did.{Did}
-use Rattle.aos_base.specs.declared.kernel.Did.TheVariants.{Went, Ended, Enter, Leave, Await, Start, Trapped}
+use Rattle.aos_base.specs.declared.kernel.Did.TheVariants.{Ended, Enter, Leave, Await, Start, Trapped}
 use Rattle.aos_base.specs.declared.kernel.LockName.{LockName}
 use Rattle.aos_base.specs.declared.kernel.LockName.TheVariants.{Module as ModuleLock, Object as ObjectLock}
 use Rattle.aos_base.specs.declared.kernel.Verdict.{Verdict}
@@ -18,7 +18,9 @@ use Rattle.aos_base.specs.Priority.{number_of as priority_number}
 use Rattle.aos_base.specs.Text.{order}
 use Rattle.aos_base.specs.Book.{Where}
 use Rattle.aos_base.specs.Machine.{Turn, Machine, State, start_of}
-use Rattle.aos_base.specs.Rooted.{Made, Rooted, by_number, change_from_last}
+use Rattle.aos_base.specs.Frames.{Frames as FramesOf, change_frame, change_top, is_deep_by, begins_one, position_by, lowest_home_by, position_in_by}
+pub use Rattle.aos_base.specs.Frames.{all_frames, goes_on, puts, leaves, or_below}
+use Rattle.aos_base.specs.Rooted.{Made, Rooted, by_number}
 use Rattle.aos_base.specs.Question.{Val, Asks, Traps, feed, Reads, Stores, Copies, PutsText, ComparesTexts, Calls, Ends, Makes, Starts, Enters, Leaves, Awaits, PutsInt, PutsChar, PutsString, PutsNothing, PutsLn, Places, Lengths, Opens, Sizes, Tests}
 use Rattle.aos_types.specs.declared.row.Basic.{Basic}
 use Rattle.aos_types.specs.declared.row.Basic.TheVariants as basic
@@ -58,10 +60,9 @@ pub record Frame : Type 0 where
   pub items : List Item
   pub answers : Option (List Value)
 
--- an activity's frames, the topmost first, and the modules whose bodies are to follow once it has none
-pub record Frames : Type 0 where
-  pub following : List ℕ
-  pub frames : List Frame
+-- what follows an activity's frames are the bodies of modules, by the modules' numbers
+abbrev pub Frames : Type 0
+Frames = FramesOf Frame
 
 abbrev pub Turned : Type 0
 Turned = Turn Store Frames
@@ -96,9 +97,7 @@ abbrev pub all_rooted : List Frame → Store → Rooted (Content Value)
 all_rooted fs s = rooted (map (λ f. f.variables) fs) s
 
 abbrev pub frames_with : Root → (Content Value → Content Value) → List Frame → List Frame
-frames_with (FrameRoot d) g fs = change_from_last d (λ f. record f { variables = g f.variables }) fs
-frames_with (ModuleRoot m) g fs = fs
-frames_with (ObjectRoot o) g fs = fs
+frames_with r g fs = change_frame r (λ f. record f { variables = g f.variables }) fs
 
 -- the text that Out.Int writes, where the number of places is 0 to 255
 abbrev pub written : Value → Value → Option (List ℕ)
@@ -160,83 +159,84 @@ locks_in l (Region ss ∷ is) = locks_in l is
 locks_in l (End ∷ is) = l ∷ locks_in l is
 locks_in l (Gives r ∷ is) = []
 
--- an activity's frames, of which the topmost runs
+-- the topmost of an activity's frames, which runs, those below it, and the store
+pub record Top : Type 0 where
+  pub frame : Frame
+  pub below : List Frame
+  pub store : Store
+
+abbrev pub top : Frame → List Frame → Store → Top
+top f fs s = record { frame = f; below = fs; store = s }
+
+abbrev pub roots : Top → Rooted (Content Value)
+roots h = all_rooted (h.frame ∷ h.below) h.store
+
+-- a place's contents with the parts of a shape from another's, which are read before, where both are there
+abbrev pub copied : Shape Sort → (from to : Option (Content Value)) → Option (Content Value)
+copied c (Some new) (Some old) = Some (overlay c new old)
+copied c _ _ = None
+
+-- with what is to follow an activity's frames
 module _ (following : List ℕ) where
-  abbrev pub all_frames : List Frame → Frames
-  all_frames fs = record { following = following; frames = fs }
-
-  -- a turn that leaves nothing to the kernel
-  abbrev pub goes_on : List Frame → Store → Turned
-  goes_on fs s = record { store = s; frames = all_frames fs; output = []; begun = false; left = Went }
-
-  abbrev pub puts : List ℕ → List Frame → Store → Turned
-  puts bytes fs s = record { store = s; frames = all_frames fs; output = bytes; begun = false; left = Went }
-
-  abbrev pub leaves : Did → List Frame → Store → Turned
-  leaves work fs s = record { store = s; frames = all_frames fs; output = []; begun = false; left = work }
-
   -- the end of a frame, whose result is the answer for the one below
   abbrev pub with_result : Value → List Frame → List Frame
-  with_result v [] = []
-  with_result v (f ∷ fs) = answered v f ∷ fs
+  with_result v fs = change_top (answered v) fs
 
   abbrev pub ends : Option Value → List Frame → Store → Turned
-  ends None fs s = goes_on (with_result done fs) s
-  ends (Some v) fs s = goes_on (with_result v fs) s
+  ends None fs s = goes_on following (with_result done fs) s
+  ends (Some v) fs s = goes_on following (with_result v fs) s
+
+  -- the topmost frame goes on with an answer, or all stay as they are and leave work to the kernel
+  abbrev pub goes_on_with : Value → Top → Turned
+  goes_on_with v h = goes_on following (answered v h.frame ∷ h.below) h.store
+
+  abbrev pub stays : Did → Top → Turned
+  stays work h = leaves following work (h.frame ∷ h.below) h.store
 
   -- the first of these items begins at a place
-  abbrev pub begins : Pos → List Item → Frame → List Frame → Store → Turned
-  begins at is f fs s =
-      record {
-        store = s;
-        frames = all_frames (record f { at = Some at; items = is; answers = Some [] } ∷ fs);
-        output = [];
-        begun = true;
-        left = Went;
-      }
+  abbrev pub begins : Pos → List Item → Top → Turned
+  begins at is h = begins_one following (record h.frame { at = Some at; items = is; answers = Some [] } ∷ h.below) h.store
 
   abbrev pub writes : Root → (Content Value → Content Value) → List Frame → Store → Turned
-  writes r g fs s = goes_on (frames_with r g fs) (store_with r g s)
+  writes r g fs s = goes_on following (frames_with r g fs) (store_with r g s)
 
-  abbrev pub prints : Option (List ℕ) → Frame → List Frame → Store → Turned
-  prints None f fs s = leaves (Trapped 14 0) (f ∷ fs) s
-  prints (Some bytes) f fs s = puts bytes (answered done f ∷ fs) s
+  abbrev pub prints : Option (List ℕ) → Top → Turned
+  prints None h = stays (Trapped 14 0) h
+  prints (Some bytes) h = puts following bytes (answered done h.frame ∷ h.below) h.store
 
   -- an object is made, where the heap has room for it
-  abbrev pub makes : Bool → Made → Content Value → Frame → List Frame → Store → Turned
-  makes true m c f fs s = goes_on (answered (Object (new_number s)) f ∷ fs) (with_object m c s)
-  makes false m c f fs s = leaves (Trapped 12 0) (f ∷ fs) s
+  abbrev pub makes : Bool → Made → Content Value → Top → Turned
+  makes true m c h = goes_on following (answered (Object (new_number h.store)) h.frame ∷ h.below) (with_object m c h.store)
+  makes false m c h = stays (Trapped 12 0) h
 
   -- an object's activity is left to the kernel; nothing is where there is no object, to which no well-typed program comes
-  abbrev pub starts : Value → Frame → List Frame → Store → Turned
-  starts (Object (suc k)) f fs s = leaves (Start (suc k)) (f ∷ fs) s
-  starts v f fs s = goes_on (answered done f ∷ fs) s
+  abbrev pub starts : Value → Top → Turned
+  starts (Object (suc k)) h = stays (Start (suc k)) h
+  starts v h = goes_on_with done h
 
   -- a condition is left to the kernel by a frame with an open region, the first of whose locks this list has; no program that was accepted
   -- awaits one outside a region
-  abbrev pub awaits : List LockName → ℕ → Frame → List Frame → Store → Turned
-  awaits [] c f fs s = goes_on (answered done f ∷ fs) s
-  awaits (l ∷ ls) c f fs s = leaves (Await l c) (f ∷ fs) s
+  abbrev pub awaits : List LockName → ℕ → Top → Turned
+  awaits [] c h = goes_on_with done h
+  awaits (l ∷ ls) c h = stays (Await l c) h
 
-  -- a place's contents take the parts of a shape from another's, which are read before; what isn't there is not, and no well-typed
-  -- program comes to it
-  abbrev pub copies : Shape Sort → (from to : Option (Content Value)) → Spot → List Frame → Store → Turned
-  copies c (Some new) (Some old) to fs s = writes to.root (placed to.path (overlay c new old)) fs s
-  copies c _ _ to fs s = goes_on fs s
+  -- other contents are stored at a place; where there are none nothing is, and no well-typed program comes to it
+  abbrev pub copies : Option (Content Value) → Spot → Top → Turned
+  copies None to h = goes_on_with done h
+  copies (Some c) to h = writes to.root (placed to.path c) (answered done h.frame ∷ h.below) h.store
 
   -- a text is stored at a place, where it fits
-  abbrev pub stores_text : Option (List ℕ) → Option (Content Value) → Spot → Frame → List Frame → Store → Turned
-  stores_text None old to f fs s = leaves (Trapped 15 0) (f ∷ fs) s
-  stores_text (Some cs) None to f fs s = goes_on (answered done f ∷ fs) s
-  stores_text (Some cs) (Some old) to f fs s = writes to.root (placed to.path (with_text cs old)) (answered done f ∷ fs) s
+  abbrev pub stores_text : Option (List ℕ) → Option (Content Value) → Spot → Top → Turned
+  stores_text None old to h = stays (Trapped 15 0) h
+  stores_text (Some cs) None to h = goes_on_with done h
+  stores_text (Some cs) (Some old) to h = writes to.root (placed to.path (with_text cs old)) (answered done h.frame ∷ h.below) h.store
 
-  -- an activity has 512 frames and 65,536 scalars in them at most
   abbrev pub is_deep : Frame → List Frame → Bool
-  is_deep g fs = if nat_lt (length fs) 512 then nat_lt 65536 (g.counted + sum_by (λ f. f.counted) fs) else true
+  is_deep g fs = is_deep_by (λ f. f.counted) g fs
 
   abbrev pub enters : Bool → Frame → List Frame → Store → Turned
-  enters true g fs s = leaves (Trapped 11 0) fs s
-  enters false g fs s = goes_on (g ∷ fs) s
+  enters true g fs s = leaves following (Trapped 11 0) fs s
+  enters false g fs s = goes_on following (g ∷ fs) s
 
 -- two texts compared
 abbrev pub compared : Relation → (left right : Option (Content Value)) → Value
@@ -344,101 +344,102 @@ module _ (p : Program) (following : List ℕ) where
       }
 
   -- a procedure that isn't there isn't called, and no well-typed program comes to it
-  abbrev pub calls : Option Routine → List Value → Frame → List Frame → Store → Turned
-  calls None vs f fs s = goes_on following (answered done f ∷ fs) s
-  calls (Some r) vs f fs s =
-      let g = called_frame r vs (f ∷ fs) s in enters following (is_deep following g (f ∷ fs)) g (f ∷ fs) s
+  abbrev pub calls : Option Routine → List Value → Top → Turned
+  calls None vs h = goes_on_with following done h
+  calls (Some r) vs h =
+      let fs = h.frame ∷ h.below in
+      let g = called_frame r vs fs h.store in enters following (is_deep following g fs) g fs h.store
 
   -- none of the lengths of an open array is below 1
-  abbrev pub makes_with : Option (List ℕ) → ℕ → Frame → List Frame → Store → Turned
-  makes_with None t f fs s = leaves following (Trapped 15 0) (f ∷ fs) s
-  makes_with (Some ns) t f fs s =
+  abbrev pub makes_with : Option (List ℕ) → ℕ → Top → Turned
+  makes_with None t h = stays following (Trapped 15 0) h
+  makes_with (Some ns) t h =
       let m : Made = record { type = t; lengths = ns } in
-      let c = first_content (first_value p) (made_shape p.types m) in makes following (has_room m c s) m c f fs s
+      let c = first_content (first_value p) (made_shape p.types m) in makes following (has_room m c h.store) m c h
 
   -- a question is answered
-  abbrev pub answer : Question → Frame → List Frame → Store → Turned
-  answer (Reads t q) f fs s = goes_on following (answered (value_at q (all_rooted (f ∷ fs) s)) f ∷ fs) s
-  answer (Stores q v) f fs s = writes following q.root (placed q.path (Scalar v)) (answered done f ∷ fs) s
-  answer (Makes t vs) f fs s = makes_with (array_lengths (map number_of vs)) t f fs s
-  answer (Starts v) f fs s = starts following v f fs s
-  answer (PutsInt v n) f fs s = prints following (written v n) f fs s
-  answer (PutsChar v) f fs s = puts following (unsigned_abs (number_of v) ∷ []) (answered done f ∷ fs) s
-  answer PutsNothing f fs s = puts following [] (answered done f ∷ fs) s
-  answer PutsLn f fs s = puts following (10 ∷ []) (answered done f ∷ fs) s
-  answer (Copies t from to) f fs s =
-      let x = all_rooted (f ∷ fs) s in
-      copies following (variable_shape p.types (id_of t)) (read from.root from.path x) (read to.root to.path x) to (answered done f ∷ fs) s
-  answer (PutsText strict from n to room) f fs s =
-      let x = all_rooted (f ∷ fs) s in
+  abbrev pub answer : Question → Top → Turned
+  answer (Reads t q) h = goes_on_with following (value_at q (roots h)) h
+  answer (Stores q v) h = writes following q.root (placed q.path (Scalar v)) (answered done h.frame ∷ h.below) h.store
+  answer (Makes t vs) h = makes_with (array_lengths (map number_of vs)) t h
+  answer (Starts v) h = starts following v h
+  answer (PutsInt v n) h = prints following (written v n) h
+  answer (PutsChar v) h = puts following (unsigned_abs (number_of v) ∷ []) (answered done h.frame ∷ h.below) h.store
+  answer PutsNothing h = puts following [] (answered done h.frame ∷ h.below) h.store
+  answer PutsLn h = puts following (10 ∷ []) (answered done h.frame ∷ h.below) h.store
+  answer (Copies t from to) h =
+      let x = roots h in
+      copies following (copied (variable_shape p.types (id_of t)) (read from.root from.path x) (read to.root to.path x)) to h
+  answer (PutsText strict from n to room) h =
+      let x = roots h in
       let text = fitted strict (unsigned_abs (number_of room)) (text_in (read from.root from.path x)) in
-      stores_text following text (read to.root to.path x) to f fs s
-  answer (ComparesTexts r a n b m) f fs s =
-      let x = all_rooted (f ∷ fs) s in
-      goes_on following (answered (compared r (read a.root a.path x) (read b.root b.path x)) f ∷ fs) s
-  answer (Calls how q vs) f fs s = calls (by_number q (routines p)) vs f fs s
-  answer (PutsString a n) f fs s = puts following (text_in (read a.root a.path (all_rooted (f ∷ fs) s))) (answered done f ∷ fs) s
-  answer (Awaits c) f fs s = awaits following (locks_in (lock_of f) f.items) c f fs s
+      stores_text following text (read to.root to.path x) to h
+  answer (ComparesTexts r a n b m) h =
+      let x = roots h in
+      goes_on_with following (compared r (read a.root a.path x) (read b.root b.path x)) h
+  answer (Calls how q vs) h = calls (by_number q (routines p)) vs h
+  answer (PutsString a n) h = puts following (text_in (read a.root a.path (roots h))) (answered done h.frame ∷ h.below) h.store
+  answer (Awaits c) h = awaits following (locks_in (lock_of h.frame) h.frame.items) c h
   -- known at once, before a turn comes here
-  answer (Places a) f fs s = goes_on following (answered done f ∷ fs) s
-  answer (Lengths a) f fs s = goes_on following (answered done f ∷ fs) s
-  answer (Opens v) f fs s = goes_on following (answered done f ∷ fs) s
-  answer (Sizes v d) f fs s = goes_on following (answered done f ∷ fs) s
-  answer (Tests v t) f fs s = goes_on following (answered done f ∷ fs) s
+  answer (Places a) h = goes_on_with following done h
+  answer (Lengths a) h = goes_on_with following done h
+  answer (Opens v) h = goes_on_with following done h
+  answer (Sizes v d) h = goes_on_with following done h
+  answer (Tests v t) h = goes_on_with following done h
   -- asked by no statement: items end a frame, and enter and end its regions
-  answer (Ends result) f fs s = goes_on following (answered done f ∷ fs) s
-  answer Enters f fs s = goes_on following (answered done f ∷ fs) s
-  answer Leaves f fs s = goes_on following (answered done f ∷ fs) s
+  answer (Ends result) h = goes_on_with following done h
+  answer Enters h = goes_on_with following done h
+  answer Leaves h = goes_on_with following done h
 
   -- the first of these items goes on without a beginning: what follows where its value is TRUE, and where it's FALSE
-  abbrev pub tests : Doing Value → (if_true if_false : Turned) → Frame → List Frame → Store → Turned
-  tests (Val v) if_true if_false f fs s = if is_true v then if_true else if_false
-  tests (Asks q k) if_true if_false f fs s = answer q f fs s
-  tests (Traps n c) if_true if_false f fs s = leaves following (Trapped n c) (f ∷ fs) s
+  abbrev pub tests : Doing Value → (if_true if_false : Turned) → Top → Turned
+  tests (Val v) if_true if_false h = if is_true v then if_true else if_false
+  tests (Asks q k) if_true if_false h = answer q h
+  tests (Traps n c) if_true if_false h = stays following (Trapped n c) h
 
   -- the end of a body, which a function doesn't come to
-  abbrev pub finishes : Bool → Frame → List Frame → Store → Turned
-  finishes true f fs s = leaves following (Trapped 10 0) (f ∷ fs) s
-  finishes false f fs s = ends following None fs s
+  abbrev pub finishes : Bool → Top → Turned
+  finishes true h = stays following (Trapped 10 0) h
+  finishes false h = ends following None h.below h.store
 
   -- the first of these items leaves work to the kernel, without a beginning
-  abbrev pub asks_for : Did → List Item → Frame → List Frame → Store → Turned
-  asks_for work is f fs s = leaves following work (record f { items = is; answers = None } ∷ fs) s
+  abbrev pub asks_for : Did → List Item → Top → Turned
+  asks_for work is h = leaves following work (record h.frame { items = is; answers = None } ∷ h.below) h.store
 
   -- the next item begins, or the frame ends where there is none; the condition behind a REPEAT's statements is no beginning, nor is the
   -- entry of a region or its end
-  abbrev pub settles : List Item → Frame → List Frame → Store → Turned
-  settles [] f fs s = finishes f.gives f fs s
-  settles (Do st ∷ is) f fs s = begins following (pos_of st) (Do st ∷ is) f fs s
-  settles (Rounds at w p last step b ∷ is) f fs s = begins following at (Rounds at w p last step b ∷ is) f fs s
-  settles (Round st ∷ is) f fs s = begins following (pos_of st) (Do st ∷ is) f fs s
-  settles (Until at b e ∷ is) f fs s =
-      let test = value_of p (here_of f fs) e in
-      tests (calm p.types (made_in s) f.variables test) (settles is f fs s) (begins following at (Do (Repeat at b e) ∷ is) f fs s)
-      (record f { items = Until at b e ∷ is; answers = Some (noted p.types (made_in s) f.variables test) }) fs s
-  settles (Region ss ∷ is) f fs s = asks_for (Enter (lock_of f)) (Region ss ∷ is) f fs s
-  settles (End ∷ is) f fs s = asks_for (Leave (lock_of f)) (End ∷ is) f fs s
-  settles (Gives r ∷ is) f fs s = ends following r fs s
+  abbrev pub settles : List Item → Top → Turned
+  settles [] h = finishes h.frame.gives h
+  settles (Do st ∷ is) h = begins following (pos_of st) (Do st ∷ is) h
+  settles (Rounds at w p last step b ∷ is) h = begins following at (Rounds at w p last step b ∷ is) h
+  settles (Round st ∷ is) h = begins following (pos_of st) (Do st ∷ is) h
+  settles (Until at b e ∷ is) h =
+      let test = value_of p (here_of h.frame h.below) e in
+      tests (calm p.types (made_in h.store) h.frame.variables test) (settles is h) (begins following at (Do (Repeat at b e) ∷ is) h)
+      (record h { frame = record h.frame { items = Until at b e ∷ is; answers = Some (noted p.types (made_in h.store) h.frame.variables test) } })
+  settles (Region ss ∷ is) h = asks_for (Enter (lock_of h.frame)) (Region ss ∷ is) h
+  settles (End ∷ is) h = asks_for (Leave (lock_of h.frame)) (End ∷ is) h
+  settles (Gives r ∷ is) h = ends following r h.below h.store
 
-  abbrev pub goes : Doing After → List Item → Frame → List Frame → Store → Turned
-  goes (Val (Into is)) rest f fs s = settles (is ++ rest) f fs s
-  goes (Val Exits) rest f fs s = settles (leave rest) f fs s
-  goes (Val (Returns r)) rest f fs s = settles (leave_all r rest) f fs s
-  goes (Asks q k) rest f fs s = answer q f fs s
-  goes (Traps n c) rest f fs s = leaves following (Trapped n c) (f ∷ fs) s
+  abbrev pub goes : Doing After → List Item → Top → Turned
+  goes (Val (Into is)) rest h = settles (is ++ rest) h
+  goes (Val Exits) rest h = settles (leave rest) h
+  goes (Val (Returns r)) rest h = settles (leave_all r rest) h
+  goes (Asks q k) rest h = answer q h
+  goes (Traps n c) rest h = stays following (Trapped n c) h
 
   -- the first item goes on from the answers that it has had
-  abbrev pub item_turn : Option (List Value) → List Item → Frame → List Frame → Store → Turned
-  item_turn None is f fs s = settles is f fs s
-  item_turn (Some vs) [] f fs s = ends following None fs s
-  item_turn (Some vs) (i ∷ is) f fs s =
-      let left = feed vs (item_of p (here_of f fs) i) in
-      goes (calm p.types (made_in s) f.variables left) is
-      (record f { answers = Some (vs ++ noted p.types (made_in s) f.variables left) }) fs s
+  abbrev pub item_turn : Option (List Value) → List Item → Top → Turned
+  item_turn None is h = settles is h
+  item_turn (Some vs) [] h = ends following None h.below h.store
+  item_turn (Some vs) (i ∷ is) h =
+      let left = feed vs (item_of p (here_of h.frame h.below) i) in
+      goes (calm p.types (made_in h.store) h.frame.variables left) is
+      (record h { frame = record h.frame { answers = Some (vs ++ noted p.types (made_in h.store) h.frame.variables left) } })
 
   abbrev pub turn_at : List Frame → Store → Turned
   turn_at [] s = leaves following Ended [] s
-  turn_at (f ∷ fs) s = item_turn f.answers f.items f fs s
+  turn_at (f ∷ fs) s = item_turn f.answers f.items (top f fs s)
 
 -- the frame of a body, which has no variables: of this module, and on this object
 abbrev pub body_frame : (home object : ℕ) → Body → Frame
@@ -455,23 +456,14 @@ body_frame home o b =
       answers = None;
     }
 
-abbrev pub or_below : Option Pos → ℕ → Where → Where
-or_below None home below = below
-or_below (Some p) home below = record { module_ = home; pos = p }
-
 abbrev pub position_or : Where → List Frame → Where
-position_or none [] = none
-position_or none (f ∷ fs) = or_below f.at f.home (position_or none fs)
+position_or none fs = position_by (λ f. f.at) (λ f. f.home) none fs
 
--- the module of the lowest frame, or this one where there is none
 abbrev pub lowest_home : ℕ → List Frame → ℕ
-lowest_home home [] = home
-lowest_home home (f ∷ fs) = lowest_home f.home fs
+lowest_home home fs = lowest_home_by (λ f. f.home) home fs
 
--- where the topmost frame that has begun a statement stands; where none has, line 0 and column 0 of the module of the body with which
--- the activity began
 abbrev pub position_in : List Frame → Where
-position_in fs = position_or (record { module_ = lowest_home 0 fs; pos = record { line = 0; col = 0 } }) fs
+position_in fs = position_in_by (λ f. f.at) (λ f. f.home) fs
 
 -- Past the work that was left to the kernel: the latest question of the first item, where it has begun; or else the entry of a region,
 -- whose mark then stands behind its statements, or its end, with which the mark is gone.

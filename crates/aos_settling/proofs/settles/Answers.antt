@@ -1,4 +1,5 @@
-use Rattle.aos_settling.proofs.Settling.{settle_at, settle_later_at}
+use Rattle.aos_concurrency.proofs.Settles.{settle_at}
+use Rattle.aos_settling.proofs.Settling.{settle_later_at}
 use Rattle.aos_settling.proofs.Tallies.{is_tallied}
 use Rattle.aos_settling.proofs.settles.Goals as goal
 

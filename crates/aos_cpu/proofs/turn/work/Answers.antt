@@ -1,6 +1,6 @@
 use Rattle.std.proofs.Common.{◌≡◌, List, ◌∷◌, drop, true, sym, ap, ◌∙◌}
 use Rattle.aos_base.specs.declared.kernel.Did.TheVariants.{Trapped}
-use Rattle.aos_code.specs.Machine.{Frame, finds, works}
+use Rattle.aos_code.specs.Machine.{asker, Frame, finds, works}
 use Rattle.aos_store.specs.Store.{list_in, memory_in}
 use Rattle.aos_silent.specs.declared.silent.Stop.TheVariants.{Work as AtWork}
 use Rattle.aos_silent.specs.Acts.{question_in, operands_of}
@@ -58,5 +58,5 @@ returns-clause-ok c fs h =
     let out = c.args.output.now.items in
     shown_alike image old old mem mem fs (Trapped 16 0) out out h
     (failed_shown image (AtWork q c.args.at) 16 0 old mem out
-    (λ following f gs is. ap (λ b. works following image.shapes.items image.types.items b (question_in q f.stack) c.args.at f.keeps (drop (operands_of q) f.stack) f gs mem) (sym (c.finds.ensures f gs is) ∙ c.if-finds.false))
+    (λ following f gs is. ap (λ b. works following image.shapes.items image.types.items b (question_in q f.stack) (asker c.args.at f.keeps (drop (operands_of q) f.stack) f gs mem)) (sym (c.finds.ensures f gs is) ∙ c.if-finds.false))
     c.requires.stands)

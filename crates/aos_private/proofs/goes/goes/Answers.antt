@@ -9,7 +9,7 @@ use Rattle.aos_code.specs.declared.image.ProcShape.{ProcShape}
 use Rattle.aos_code.specs.Numbered.{numbered}
 use Rattle.aos_code.specs.Memory.{Memory}
 use Rattle.aos_code.specs.Silent.{Keeps, Stack}
-use Rattle.aos_code.specs.Machine.{Frame, rooted, calls, works, finds, text_at, length_in}
+use Rattle.aos_code.specs.Machine.{asker, Frame, rooted, calls, works, finds, text_at, length_in}
 use Rattle.aos_store.specs.Store.{memory_in, has_all}
 use Rattle.aos_silent.specs.declared.act.Question.{Question}
 use Rattle.aos_silent.specs.Acts.{question_in, addr_in, passed}
@@ -22,7 +22,7 @@ use Rattle.aos_private.proofs.goes.goes.Goals as goal
 -- whether the answer comes that the topmost frame asks for, where what it needs is found
 abbrev comes : Image → List ℕ → ℕ → Keeps → Stack → Frame → List Frame → Memory → Question → Bool
 comes image following at k s f fs mem q =
-    has_gone (works following image.shapes.items image.types.items (finds image.types.items (question_in q f.stack) f mem) (question_in q f.stack) at k s f fs mem).left
+    has_gone (works following image.shapes.items image.types.items (finds image.types.items (question_in q f.stack) f mem) (question_in q f.stack) (asker at k s f fs mem)).left
 
 pub returns-in-Reads : goal.returns-in-Reads
 returns-in-Reads c f fs is own following at k s =
@@ -77,7 +77,7 @@ returns-in-Calls c f fs is own following at k s =
     let mem = memory_in c.args.store.now in
     let p = c.in-Calls.procedure in
     c.calls.ensures f fs is following p at k s
-    ∙ ap (λ (shape : Option ProcShape). has_gone (calls following shape p (passed c.in-Calls.way (reverse (take c.in-Calls.count f.stack))) at k s f fs mem).left) (c.numbered.ensures ∙ ap (λ (l : List ProcShape). numbered l p) c.deref.ensures.value)
+    ∙ ap (λ (shape : Option ProcShape). has_gone (calls following shape p (passed c.in-Calls.way (reverse (take c.in-Calls.count f.stack))) (asker at k s f fs mem)).left) (c.numbered.ensures ∙ ap (λ (l : List ProcShape). numbered l p) c.deref.ensures.value)
     ∙ ap (comes c.args.image.now following at k s f fs mem) (sym c.in-Calls.is)
 
 pub returns-in-Ends : goal.returns-in-Ends
