@@ -1,11 +1,11 @@
 -- The arguments of a call: one for each parameter of the procedure (Oberon-2 report, 10.1 and appendix A).
 use Rattle.std.specs.Prelude.{ℕ, zero, suc, List, [], ◌∷◌, ◌++◌, length, Bool, true, false, ◌&&◌, ◌||◌, nat_lt, Option, Some, None, is_some, option_and_then, if◌then◌else◌, not}
 use Rattle.std.specs.Option.{is_none}
+use Rattle.aos_base.specs.declared.limits.TheConstants.{MOST_SCALARS}
 use Rattle.aos_base.specs.declared.text.Pos.{Pos}
 use Rattle.aos_types.specs.declared.row.TypeId.{TypeId}
 use Rattle.aos_types.specs.declared.row.TypeRow.{TypeRow}
 use Rattle.aos_types.specs.declared.row.TypeRow.TheVariants as row
-use Rattle.aos_types.specs.declared.TheConstants.{MOST_SCALARS}
 use Rattle.aos_types.specs.Table.{row_of}
 use Rattle.aos_types.specs.Extension.{extends}
 use Rattle.aos_types.specs.declared.signature.Parameter.{Parameter}

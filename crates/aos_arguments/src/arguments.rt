@@ -9,7 +9,7 @@ ghost use Rattle.aos_arguments.specs.Arguments as judge;
 ghost use Rattle.aos_arguments.specs.Seen.{seen_given, seen_handing};
 
 use crate::filled::{filled_index, filled_place};
-use aos_base::Pos;
+use aos_base::{MOST_SCALARS, Pos};
 use aos_known::{
     Answer, Class, Known, has_parts, is_opened, is_record_type, is_value, made_place_in,
     object_number, open_dimensions,
@@ -17,7 +17,7 @@ use aos_known::{
 use aos_made::{MadeArgument, MadeArguments, MadePlace};
 use aos_symbols::{ARGUMENT_TYPE, Breach, Env, NO_VARIABLE, NOT_BUILT, READ_ONLY, note};
 use aos_typed::{TPlace, TextConstant, open_array};
-use aos_types::{MOST_SCALARS, Parameter, TypeId, TypeRow};
+use aos_types::{Parameter, TypeId, TypeRow};
 use aos_values::{
     has_room, is_array, is_assignable, is_characters, rows_in, string_in, text_for, typed_for,
 };

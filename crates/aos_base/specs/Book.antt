@@ -1,5 +1,6 @@
 -- The kernel's book: where each activity stands, who owns which lock, and what has happened.
 use Rattle.std.specs.Prelude.{ℕ, suc, Option, Some, None, List, [], ◌∷◌, ◌++◌, ◌==◌, nat_eq, ◌&&◌, ◌||◌, not, nat_le, length, filter, if◌then◌else◌, Bool, true, false, is_some}
+use Rattle.aos_base.specs.declared.limits.TheConstants.{MOST_LIVE, MOST_STARTED}
 use Rattle.aos_base.specs.declared.kernel.LockName.{LockName}
 use Rattle.aos_base.specs.declared.kernel.Event.{Event}
 use Rattle.aos_base.specs.declared.kernel.Event.TheVariants as event
@@ -193,9 +194,9 @@ born priority b =
       line = move a (Ready priority) b.line;
     })
 
--- 1,024 activities live, or 65,536 have been started
+-- the most activities live, or have been started
 abbrev pub is_full : Book → Bool
-is_full b = nat_le 1024 (length b.line) || nat_le 65536 b.started
+is_full b = nat_le MOST_LIVE (length b.line) || nat_le MOST_STARTED b.started
 
 -- nothing has happened yet: activity 0 is ready, and no lock is owned
 abbrev pub first_book : ℕ → Book

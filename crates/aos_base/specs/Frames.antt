@@ -1,5 +1,6 @@
 -- The frames of an activity under a machine, what its turns come to, and where it stands.
 use Rattle.std.specs.Prelude.{ℕ, ◌+◌, List, [], ◌∷◌, length, sum_by, nat_lt, Bool, true, false, Option, Some, None, if◌then◌else◌}
+use Rattle.aos_base.specs.declared.limits.TheConstants.{MOST_FRAME_SCALARS, MOST_FRAMES}
 use Rattle.aos_base.specs.declared.text.Pos.{Pos}
 use Rattle.aos_base.specs.declared.place.Root.{Root}
 use Rattle.aos_base.specs.declared.place.Root.TheVariants.{Frame, Module, Object}
@@ -35,9 +36,9 @@ module _ {F : Type 0} where
   change_top g [] = []
   change_top g (f ∷ fs) = g f ∷ fs
 
-  -- an activity has 512 frames and 65,536 scalars in them at most
+  -- whether a frame more passes the most frames of an activity, or the most scalars in them
   abbrev pub is_deep_by : (counted : F → ℕ) → F → List F → Bool
-  is_deep_by counted g fs = if nat_lt (length fs) 512 then nat_lt 65536 (counted g + sum_by counted fs) else true
+  is_deep_by counted g fs = if nat_lt (length fs) MOST_FRAMES then nat_lt MOST_FRAME_SCALARS (counted g + sum_by counted fs) else true
 
 -- What a turn comes to. S: what activities share
 module _ {F S : Type 0} (following : List ℕ) where

@@ -1,6 +1,7 @@
 -- What all activities under a machine share: the contents of its modules and objects.
 use Rattle.std.specs.Prelude.{ℕ, suc, ◌+◌, List, [], ◌∷◌, ◌++◌, length, max, sum_by, nat_le, Bool, ◌&&◌, Option, option_map}
 use Rattle.std.specs.List.{list_all}
+use Rattle.aos_base.specs.declared.limits.TheConstants.{MOST_SCALARS}
 use Rattle.aos_base.specs.declared.place.Root.{Root}
 use Rattle.aos_base.specs.declared.place.Root.TheVariants.{Frame, Module, Object}
 use Rattle.aos_base.specs.Rooted.{Made, Rooted, by_number, change_at, change_by_number}
@@ -44,4 +45,4 @@ module _ {X : Type 0} where
   -- the heap has room for so many scalars, and for no array that is longer
   abbrev pub has_room_by : (scalars : X → ℕ) → Made → X → Shared X → Bool
   has_room_by scalars m x s =
-      list_all (λ n. nat_le n 16777216) m.lengths && nat_le (counted_by scalars x + sum_by (counted_by scalars) s.objects) 16777216
+      list_all (λ n. nat_le n MOST_SCALARS) m.lengths && nat_le (counted_by scalars x + sum_by (counted_by scalars) s.objects) MOST_SCALARS

@@ -3,6 +3,7 @@
 #![tactic(auto)]
 
 pub mod kernel;
+pub mod limits;
 pub mod number;
 pub mod operator;
 pub mod place;
@@ -11,6 +12,7 @@ pub mod set;
 pub mod text;
 
 pub use kernel::{Did, Event, LockName, MAX_STEPS, Outcome, Sched, Verdict};
+pub use limits::{MOST_FRAME_SCALARS, MOST_FRAMES, MOST_LIVE, MOST_SCALARS, MOST_STARTED};
 pub use number::{Relation, Width, abs, add, ash, div, fits, modulo, mul, neg, related, sub};
 pub use operator::{Binary, Given, Unary, apply_binary, apply_unary, natural, truth};
 pub use place::Root;

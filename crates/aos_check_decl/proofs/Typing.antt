@@ -9,10 +9,10 @@ use Rattle.std.proofs.lemmas.List.Sums.{sum_by_from}
 use Rattle.std.proofs.lemmas.Option.{none-some, same_Some, slice_get_within}
 use Rattle.std.proofs.Math.Seq.{take-append_seam, drop-append_seam}
 use mathlib.Core.Logic.{◌⊎◌, inl, inr}
+use Rattle.aos_base.specs.declared.limits.TheConstants.{MOST_SCALARS}
 use Rattle.aos_tree.specs.declared.decl.Formals.{Formals}
 use Rattle.aos_tree.specs.declared.decl.TypeDef.{TypeDef}
 use Rattle.aos_tree.specs.declared.module.Module.{Module}
-use Rattle.aos_types.specs.declared.TheConstants.{MOST_SCALARS}
 use Rattle.aos_types.specs.declared.row.Basic.TheVariants as basic
 use Rattle.aos_types.specs.declared.row.TypeId.{TypeId}
 use Rattle.aos_types.specs.declared.row.TypeRow.{TypeRow}

@@ -7,7 +7,7 @@ ghost use Rattle.aos_check_types.specs.Told.{Told, Tells};
 ghost use Rattle.aos_check_decl.specs.Types as judge;
 
 use crate::declarations::constant_defs;
-use aos_base::{NoMemory, Pos};
+use aos_base::{MOST_SCALARS, NoMemory, Pos};
 use aos_check_expr::constant;
 use aos_made_types::{
     add_all_fields, add_fields, add_types, base_in, known_record, own_types, place_arrays,
@@ -16,7 +16,7 @@ use aos_made_types::{
 use aos_symbols::{Breach, Env, NOT_CONSTANT, OBJECT_INSIDE, OPEN_ARRAY, Scope, note};
 use aos_tree::{Decl, Expr, Fields, Items as Parts, Qualident, TypeExpr, VarDef};
 use aos_typed::Literal;
-use aos_types::{Items, MOST_SCALARS, TypeId};
+use aos_types::{Items, TypeId};
 use aos_values::{named_type, no_type};
 use std::alloc::{AllocError, Global};
 

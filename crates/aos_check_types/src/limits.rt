@@ -2,7 +2,7 @@
 
 ghost use Rattle.std.specs.Prelude.{◌≡◌, ◌+◌, ◌++◌, [], map, nat_le, sum_by, slice_get, unwrap_or, false, OnOk, IfOk};
 ghost use Rattle.std.specs.List.{flat_map, zip};
-ghost use Rattle.aos_types.specs.declared.TheConstants.{MOST_SCALARS};
+ghost use Rattle.aos_base.specs.declared.limits.TheConstants.{MOST_SCALARS};
 ghost use Rattle.aos_types.specs.Chain.{NoneContainsItself};
 ghost use Rattle.aos_types.specs.Limit.{is_past, is_first_past};
 ghost use Rattle.aos_types.specs.Table.{row_of, is_open};
@@ -13,13 +13,13 @@ ghost use Rattle.aos_check_types.specs.Limits as judge;
 
 use crate::claims::{drop_bases, note_claims};
 use crate::places::{next, type_place};
-use aos_base::{NoMemory, Pos};
+use aos_base::{MOST_SCALARS, NoMemory, Pos};
 use aos_entries::{all_procedures, inner_parts};
 use aos_symbols::{
     Breach, CONTAINS_ITSELF, Claim, Env, Home, Scope, TOO_MANY_SCALARS, WRONG_TYPE, note,
 };
 use aos_tree::{Decl, Def, Formals, Proc, TypeDef, VarDef};
-use aos_types::{Gives, MOST_SCALARS, TypeId, TypeRow, Types};
+use aos_types::{Gives, TypeId, TypeRow, Types};
 use std::alloc::{AllocError, Global};
 use std::marker::Model;
 

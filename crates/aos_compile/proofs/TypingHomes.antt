@@ -1,8 +1,8 @@
 -- What modules declare that break no rule, beside their modules of the typed program.
 use Rattle.std.proofs.Common.{◌≡◌, ℕ, zero, suc, ◌+◌, ◌≤◌, ◌<◌, ◌⊎◌, List, [], ◌∷◌, ◌++◌, length, map, true, Option, Some, slice_get, sum_by, refl, sym, ap, ◌∙◌, subst, arith, All}
 use Rattle.std.proofs.lemmas.Option.{none-some, same_Some, slice_get_within}
+use Rattle.aos_base.specs.declared.limits.TheConstants.{MOST_SCALARS}
 use Rattle.aos_types.specs.declared.row.TypeId.{TypeId}
-use Rattle.aos_types.specs.declared.TheConstants.{MOST_SCALARS}
 use Rattle.aos_types.specs.declared.row.Basic.TheVariants.{Text}
 use Rattle.aos_types.specs.declared.row.TypeRow.{TypeRow}
 use Rattle.aos_types.specs.declared.row.TypeRow.TheVariants as row

@@ -4,6 +4,7 @@ use Rattle.std.specs.Prelude.{Option, Some, None, Bool, true, false, nat_lt, sum
 use Rattle.std.specs.Option.{option_map}
 use Rattle.std.proofs.lemmas.Bool.Decides.{leb_tells}
 use Rattle.std.proofs.lemmas.List.{append-nil}
+use Rattle.aos_base.specs.declared.limits.TheConstants.{MOST_FRAME_SCALARS, MOST_FRAMES}
 use Rattle.aos_base.specs.declared.kernel.Did.TheVariants.{Went, Trapped}
 use Rattle.aos_code.specs.declared.instr.Cell.{Cell}
 use Rattle.aos_code.specs.declared.image.ProcShape.{ProcShape}
@@ -31,23 +32,23 @@ some_of f (Some a) v e = (a, refl, cc e)
 
 -- n: cells that are copied; m: as far as 64 bits; k: with those of the shape, as far as 32 bits
 module _ (c n m k : ℕ) (em : m ≡ min n (2 ^ 64 - 1)) (ek : k ≡ min (c + m) (2 ^ 32 - 1)) where
-  past_same : (s : ℕ) → nat_lt 65536 (k + s) ≡ nat_lt 65536 (c + n + s)
+  past_same : (s : ℕ) → nat_lt MOST_FRAME_SCALARS (k + s) ≡ nat_lt MOST_FRAME_SCALARS (c + n + s)
   past_same s =
-      elim (leb_tells (suc 65536) (k + s)) [
-        | inl p ↦ elim (leb_tells (suc 65536) (c + n + s)) [ inl q ↦ p.0 ∙ sym q.0 | inr q ↦ absurd (omega (arith, p.1, q.1, em, ek)) ]
-        | inr p ↦ elim (leb_tells (suc 65536) (c + n + s)) [ inl q ↦ absurd (omega (arith, p.1, q.1, em, ek)) | inr q ↦ p.0 ∙ sym q.0 ]
+      elim (leb_tells (suc MOST_FRAME_SCALARS) (k + s)) [
+        | inl p ↦ elim (leb_tells (suc MOST_FRAME_SCALARS) (c + n + s)) [ inl q ↦ p.0 ∙ sym q.0 | inr q ↦ absurd (omega (arith, p.1, q.1, em, ek)) ]
+        | inr p ↦ elim (leb_tells (suc MOST_FRAME_SCALARS) (c + n + s)) [ inl q ↦ absurd (omega (arith, p.1, q.1, em, ek)) | inr q ↦ p.0 ∙ sym q.0 ]
       ]
 
   pub deep_same : (fs : List Frame) → deep k fs ≡ deep (c + n) fs
-  deep_same fs = ap (λ b. if nat_lt (length fs) 512 then b else true) (past_same (sum_by (λ (f : Frame). f.counted) fs))
+  deep_same fs = ap (λ b. if nat_lt (length fs) MOST_FRAMES then b else true) (past_same (sum_by (λ (f : Frame). f.counted) fs))
 
-  within : (s : ℕ) (b : Bool) → (if b then nat_lt 65536 (k + s) else true) ≡ false → k ≡ c + n
-  within s true e = elim (leb_tells (suc 65536) (k + s)) [ inl p ↦ (let z : true ≡ false = sym p.0 ∙ e in absurd (cc z)) | inr p ↦ omega (arith, p.1, em, ek) ]
+  within : (s : ℕ) (b : Bool) → (if b then nat_lt MOST_FRAME_SCALARS (k + s) else true) ≡ false → k ≡ c + n
+  within s true e = elim (leb_tells (suc MOST_FRAME_SCALARS) (k + s)) [ inl p ↦ (let z : true ≡ false = sym p.0 ∙ e in absurd (cc z)) | inr p ↦ omega (arith, p.1, em, ek) ]
   within s false e = absurd (cc e)
 
   -- where there aren't too many they are counted all
   pub counted_all : (fs : List Frame) → deep k fs ≡ false → k ≡ c + n
-  counted_all fs e = within (sum_by (λ (f : Frame). f.counted) fs) (nat_lt (length fs) 512) e
+  counted_all fs e = within (sum_by (λ (f : Frame). f.counted) fs) (nat_lt (length fs) MOST_FRAMES) e
 
 -- what comes behind the object is the same where a procedure value stands for it
 same_arguments : (way : Way) (method : Bool) → may_pass way method ≡ true → (vs : List Cell) → arguments_of method (with_object way vs) ≡ arguments_of method vs

@@ -7,6 +7,7 @@ use Rattle.std.proofs.lemmas.Option.{slice_get-get_or}
 use Rattle.std.proofs.lemmas.List.Folds.{list_all-append}
 use Rattle.std.proofs.lemmas.Int.{ints}
 use Rattle.std.proofs.lemmas.Bool.Decides.{leb_tells}
+use Rattle.aos_base.specs.declared.limits.TheConstants.{MOST_SCALARS}
 use Rattle.aos_base.specs.declared.kernel.Did.{Did}
 use Rattle.aos_base.specs.declared.kernel.Did.TheVariants.{Went, Trapped}
 use Rattle.aos_base.specs.Number.{with_length, array_lengths}
@@ -92,8 +93,8 @@ no_lengths zs (negsuc n) e = length_below zs n
 lengths_with : (zs : List ℤ) (ns : List ℕ) (n : ℕ) → array_lengths zs ≡ Some ns → array_lengths (zs ++ pos (suc n) ∷ []) ≡ Some (ns ++ suc n ∷ [])
 lengths_with zs ns n e = length_more zs n ∙ ap (option_map (λ (ms : List ℕ). ms ++ suc n ∷ [])) e
 
-all_with : (ns : List ℕ) (n : ℕ) (b : Bool) → list_all (λ m. nat_le m 16777216) ns ≡ b → list_all (λ m. nat_le m 16777216) (ns ++ n ∷ []) ≡ (b && (nat_le n 16777216 && true))
-all_with ns n b e = list_all-append (λ m. nat_le m 16777216) ns (n ∷ []) ∙ ap (λ c. c && (nat_le n 16777216 && true)) e
+all_with : (ns : List ℕ) (n : ℕ) (b : Bool) → list_all (λ m. nat_le m MOST_SCALARS) ns ≡ b → list_all (λ m. nat_le m MOST_SCALARS) (ns ++ n ∷ []) ≡ (b && (nat_le n MOST_SCALARS && true))
+all_with ns n b e = list_all-append (λ m. nat_le m MOST_SCALARS) ns (n ∷ []) ∙ ap (λ c. c && (nat_le n MOST_SCALARS && true)) e
 
 pub none_more : (vs : List Cell) (z : ℤ) → AreLengths vs No → AreLengths (vs ++ Num z ∷ []) No
 none_more vs z e = number_more vs z ∙ ap (option_map (λ (zs : List ℤ). zs ++ z ∷ [])) e
@@ -125,10 +126,10 @@ module _ (vs : List Cell) (ns : List ℕ) (h : HasLengths vs ns) where
   pub are_short : (z : ℤ) → z <ℤ pos 1 → AreLengths (vs ++ Num z ∷ []) Short
   are_short z lt = below_one vs h.0 z h.1 lt
 
-  pub are_long : (z : ℤ) → pos 1 ≤ℤ z → pos 16777216 <ℤ z → AreLengths (vs ++ Num z ∷ []) Long
+  pub are_long : (z : ℤ) → pos 1 ≤ℤ z → pos MOST_SCALARS <ℤ z → AreLengths (vs ++ Num z ∷ []) Long
   are_long (pos zero) le lt = absurd (omega (arith, ints, le))
   are_long (pos (suc n)) le lt =
-      let past : nat_le (suc n) 16777216 ≡ false = elim (leb_tells (suc n) 16777216) [ inl p ↦ absurd (omega (arith, ints, lt, p.1)) | inr p ↦ p.0 ] in (
+      let past : nat_le (suc n) MOST_SCALARS ≡ false = elim (leb_tells (suc n) MOST_SCALARS) [ inl p ↦ absurd (omega (arith, ints, lt, p.1)) | inr p ↦ p.0 ] in (
         h.0 ++ pos (suc n) ∷ [],
         ns ++ suc n ∷ [],
         more_numbers vs h.0 (pos (suc n)) h.1,
@@ -137,15 +138,15 @@ module _ (vs : List Cell) (ns : List ℕ) (h : HasLengths vs ns) where
       )
   are_long (negsuc n) le lt = absurd (omega (arith, ints, le))
 
-  have_more : (z : ℤ) (n : ℕ) → pos 1 ≤ℤ z → z ≤ℤ pos 16777216 → z ≡ pos n → HasLengths (vs ++ Num z ∷ []) (ns ++ n ∷ [])
+  have_more : (z : ℤ) (n : ℕ) → pos 1 ≤ℤ z → z ≤ℤ pos MOST_SCALARS → z ≡ pos n → HasLengths (vs ++ Num z ∷ []) (ns ++ n ∷ [])
   have_more z n le most e =
       subst (λ x. HasLengths (vs ++ Num x ∷ []) (ns ++ n ∷ [])) (sym e)
-      (by n (subst (λ x. pos 1 ≤ℤ x) e le) (subst (λ x. x ≤ℤ pos 16777216) e most))
+      (by n (subst (λ x. pos 1 ≤ℤ x) e le) (subst (λ x. x ≤ℤ pos MOST_SCALARS) e most))
     where
-      by : (m : ℕ) → pos 1 ≤ℤ pos m → pos m ≤ℤ pos 16777216 → HasLengths (vs ++ Num (pos m) ∷ []) (ns ++ m ∷ [])
+      by : (m : ℕ) → pos 1 ≤ℤ pos m → pos m ≤ℤ pos MOST_SCALARS → HasLengths (vs ++ Num (pos m) ∷ []) (ns ++ m ∷ [])
       by zero le most = absurd (omega (arith, ints, le))
       by (suc m) le most =
-          let within : nat_le (suc m) 16777216 ≡ true = elim (leb_tells (suc m) 16777216) [ inl p ↦ p.0 | inr p ↦ absurd (omega (arith, ints, most, p.1)) ] in (
+          let within : nat_le (suc m) MOST_SCALARS ≡ true = elim (leb_tells (suc m) MOST_SCALARS) [ inl p ↦ p.0 | inr p ↦ absurd (omega (arith, ints, most, p.1)) ] in (
             h.0 ++ pos (suc m) ∷ [],
             more_numbers vs h.0 (pos (suc m)) h.1,
             lengths_with h.0 ns m h.2,
@@ -153,7 +154,7 @@ module _ (vs : List Cell) (ns : List ℕ) (h : HasLengths vs ns) where
           )
 
   -- one that is pushed behind them
-  pub pushed : (z : ℤ) (n : ℕ) (ms items : List ℕ) → items ≡ ms ++ n ∷ [] → ms ≡ ns → pos 1 ≤ℤ z → z ≤ℤ pos 16777216 → z ≡ pos n → HasLengths (vs ++ Num z ∷ []) items
+  pub pushed : (z : ℤ) (n : ℕ) (ms items : List ℕ) → items ≡ ms ++ n ∷ [] → ms ≡ ns → pos 1 ≤ℤ z → z ≤ℤ pos MOST_SCALARS → z ≡ pos n → HasLengths (vs ++ Num z ∷ []) items
   pushed z n ms items e f le most is = subst (HasLengths (vs ++ Num z ∷ [])) (sym (e ∙ ap (λ (xs : List ℕ). xs ++ n ∷ []) f)) (have_more z n le most is)
 
 -- Elements.
@@ -213,12 +214,12 @@ rows_length : (ns : List ℕ) (kinds : List Kind) → length (in_rows [] ns (map
 rows_length ns kinds = ap length (rows_times ns (map first_cell kinds)) ∙ length_times (cells_of ns 1) (map first_cell kinds) ∙ ap (λ k. cells_of ns 1 * k) (length-map kinds first_cell)
 
 -- numbers that were cut tell whether there is room
-room_cut : (e m k n s : ℕ) → m ≡ min e (2 ^ 64 - 1) → n ≡ min (m * k) (2 ^ 64 - 1) → nat_le (max 1 n + s) 16777216 ≡ nat_le (max 1 (e * k) + s) 16777216
+room_cut : (e m k n s : ℕ) → m ≡ min e (2 ^ 64 - 1) → n ≡ min (m * k) (2 ^ 64 - 1) → nat_le (max 1 n + s) MOST_SCALARS ≡ nat_le (max 1 (e * k) + s) MOST_SCALARS
 room_cut e m zero n s em en =
     let a : m * 0 ≡ 0 = omega arith in
     let b : e * 0 ≡ 0 = omega arith in
     let z : n ≡ e * 0 = omega (arith, en, a, b) in
-    ap (λ x. nat_le (max 1 x + s) 16777216) z
+    ap (λ x. nat_le (max 1 x + s) MOST_SCALARS) z
 room_cut e m (suc k) n s em en =
     elim (leb_tells e (2 ^ 64 - 1)) [
       | inl p ↦
@@ -237,17 +238,17 @@ room_cut e m (suc k) n s em en =
     at_least : (x k : ℕ) → x ≤ x * suc k
     at_least x k = let z : x * suc k ≡ x + x * k = omega arith in omega (arith, z)
 
-    past : (x y : ℕ) → 2 ^ 64 - 1 ≤ x → 2 ^ 64 - 1 ≤ y → nat_le (max 1 x + s) 16777216 ≡ nat_le (max 1 y + s) 16777216
+    past : (x y : ℕ) → 2 ^ 64 - 1 ≤ x → 2 ^ 64 - 1 ≤ y → nat_le (max 1 x + s) MOST_SCALARS ≡ nat_le (max 1 y + s) MOST_SCALARS
     past x y lx ly =
-        elim (leb_tells (max 1 x + s) 16777216) [
+        elim (leb_tells (max 1 x + s) MOST_SCALARS) [
           | inl p ↦ absurd (omega (arith, p.1, lx))
-          | inr p ↦ elim (leb_tells (max 1 y + s) 16777216) [ inl q ↦ absurd (omega (arith, q.1, ly)) | inr q ↦ p.0 ∙ sym q.0 ]
+          | inr p ↦ elim (leb_tells (max 1 y + s) MOST_SCALARS) [ inl q ↦ absurd (omega (arith, q.1, ly)) | inr q ↦ p.0 ∙ sym q.0 ]
         ]
 
-    cut : (x : ℕ) → n ≡ min x (2 ^ 64 - 1) → nat_le (max 1 n + s) 16777216 ≡ nat_le (max 1 x + s) 16777216
+    cut : (x : ℕ) → n ≡ min x (2 ^ 64 - 1) → nat_le (max 1 n + s) MOST_SCALARS ≡ nat_le (max 1 x + s) MOST_SCALARS
     cut x e =
         elim (leb_tells x (2 ^ 64 - 1)) [
-          | inl p ↦ (let same : n ≡ x = omega (arith, e, p.1) in ap (λ y. nat_le (max 1 y + s) 16777216) same)
+          | inl p ↦ (let same : n ≡ x = omega (arith, e, p.1) in ap (λ y. nat_le (max 1 y + s) MOST_SCALARS) same)
           | inr p ↦ past n x (omega (arith, e, p.1)) (omega (arith, p.1))
         ]
 
@@ -261,16 +262,16 @@ module _ (ns : List ℕ) (desc : TypeDesc) (t : ℕ) (mem : Memory) (elements si
   its_cells = in_rows [] ns (map first_cell desc.kinds.items)
 
   abbrev below : Bool
-  below = nat_le (max 1 size + sum_by counted mem.objects) 16777216
+  below = nat_le (max 1 size + sum_by counted mem.objects) MOST_SCALARS
 
-  pub fits_is : nat_le (counted its_cells + sum_by counted mem.objects) 16777216 ≡ below
+  pub fits_is : nat_le (counted its_cells + sum_by counted mem.objects) MOST_SCALARS ≡ below
   fits_is =
-      ap (λ n. nat_le (max 1 n + sum_by counted mem.objects) 16777216) (rows_length ns desc.kinds.items)
+      ap (λ n. nat_le (max 1 n + sum_by counted mem.objects) MOST_SCALARS) (rows_length ns desc.kinds.items)
       ∙ sym (room_cut (cells_of ns 1) elements (length desc.kinds.items) size (sum_by counted mem.objects) elements_are size_is)
 
-  room_is : list_all (λ n. nat_le n 16777216) ns ≡ true → has_room as_made its_cells mem ≡ below
+  room_is : list_all (λ n. nat_le n MOST_SCALARS) ns ≡ true → has_room as_made its_cells mem ≡ below
   room_is few =
-      ap (λ b. b && nat_le (counted its_cells + sum_by counted mem.objects) 16777216) few
+      ap (λ b. b && nat_le (counted its_cells + sum_by counted mem.objects) MOST_SCALARS) few
       ∙ fits_is
 
   pub no_room : (old : KeptFrames) (count at : ℕ) (out : List ℕ) → below ≡ false → IsMadeWith ns desc t count at old old mem mem (Trapped 12 0) out
@@ -283,7 +284,7 @@ module _ (ns : List ℕ) (desc : TypeDesc) (t : ℕ) (mem : Memory) (elements si
     where
       within : (k : ℕ) → length desc.kinds.items ≡ suc k → elements ≡ cells_of ns 1
       within k some =
-          elim (leb_tells (max 1 size + sum_by counted mem.objects) 16777216) [
+          elim (leb_tells (max 1 size + sum_by counted mem.objects) MOST_SCALARS) [
             | inl p ↦ (
                 let s : size ≡ min (elements * suc k) (2 ^ 64 - 1) = size_is ∙ ap (λ n. min (elements * n) (2 ^ 64 - 1)) some in
                 let z : elements * suc k ≡ elements + elements * k = omega arith in
@@ -296,17 +297,17 @@ module _ (ns : List ℕ) (desc : TypeDesc) (t : ℕ) (mem : Memory) (elements si
       by (x ∷ kinds) same = ap (λ n. times [] n (map first_cell (x ∷ kinds))) (within (length kinds) (sym (ap length same)))
 
   -- there is room for them
-  pub has_place : (cells : List Cell) → below ≡ true → cells ≡ times [] elements (map first_cell desc.kinds.items) → counted cells + sum_by counted mem.objects ≤ 16777216
+  pub has_place : (cells : List Cell) → below ≡ true → cells ≡ times [] elements (map first_cell desc.kinds.items) → counted cells + sum_by counted mem.objects ≤ MOST_SCALARS
   has_place cells room e =
-      elim (leb_tells (max 1 size + sum_by counted mem.objects) 16777216) [
-        | inl p ↦ subst (λ n. max 1 n + sum_by counted mem.objects ≤ 16777216) (sym so_many) (enough (elements * length desc.kinds.items) (sum_by counted mem.objects) size_is p.1)
+      elim (leb_tells (max 1 size + sum_by counted mem.objects) MOST_SCALARS) [
+        | inl p ↦ subst (λ n. max 1 n + sum_by counted mem.objects ≤ MOST_SCALARS) (sym so_many) (enough (elements * length desc.kinds.items) (sum_by counted mem.objects) size_is p.1)
         | inr p ↦ (let z : true ≡ false = sym room ∙ p.0 in absurd (cc z))
       ]
     where
       so_many : length cells ≡ elements * length desc.kinds.items
       so_many = ap length e ∙ length_times elements (map first_cell desc.kinds.items) ∙ ap (λ k. elements * k) (length-map desc.kinds.items first_cell)
 
-      enough : (x s : ℕ) → size ≡ min x (2 ^ 64 - 1) → max 1 size + s ≤ 16777216 → max 1 x + s ≤ 16777216
+      enough : (x s : ℕ) → size ≡ min x (2 ^ 64 - 1) → max 1 size + s ≤ MOST_SCALARS → max 1 x + s ≤ MOST_SCALARS
       enough x s is le = omega arith
 
   pub object_made : (old new : KeptFrames) (now : Memory) (count at number : ℕ) (cells : List Cell) (out : List ℕ) → below ≡ true → cells ≡ times [] elements (map first_cell desc.kinds.items) → number ≡ new_number mem →
@@ -353,7 +354,7 @@ module _ (old : KeptFrames) (mem : Memory) (t count at : ℕ) (out : List ℕ) w
         let ns = h.1 in
         let m : Made = record { type = t; lengths = ns } in
         let cells = in_rows [] ns (map first_cell desc.kinds.items) in
-        let full : has_room m cells mem ≡ false = ap (λ b. b && nat_le (counted cells + sum_by counted mem.objects) 16777216) h.4 in
+        let full : has_room m cells mem ≡ false = ap (λ b. b && nat_le (counted cells + sum_by counted mem.objects) MOST_SCALARS) h.4 in
         by_lengths h.0 (Some ns) old mem (Trapped 12 0) h.2 h.3
         (λ f fs is. subst (λ b. HasMade (makes fol b m cells (asker at f.keeps (drop count f.stack) f fs mem)) false (Trapped 12 0) (frames_in old) mem out out) (sym full) (lost_made old f fs mem 12 0 out is))
 

@@ -1,6 +1,7 @@
 // Calls: what the parameters get is looked at and counted first, and then the frame is made at once.
 ghost use Rattle.std.specs.Prelude.{◌≡◌, ◌<◌, ◌+◌, ◌-◌, ◌*◌, ◌^◌, nat_lt, if◌then◌else◌, ℕ, pos, List, [], ◌∷◌, ◌++◌, Option, IfOk, OnErr, OnOk, take, drop, min, reverse, length, map, replicate};
 ghost use Rattle.std.specs.Option.{option_copied, option_map, option_and_then};
+ghost use Rattle.aos_base.specs.declared.limits.TheConstants.{MOST_FRAMES};
 ghost use Rattle.aos_code.specs.declared.instr.Cell.{Cell as CellOf};
 ghost use Rattle.aos_code.specs.declared.instr.Cell.TheVariants.{Num};
 ghost use Rattle.aos_code.specs.Machine.{Frame as FrameOf, if_all, whole_at, lengths_in, length_in, object_of as object_of_call, arguments_of as arguments_of_call, first_cell as first_cell_of};
@@ -494,7 +495,7 @@ fn enter(frames: &mut Frames, frame: Frame, at: usize, taken: usize) -> Result<(
     ensures ok { OnOk result (IsEntered at taken (frame_in frame) frames.old frames.new) }
     ensures err { OnErr result (frames_in frames.new ≡ frames_in frames.old) }
     ensures counts { SameCounts frames.old frames.new }
-    ensures room { (depths keeps : ℕ → ℕ) → IsRoomyFor depths keeps frame → length frames.old.list.items < 512 →
+    ensures room { (depths keeps : ℕ → ℕ) → IsRoomyFor depths keeps frame → length frames.old.list.items < MOST_FRAMES →
         AreRoomyFor depths keeps frames.old.list.items → AreRoomyFor depths keeps frames.new.list.items }
 {
     frames.list.reserve(1)?;

@@ -12,7 +12,7 @@ ghost use Rattle.aos_cpu.specs.Makes.{IsMadeWith, AreLengths, HasLengths};
 
 use crate::answers::put_behind;
 use crate::calls::{add_first, arguments};
-use aos_base::{Did, NoMemory};
+use aos_base::{Did, MOST_SCALARS, NoMemory};
 use aos_code::{Cell, Image, Kind, TypeDesc};
 use aos_silent::numbered;
 use aos_store::{Frames, Store};
@@ -28,7 +28,7 @@ pub enum Lengths {
 }
 
 /// The greatest length, which is as great as the heap.
-const MAX_LENGTH: i64 = 16_777_216;
+const MAX_LENGTH: i64 = MOST_SCALARS as i64;
 
 /// Lengths with one more behind them, which is a number.
 fn add_length(mut lengths: Vec<u32>, number: i64) -> Result<Lengths, NoMemory>

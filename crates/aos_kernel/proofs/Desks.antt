@@ -5,6 +5,7 @@ use Rattle.std.specs.declared.alloc.Global.{Global}
 use Rattle.std.proofs.lemmas.List.{length-set, map-append}
 use Rattle.std.proofs.lemmas.Bool.Decides.{leb_tells}
 use Rattle.std.proofs.lemmas.Option.{slice_get_within}
+use Rattle.aos_base.specs.declared.limits.TheConstants.{MOST_LIVE, MOST_STARTED}
 use Rattle.aos_base.specs.declared.kernel.Event.{Event}
 use Rattle.aos_base.specs.declared.kernel.Event.TheVariants as event
 use Rattle.aos_base.specs.declared.kernel.LockName.{LockName}
@@ -301,7 +302,7 @@ module _ (image : Image) (earlier : List Event) (d : Desk) (st : State Memory Fr
         budget = t.budget ∙ h.budget;
         spent = t.spent ∙ (λ i. spent_by (nat_lt (s.begun i) n) (h.budget i) n a (h.spent i)) ∙ sym when;
         started = t.started ∙ started_after activities new set;
-        few = subst (λ k. k ≤ 65536) (sym t.started) h.few;
+        few = subst (λ k. k ≤ MOST_STARTED) (sym t.started) h.few;
         counted = counted_after d.line activities new refl set;
         activities = each_after image all d.activities.items activities.items st.book.activity now.activity st.frames (put nat_eq st.frames a fs) a old new was set
             (subst (λ x. ShowsActivity image all new (now.activity a) x) (sym (put_same st.frames a fs))
@@ -580,7 +581,7 @@ shows_known image earlier d st activities stack same room h =
 
 -- a new activity is ready at this priority
 pub shows_born : (image : Image) (earlier : List Event) (d : Desk) (st : State Memory Frames) (p : Priority) (n : ℕ) (activities : Vec Activity Global) (line : Line) (events : Vec Event Global) (locks : Vec LockName Global) (frames : Kept) (fs : Frames) →
-    n ≡ length d.activities.items → n < 65536 → activities.items ≡ d.activities.items ++ record { priority = p; next = Runs; condition = 0; locks = locks; frames = frames } ∷ [] → Stands line (move n (book.Ready (number_of p)) st.book.line) st.book.owner → started_of line ≡ suc (started_of d.line) → events.items ≡ d.events.items ++ event.Start n ∷ [] →
+    n ≡ length d.activities.items → n < MOST_STARTED → activities.items ≡ d.activities.items ++ record { priority = p; next = Runs; condition = 0; locks = locks; frames = frames } ∷ [] → Stands line (move n (book.Ready (number_of p)) st.book.line) st.book.owner → started_of line ≡ suc (started_of d.line) → events.items ≡ d.events.items ++ event.Start n ∷ [] →
     frames.begun ≡ 0 → Alike image (made_in image (memory_in d.store)) fs (frames_in frames) → (IsSoundImage image → FitInRoom image frames) → Shows image earlier d st →
     Shows image earlier (record d { activities = activities; line = line; events = events }) (on_book (born (number_of p)) (with_frames st.book.started fs st))
 unfolding born
@@ -617,8 +618,8 @@ shows_born image earlier d st p n activities line events locks frames fs count f
     positive x b lt = omega arith
 
 -- the desk's tests tell whether the book is full
-pub full_is : (image : Image) (earlier : List Event) (d : Desk) (st : State Memory Frames) (live started : ℕ) → Shows image earlier d st → live ≡ length st.book.line → started ≡ length d.activities.items → is_full st.book ≡ (nat_le 1024 live || nat_le 65536 started)
-full_is image earlier d st live started h e f = (λ i. nat_le 1024 (sym e i) || nat_le 65536 ((h.started ∙ sym f) i))
+pub full_is : (image : Image) (earlier : List Event) (d : Desk) (st : State Memory Frames) (live started : ℕ) → Shows image earlier d st → live ≡ length st.book.line → started ≡ length d.activities.items → is_full st.book ≡ (nat_le MOST_LIVE live || nat_le MOST_STARTED started)
+full_is image earlier d st live started h e f = (λ i. nat_le MOST_LIVE (sym e i) || nat_le MOST_STARTED ((h.started ∙ sym f) i))
 
 finished : (image : Image) (earlier : List Event) (d : Desk) (a : ℕ) (st : State Memory Frames) (q : Bool) → Shows image earlier d (on_book (ended a) st) → Shows image earlier d (finish a q None st)
 finished image earlier d a st true h = h

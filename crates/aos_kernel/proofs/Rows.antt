@@ -7,6 +7,7 @@ use Rattle.std.proofs.Math.Nat.{mod-eq_of_lt}
 use Rattle.std.proofs.lemmas.Bool.Decides.{leb_tells}
 use Rattle.std.proofs.lemmas.Option.{slice_get_cases, slice_get_within, slice_get-get_or, slice_get_past}
 use Rattle.std.proofs.lemmas.List.{get_or-set_same, get_or-set_other, length-set, append-nil as append_nil}
+use Rattle.aos_base.specs.declared.limits.TheConstants.{MOST_LIVE, MOST_STARTED}
 use Rattle.aos_base.specs.declared.kernel.LockName.{LockName}
 use Rattle.aos_base.specs.Rooted.{Made}
 use Rattle.aos_base.specs.Lock.{Wants}
@@ -163,11 +164,11 @@ longer_by [] y = refl
 longer_by (x ∷ xs) y = ap suc (longer_by xs y)
 
 -- there is room
-pub not_full : (live started : ℕ) → (nat_le 1024 live || nat_le 65536 started) ≡ false → (live < 1024) × (started < 65536)
+pub not_full : (live started : ℕ) → (nat_le MOST_LIVE live || nat_le MOST_STARTED started) ≡ false → (live < MOST_LIVE) × (started < MOST_STARTED)
 not_full live started e =
-    (elim (leb_tells 1024 live) as (λ _. (nat_le 1024 live || nat_le 65536 started) ≡ false → (live < 1024) × (started < 65536)) [
-      | inl h ↦ λ f. (let z : true ≡ false = sym (ap (λ q. q || nat_le 65536 started) h.0) ∙ f in absurd (cc z))
-      | inr h ↦ λ f. elim (leb_tells 65536 started) [
+    (elim (leb_tells MOST_LIVE live) as (λ _. (nat_le MOST_LIVE live || nat_le MOST_STARTED started) ≡ false → (live < MOST_LIVE) × (started < MOST_STARTED)) [
+      | inl h ↦ λ f. (let z : true ≡ false = sym (ap (λ q. q || nat_le MOST_STARTED started) h.0) ∙ f in absurd (cc z))
+      | inr h ↦ λ f. elim (leb_tells MOST_STARTED started) [
         | inl k ↦ (let z : true ≡ false = sym (λ i. h.0 i || k.0 i) ∙ f in absurd (cc z))
         | inr k ↦ (h.1, k.1)
       ]

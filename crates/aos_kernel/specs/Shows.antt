@@ -1,5 +1,6 @@
 -- What the kernel keeps, and the state that it shows.
 use Rattle.std.specs.Prelude.{◌≡◌, ℕ, ◌<◌, ◌≤◌, Bool, true, false, List, [], ◌∷◌, ◌++◌, Option, Some, None, map, length, reverse, slice_get}
+use Rattle.aos_base.specs.declared.limits.TheConstants.{MOST_STARTED}
 use Rattle.aos_base.specs.declared.kernel.Event.{Event}
 use Rattle.aos_base.specs.declared.kernel.Event.TheVariants as event
 use Rattle.aos_base.specs.declared.kernel.LockName.{LockName}
@@ -76,7 +77,7 @@ pub record Shows (image : Image) (earlier : List Event) (d : Desk) (st : State M
   pub budget : st.book.budget ≡ d.budget
   pub spent : st.book.spent ≡ d.spent
   pub started : st.book.started ≡ length d.activities.items
-  pub few : st.book.started ≤ 65536
+  pub few : st.book.started ≤ MOST_STARTED
   pub counted : started_of d.line ≡ length d.activities.items
   pub activities : (x : ℕ) (kept : Activity) → slice_get d.activities.items x ≡ Some kept → ShowsActivity image (made_in image (memory_in d.store)) kept (st.book.activity x) (st.frames x)
   pub waiting : (x : ℕ) (l : LockName) (wants : Wants) → place_of st.book.line x ≡ Some (book.At l wants) → (kept : Activity) → slice_get d.activities.items x ≡ Some kept → IsWaiting image l wants kept (st.frames x)

@@ -4,8 +4,8 @@ use Rattle.std.specs.Prelude.{slice_get, All, Bool, true, false}
 use Rattle.std.specs.List.{AllByRecursion}
 use Rattle.std.proofs.lemmas.List.Elements.{All-nil, All-cons}
 use Rattle.std.proofs.lemmas.Option.{slice_get-get_or}
+use Rattle.aos_base.specs.declared.limits.TheConstants.{MOST_SCALARS}
 use Rattle.aos_base.specs.declared.text.Pos.{Pos}
-use Rattle.aos_types.specs.declared.TheConstants.{MOST_SCALARS}
 use Rattle.aos_types.specs.declared.row.Basic.{Basic}
 use Rattle.aos_types.specs.declared.row.TypeId.{TypeId}
 use Rattle.aos_types.specs.declared.row.TypeRow.{TypeRow}
@@ -67,8 +67,8 @@ none_in_itself t (p ∷ ps) c =
 
 few_scalars : (t : TypeId) → scalars rows t ≤ MOST_SCALARS
 few_scalars t =
-    let one : 1 ≤ 16777216 = omega arith in
-    let none : 0 ≤ 16777216 = omega arith in
+    let one : 1 ≤ MOST_SCALARS = omega arith in
+    let none : 0 ≤ MOST_SCALARS = omega arith in
     each_row (λ r. size (with_parts (unfolded (length rows) rows) rows t r) ≤ MOST_SCALARS) (λ b. one) one one none t.0
 
 types : AreTypes rows
@@ -128,7 +128,7 @@ parts =
     let one_below : 1 ≤ 64 = omega arith in
     let first : 0 < 1 = omega arith in
     let there : 10 < 11 = omega arith in
-    let few : 1 ≤ 16777216 = omega arith in
+    let few : 1 ≤ MOST_SCALARS = omega arith in
     let least : 1 ≤ 1 = omega arith in
     record {
       some = least;
@@ -185,7 +185,7 @@ rows_keep k r is = subst OnRow is (each_row OnRow (λ b. tt) tt (one (IsClosed r
 
 rules_kept : ProgramKeepsRules gates
 rules_kept =
-    let few : 1 ≤ 16777216 = omega arith in
+    let few : 1 ≤ MOST_SCALARS = omega arith in
     record {
       modules = one ModuleKeepsRules gates_module module_keeps;
       objects = one ObjectKeepsRules beside_gate gate_keeps;

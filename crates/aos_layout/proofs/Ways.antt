@@ -1,7 +1,7 @@
 -- A way from a type to a part of a part, one number after the other.
 use Rattle.std.proofs.Common.{◌≡◌, ℕ, suc, ◌+◌, ◌<◌, ◌≤◌, List, [], ◌∷◌, length, get_or, drop, Option, Some, None, refl, ap, ◌∙◌, subst, arith, drop-cons, add-one, length-drop}
 use Rattle.std.specs.Prelude.{Bool, true, false, if◌then◌else◌, is_some, option_and_then}
-use Rattle.aos_types.specs.declared.TheConstants.{MOST_SCALARS}
+use Rattle.aos_base.specs.declared.limits.TheConstants.{MOST_SCALARS}
 use Rattle.aos_types.specs.declared.row.TypeId.{TypeId}
 use Rattle.aos_types.specs.declared.row.TypeRow.{TypeRow}
 use Rattle.aos_types.specs.Table.{row_of, is_object}

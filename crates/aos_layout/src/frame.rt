@@ -1,8 +1,8 @@
 // Frames of procedures.
 
 ghost use Rattle.std.specs.Prelude.{◌≡◌, ◌<◌, ◌≤◌, All, length, map, option_map, IfOk};
+ghost use Rattle.aos_base.specs.declared.limits.TheConstants.{MOST_SCALARS};
 ghost use Rattle.aos_types.specs.declared.row.TypeId.{TypeId};
-ghost use Rattle.aos_types.specs.declared.TheConstants.{MOST_SCALARS};
 ghost use Rattle.aos_types.specs.Chain.{NoneContainsItself};
 ghost use Rattle.aos_types.specs.Contents.{scalars};
 ghost use Rattle.aos_types.specs.Table as table;

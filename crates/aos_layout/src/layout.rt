@@ -1,7 +1,7 @@
 // Offsets and kinds of a type's scalars.
 
 ghost use Rattle.std.specs.Prelude.{◌≡◌, ◌<◌, ◌≤◌, length, is_some, true, IfOk};
-ghost use Rattle.aos_types.specs.declared.TheConstants.{MOST_SCALARS};
+ghost use Rattle.aos_base.specs.declared.limits.TheConstants.{MOST_SCALARS};
 ghost use Rattle.aos_types.specs.Chain.{NoneContainsItself};
 ghost use Rattle.aos_types.specs.Contents.{contents, scalars};
 ghost use Rattle.aos_types.specs.Shape as shape_of;

@@ -2,7 +2,7 @@
 
 ghost use Rattle.std.specs.Prelude.{◌≡◌, ◌==◌, ◌<◌, ◌≤◌, ◌+◌, Some, length, is_some, true};
 ghost use Rattle.std.specs.Option.{option_copied};
-ghost use Rattle.aos_types.specs.declared.TheConstants.{MOST_SCALARS};
+ghost use Rattle.aos_base.specs.declared.limits.TheConstants.{MOST_SCALARS};
 ghost use Rattle.aos_types.specs.Chain.{NoneContainsItself};
 ghost use Rattle.aos_types.specs.Contents as contents;
 ghost use Rattle.aos_types.specs.Shape as shape;

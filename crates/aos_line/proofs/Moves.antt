@@ -5,6 +5,7 @@ use Rattle.std.specs.Prelude.{Bool, true, false, if◌then◌else◌, Option, So
 use Rattle.std.proofs.lemmas.List.{get_or-set_same, get_or-set_other, length-set, append-nil as append_nil}
 use Rattle.std.proofs.lemmas.List.Elements.{Contains-append_left, Contains-append_right}
 use Rattle.std.proofs.lemmas.Option.{slice_get-get_or}
+use Rattle.aos_base.specs.declared.limits.TheConstants.{MOST_LIVE}
 use Rattle.aos_base.specs.declared.kernel.LockName.{LockName}
 use Rattle.aos_base.specs.declared.priority.Priority.{Priority}
 use Rattle.aos_base.specs.Lock.{Waiting, entrants, waiters, without as waiting_without}
@@ -140,7 +141,7 @@ pub record Joined (l m : Line) (a : ℕ) (p : Place) (now : book.Place) : Type 0
   pub places : m.places.items ≡ slice_set l.places.items a p
   pub is : HasPlace p (Some now)
   pub live : m.live ≡ suc l.live
-  pub few : l.live < 1024
+  pub few : l.live < MOST_LIVE
   pub awake : m.awake ≡ (if is_awake now then suc l.awake else l.awake)
   pub running : (w : ℕ) → of_worker (get_or m.running w None) ≡ of_worker (get_or l.running w None) ++ (if is_on w now then a ∷ [] else [])
   pub ready : (q : Priority) → ready_in m.links m.ready q ≡ ready_in l.links l.ready q ++ (if is_ready (priority_number q) now then a ∷ [] else [])

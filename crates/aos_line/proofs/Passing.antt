@@ -5,6 +5,7 @@ use Rattle.std.specs.Prelude.{Bool, true, false, not, if◌then◌else◌, Optio
 use Rattle.std.specs.declared.alloc.Global.{Global}
 use Rattle.std.proofs.lemmas.List.{append-nil as append_nil}
 use Rattle.std.proofs.lemmas.Bool.Decides.{eqb_tells}
+use Rattle.aos_base.specs.declared.limits.TheConstants.{MOST_LIVE}
 use Rattle.aos_base.specs.declared.kernel.LockName.{LockName}
 use Rattle.aos_base.specs.declared.kernel.Verdict.{Verdict}
 use Rattle.aos_base.specs.declared.priority.Priority.{Priority}
@@ -121,7 +122,7 @@ module _ (l : Line) (line : List Stand) (owner : LockName → Option ℕ) (h : S
   pub joined_lock : (a : ℕ) (awaits : Bool) (wants : Wants) (links : Links) (locks : Locks) (places : Vec Place Global) (live : ℕ) → awaits ≡ not (enters wants) → place_of line a ≡ None → a < length l.places.items →
       entrants_in links locks n ≡ joined (not awaits) a (entrants_in l.links l.locks n) → waiters_in links locks n ≡ joined awaits a (waiters_in l.links l.locks n) → owner_of locks n ≡ owner_of l.locks n →
       KeepsLocks l.links l.locks links locks n → LocksBelong links locks → KeepsOthers l.links links (a ∷ numbers_in l.links l.locks n) → room_of links ≡ room_of l.links →
-      places.items ≡ slice_set l.places.items a (place.At lock awaits) → l.live < 1024 → live ≡ suc l.live →
+      places.items ≡ slice_set l.places.items a (place.At lock awaits) → l.live < MOST_LIVE → live ≡ suc l.live →
       Joined l (record l { links = links; locks = locks; places = places; live = live }) a (place.At lock awaits) (book.At lock wants)
   joined_lock a awaits wants links locks places live told at within es ws owned others belong keeps room set few one =
       let touched = a ∷ numbers_in l.links l.locks n in

@@ -5,6 +5,7 @@ use Rattle.std.specs.Prelude.{true, false, not, ◌==◌, if◌then◌else◌, O
 use Rattle.std.specs.declared.alloc.Global.{Global}
 use Rattle.std.proofs.lemmas.Bool.{cases_lt}
 use Rattle.std.proofs.lemmas.List.{get_or-set_same, get_or-set_other, get_or_past, length-set, append-nil as append_nil}
+use Rattle.aos_base.specs.declared.limits.TheConstants.{MOST_LIVE}
 use Rattle.aos_base.specs.declared.kernel.LockName.{LockName}
 use Rattle.aos_base.specs.declared.priority.Priority.{Priority}
 use Rattle.aos_base.specs.declared.priority.Priority.TheVariants.{Low, Normal, High}
@@ -163,7 +164,7 @@ module _ (l : Line) (line : List Stand) (owner : LockName → Option ℕ) (h : S
 
   -- one who stood nowhere stands on a worker
   pub joined_worker : (a w : ℕ) (running : List (Option ℕ)) (places : Vec Place Global) (live awake : ℕ) → a < length l.places.items → w < length l.running → get_or l.running w None ≡ None → running ≡ slice_set l.running w (Some a) →
-      places.items ≡ slice_set l.places.items a (place.On w) → l.live < 1024 → live ≡ suc l.live → awake ≡ suc l.awake → Joined l (record l { running = running; places = places; live = live; awake = awake }) a (place.On w) (book.On w)
+      places.items ≡ slice_set l.places.items a (place.On w) → l.live < MOST_LIVE → live ≡ suc l.live → awake ≡ suc l.awake → Joined l (record l { running = running; places = places; live = live; awake = awake }) a (place.On w) (book.On w)
   joined_worker a w running places live awake within fits free is set few one two = record {
     within = within;
     places = set;
@@ -190,7 +191,7 @@ module _ (l : Line) (line : List Stand) (owner : LockName → Option ℕ) (h : S
   -- one who stood nowhere is ready
   pub joined_ready : (a : ℕ) (p : Priority) (links : Links) (ready : Ready) (places : Vec Place Global) (live awake : ℕ) → place_of line a ≡ None → a < length l.places.items → ready_in links ready p ≡ ready_in l.links l.ready p ++ a ∷ [] →
       ((q : Priority) → q ≢ p → ready_in links ready q ≡ ready_in l.links l.ready q) → ReadyBelong links ready → KeepsOthers l.links links (a ∷ ready_in l.links l.ready p) → SameTable l.links links → places.items ≡ slice_set l.places.items a (place.Ready p) →
-      l.live < 1024 → live ≡ suc l.live → awake ≡ suc l.awake → Joined l (record l { links = links; ready = ready; places = places; live = live; awake = awake }) a (place.Ready p) (book.Ready (priority_number p))
+      l.live < MOST_LIVE → live ≡ suc l.live → awake ≡ suc l.awake → Joined l (record l { links = links; ready = ready; places = places; live = live; awake = awake }) a (place.Ready p) (book.Ready (priority_number p))
   joined_ready a p links ready places live awake at within last lists belong keeps table set few one two =
       let rests : (x : ℕ) → Contains (a ∷ ready_in l.links l.ready p) x → WaitsNowhere l.links l.locks x =
       λ x i. elim (among a x (ready_in l.links l.ready p) i) [ inl e ↦ subst (λ y. WaitsNowhere l.links l.locks y) e (none_idle a at) | inr j ↦ ready_idle p x j ] in

@@ -1,5 +1,6 @@
 -- The line of the kernel's book, place by place: the list of each queue, the activity of each worker, and the owner of each lock.
 use Rattle.std.specs.Prelude.{◌≡◌, ◌≢◌, ◌<◌, ◌≤◌, ℕ, List, [], ◌∷◌, ◌++◌, Bool, true, not, ◌==◌, if◌then◌else◌, Option, Some, None, length, get_or, slice_get, vec_len, vec_capacity}
+use Rattle.aos_base.specs.declared.limits.TheConstants.{MOST_LIVE}
 use Rattle.aos_base.specs.declared.kernel.Outcome.{Outcome}
 use Rattle.aos_base.specs.declared.kernel.Outcome.TheVariants.{Going, Ended, Dead, Spent}
 use Rattle.aos_base.specs.declared.kernel.LockName.{LockName}
@@ -72,7 +73,7 @@ pub record Stands (l : Line) (line : List Stand) (owner : LockName → Option �
   pub places : (x : ℕ) → HasPlace (get_or l.places.items x Nowhere) (place_of line x)
   pub live : length (standing anywhere line) ≡ l.live
   pub awake : length (standing is_awake line) ≡ l.awake
-  pub few : l.live ≤ 1024
+  pub few : l.live ≤ MOST_LIVE
   pub running : (w : ℕ) → standing (is_on w) line ≡ of_worker (get_or l.running w None)
   pub ready : (p : Priority) → standing (is_ready (priority_number p)) line ≡ ready_in l.links l.ready p
   pub locks : (k : LockName) → HasLock l (number_of l.numbers k) (waiting k line) (owner k)
@@ -99,7 +100,7 @@ pub record IsOn (l : Line) (a : ℕ) : Type 0 where
 pub record IsNowhere (l : Line) (a : ℕ) : Type 0 where
   pub stood : IsStood l
   pub at : slice_get l.places.items a ≡ Some Nowhere
-  pub room : l.live < 1024
+  pub room : l.live < MOST_LIVE
 
 -- how far the execution is, where so many live and so many of these wait for no lock
 abbrev pub outcome_by : (live awake : ℕ) → Bool → Outcome

@@ -1,6 +1,7 @@
 // Where activities stand.
 
 ghost use Rattle.std.specs.Prelude.{◌≡◌, ℕ, ◌<◌, suc, [], List, Option, None, length, get_or, slice_set, OnOk, IfSome, IsNone};
+ghost use Rattle.aos_base.specs.declared.limits.TheConstants.{MOST_LIVE, MOST_STARTED};
 ghost use Rattle.aos_base.specs.declared.kernel.LockName.{LockName};
 ghost use Rattle.aos_base.specs.Book.{Stand, on_worker, first_ready, outcome_of, place_of as place_in, leave_line, move, On, Ready as IsReady};
 ghost use Rattle.aos_ready.specs.Order.{number_of as priority_number};
@@ -115,7 +116,7 @@ impl Line {
 
     /// Makes room for one activity more.
     pub fn reserve(&mut self) -> Result<(), NoMemory>
-        requires { started_of self.old < 65536 }
+        requires { started_of self.old < MOST_STARTED }
         ensures room { OnOk result (HasRoomMore self.new) }
         ensures same { StandsSame self.old self.new }
         ensures places { places_of self.new ≡ places_of self.old }
@@ -131,8 +132,8 @@ impl Line {
     pub fn bear(&mut self, priority: Priority)
         requires stood { IsStood self.old }
         requires room { HasRoomMore self.old }
-        requires live { live_of self.old < 1024 }
-        requires started { started_of self.old < 65536 }
+        requires live { live_of self.old < MOST_LIVE }
+        requires started { started_of self.old < MOST_STARTED }
         ensures stands { Moved self.old self.new
             (move (started_of self.old) (IsReady (priority_number priority))) }
         ensures on { (other : ℕ) → IsOn self.old other → IsOn self.new other }

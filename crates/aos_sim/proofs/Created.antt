@@ -6,6 +6,7 @@ use Rattle.std.proofs.lemmas.Bool.{leb-true, and_parts}
 use Rattle.std.proofs.lemmas.List.{map-append, length-map}
 use Rattle.std.proofs.lemmas.List.Sums.{sum_by-cons}
 use Rattle.std.proofs.lemmas.List.Elements.{All-nil, All-cons}
+use Rattle.aos_base.specs.declared.limits.TheConstants.{MOST_SCALARS}
 use Rattle.aos_base.specs.declared.number.Width.TheVariants.{W64}
 use Rattle.aos_base.specs.Rooted.{Made}
 use Rattle.aos_types.specs.declared.row.TypeId.{TypeId}
@@ -46,11 +47,11 @@ use Rattle.aos_sim.proofs.Does.{AreIntegers}
 use Rattle.aos_sim.proofs.First.{zero_cell, first_is, first_same, part_cells}
 use Rattle.aos_sim.proofs.States.{world_of, SameStore}
 
-all_few : (ns : List ℕ) → list_all (λ n. nat_le n 16777216) ns ≡ true → All (λ n. n ≤ 16777216) ns
-all_few [] e = All-nil (λ n. n ≤ 16777216)
+all_few : (ns : List ℕ) → list_all (λ n. nat_le n MOST_SCALARS) ns ≡ true → All (λ n. n ≤ MOST_SCALARS) ns
+all_few [] e = All-nil (λ n. n ≤ MOST_SCALARS)
 all_few (n ∷ ns) e =
-    let p = and_parts (nat_le n 16777216) (list_all (λ n. nat_le n 16777216) ns) e in
-    All-cons (λ n. n ≤ 16777216) n ns (leb-true n 16777216 p.0) (all_few ns p.1)
+    let p = and_parts (nat_le n MOST_SCALARS) (list_all (λ n. nat_le n MOST_SCALARS) ns) e in
+    All-cons (λ n. n ≤ MOST_SCALARS) n ns (leb-true n MOST_SCALARS p.0) (all_few ns p.1)
 
 -- numbers that are to be lengths are found in their cells
 pub numbers_found : (ps : List ℕ) (w : World Sort) (vs : List Value) → AreIntegers vs → I.numbers_in ps (map (cell_of w) vs) ≡ Some (map number_of vs)
@@ -173,12 +174,12 @@ module _ (program : Program) where
     pub room_same : memory.has_room m cells mem ≡ store.has_room m (begun m) s
     room_same =
         let sums = objects_counted now (map (made_shape program.types) s.made) s.objects mem.objects stores.of_objects in
-        λ i. list_all (λ n. nat_le n 16777216) m.lengths && nat_le (max 1 (long i) + sums i) 16777216
+        λ i. list_all (λ n. nat_le n MOST_SCALARS) m.lengths && nat_le (max 1 (long i) + sums i) MOST_SCALARS
 
     -- where there is, the object has few cells, and its lengths are few
-    pub roomy : store.has_room m (begun m) s ≡ true → (size (made_shape program.types m) < 2 ^ 32) × All (λ n. n ≤ 16777216) m.lengths
+    pub roomy : store.has_room m (begun m) s ≡ true → (size (made_shape program.types m) < 2 ^ 32) × All (λ n. n ≤ MOST_SCALARS) m.lengths
     roomy e =
-        let p = and_parts (list_all (λ n. nat_le n 16777216) m.lengths) (nat_le (store.counted (begun m) + sum_by store.counted s.objects) 16777216) e in
-        let l = leb-true (store.counted (begun m) + sum_by store.counted s.objects) 16777216 p.1 in
+        let p = and_parts (list_all (λ n. nat_le n MOST_SCALARS) m.lengths) (nat_le (store.counted (begun m) + sum_by store.counted s.objects) MOST_SCALARS) e in
+        let l = leb-true (store.counted (begun m) + sum_by store.counted s.objects) MOST_SCALARS p.1 in
         let many = as_many (Is program now) (made_shape program.types m) (begun m) begun_fits in
         (omega (arith, l, many), all_few m.lengths p.0)

@@ -5,6 +5,7 @@ use Rattle.std.specs.Prelude.{pos, All, is_some, drop, option_map, option_and_th
 use Rattle.std.specs.Option.{unwrap_or}
 use Rattle.std.proofs.lemmas.Option.{slice_get-map}
 use Rattle.std.proofs.lemmas.List.{map-append}
+use Rattle.aos_base.specs.declared.limits.TheConstants.{MOST_SCALARS}
 use Rattle.aos_base.specs.declared.number.Width.TheVariants.{W64}
 use Rattle.aos_base.specs.Question.{Tree, Val, Asks, Traps, bind, feed, Reads, Stores, Copies, PutsText, ComparesTexts, Calls, Ends, Makes, Starts, Enters, Leaves, Awaits, PutsInt, PutsChar, PutsString, PutsNothing, PutsLn, Places, Lengths, Opens, Sizes, Tests, ByName}
 use Rattle.aos_base.specs.declared.place.Root.TheVariants.{Frame, Module, Object as ObjectRoot}
@@ -295,7 +296,7 @@ module _ (program : Program) where
   -- an answer of the sort that the question has, where the answer matters
   abbrev pub Conforms : World Sort → source.Question → Value → Type 0
   Conforms w (Reads t p) v = Is program w (Plain (id_of t)) v
-  Conforms w (Makes t vs) v = (ns : List ℕ) × (array_lengths (map number_of_value vs) ≡ Some ns) × IsObject w v (record { type = t; lengths = ns }) × All (λ n. n ≤ 16777216) ns
+  Conforms w (Makes t vs) v = (ns : List ℕ) × (array_lengths (map number_of_value vs) ≡ Some ns) × IsObject w v (record { type = t; lengths = ns }) × All (λ n. n ≤ MOST_SCALARS) ns
   Conforms w (ComparesTexts r p n q m) v = IsFlag v
   Conforms w (Calls how q vs) v = (r : Routine) → by_number q (routines program) ≡ Some r → IsAnswer w (result_of r.own) v
   Conforms w (Places p) v = ((k : Sort) → HasScalar w p k → Is program w k v) × OnPlace (IsReached w) v

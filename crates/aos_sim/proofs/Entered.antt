@@ -4,6 +4,7 @@ use Rattle.std.specs.Prelude.{slice_get, option_map, option_and_then, replicate,
 use Rattle.std.proofs.lemmas.Bool.{ltb-false}
 use Rattle.std.proofs.lemmas.List.Sums.{sum_by-cons}
 use Rattle.std.proofs.lemmas.List.{map-append, length-map, drop_at}
+use Rattle.aos_base.specs.declared.limits.TheConstants.{MOST_FRAME_SCALARS, MOST_FRAMES}
 use Rattle.aos_base.specs.declared.place.Root.TheVariants.{Frame as FrameRoot}
 use Rattle.aos_base.specs.Rooted.{Made, Rooted}
 use Rattle.aos_types.specs.declared.row.TypeRow.{TypeRow}
@@ -369,11 +370,11 @@ answer_stacked w None kind f v st e = ap (λ k. if is_some k then cell_of w v �
 answer_stacked w (Some t) kind f v st e = ap (λ k. if is_some k then cell_of w v ∷ st else st) e
 
 -- a frame that may be entered has few scalars
-pub few_scalars : (frames scalars : ℕ) (f : S.Frame) → (if nat_lt frames 512 then nat_lt 65536 (f.counted + scalars) else true) ≡ false → f.counted < 2 ^ 32
-few_scalars frames scalars f e = by (nat_lt frames 512) (nat_lt 65536 (f.counted + scalars)) refl e
+pub few_scalars : (frames scalars : ℕ) (f : S.Frame) → (if nat_lt frames MOST_FRAMES then nat_lt MOST_FRAME_SCALARS (f.counted + scalars) else true) ≡ false → f.counted < 2 ^ 32
+few_scalars frames scalars f e = by (nat_lt frames MOST_FRAMES) (nat_lt MOST_FRAME_SCALARS (f.counted + scalars)) refl e
   where
-    by : (a b : Bool) → nat_lt 65536 (f.counted + scalars) ≡ b → (if a then b else true) ≡ false → f.counted < 2 ^ 32
-    by true b q e' = let l = ltb-false 65536 (f.counted + scalars) (q ∙ e') in omega (arith, l)
+    by : (a b : Bool) → nat_lt MOST_FRAME_SCALARS (f.counted + scalars) ≡ b → (if a then b else true) ≡ false → f.counted < 2 ^ 32
+    by true b q e' = let l = ltb-false MOST_FRAME_SCALARS (f.counted + scalars) (q ∙ e') in omega (arith, l)
     by false b q e' = absurd (cc)
 
 -- the frames below count alike

@@ -7,6 +7,7 @@ use Rattle.std.proofs.lemmas.Bool.{eq-eqb}
 use Rattle.std.proofs.lemmas.List.{length-map}
 use Rattle.std.proofs.lemmas.List.Elements.{All-nil, All-cons}
 use Rattle.std.proofs.lemmas.Int.{ints}
+use Rattle.aos_base.specs.declared.limits.TheConstants.{MOST_SCALARS}
 use Rattle.aos_base.specs.declared.number.Width.TheVariants.{W64}
 use Rattle.aos_base.specs.declared.text.Pos.{Pos}
 use Rattle.aos_base.specs.Number.{with_length, array_lengths}
@@ -135,7 +136,7 @@ long_lengths (z ∷ zs) ns e = by (λ ms f. long_lengths zs ms f) z (array_lengt
         let q : ns ≡ suc n ∷ ms = cc in subst (All (λ n. 1 ≤ n)) (sym q) (All-cons (λ n. 1 ≤ n) (suc n) ms (omega arith) (more ms f))
     by more (negsuc n) (Some ms) f h = absurd (cc)
 
-both_lengths : (ns : List ℕ) → All (λ n. 1 ≤ n) ns → All (λ n. n ≤ 16777216) ns → All IsLength ns
+both_lengths : (ns : List ℕ) → All (λ n. 1 ≤ n) ns → All (λ n. n ≤ MOST_SCALARS) ns → All IsLength ns
 both_lengths ns a b i n lt = let l = a i n lt in let m = b i n lt in (l, record { low = omega (arith, ints); high = omega (arith, ints, m) })
 
 -- objects of the type may be made that a reference leads to
@@ -172,7 +173,7 @@ or_second true e = refl
 or_second false e = e
 
 -- what is made so is a value of a pointer to the type
-pub made_lengths : (program : Program) (t : ℕ) (es : ℕ) (vs : List Value) (ns : List ℕ) → length vs ≡ es → es ≡ open_dimensions program.types (id_of (type.Named t)) → array_lengths (map number_of vs) ≡ Some ns → All (λ n. n ≤ 16777216) ns → HasLengths program (row_of program.types (id_of (type.Named t))) (record { type = suc t; lengths = ns })
+pub made_lengths : (program : Program) (t : ℕ) (es : ℕ) (vs : List Value) (ns : List ℕ) → length vs ≡ es → es ≡ open_dimensions program.types (id_of (type.Named t)) → array_lengths (map number_of vs) ≡ Some ns → All (λ n. n ≤ MOST_SCALARS) ns → HasLengths program (row_of program.types (id_of (type.Named t))) (record { type = suc t; lengths = ns })
 made_lengths program t es vs ns many dims e few = by (is_open (row_of program.types id)) refl
   where
     id : TypeId

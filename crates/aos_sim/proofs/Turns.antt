@@ -4,6 +4,7 @@ use Rattle.std.specs.Prelude.{All, ℤ, Bool, true, false, not, is_some, option_
 use Rattle.std.proofs.lemmas.List.{length-map}
 use Rattle.std.proofs.lemmas.List.Sums.{sum_by-cons}
 use Rattle.std.proofs.lemmas.List.Elements.{All-nil, All-cons, All-append}
+use Rattle.aos_base.specs.declared.limits.TheConstants.{MOST_FRAME_SCALARS, MOST_FRAMES, MOST_SCALARS}
 use Rattle.aos_base.specs.declared.number.Relation.{Relation}
 use Rattle.aos_base.specs.declared.number.Width.TheVariants.{W64}
 use Rattle.aos_base.specs.Number.{holds, array_lengths}
@@ -558,7 +559,7 @@ module _ (program : Program) (image : Image) where
         more = objects_grow (scheme program) s.made (one ∷ []) shapes_now
 
         -- it has the lengths that its type asks for
-        lengths : All (λ n. n ≤ 16777216) ns → HasLengths program (type_row program.types (id_of_made u)) one
+        lengths : All (λ n. n ≤ MOST_SCALARS) ns → HasLengths program (type_row program.types (id_of_made u)) one
         lengths few =
             let number = x.valid.0 in
             subst (λ z. HasLengths program (type_row program.types (id_of_made z)) (record { type = z; lengths = ns })) (sym x.valid.1)
@@ -766,7 +767,7 @@ module _ (program : Program) (image : Image) where
             let sums = sum_by-cons (λ (z : I.Frame). z.counted) low gs
             ∙ (λ j. place.counted_is j + waiting_counted program image s.made (result_of own) fs gs below j)
             ∙ sym (sum_by-cons (λ (z : S.Frame). z.counted) top fs) in
-            λ j. if nat_lt (suc (sym long j)) 512 then nat_lt 65536 (counted j + sums j) else true
+            λ j. if nat_lt (suc (sym long j)) MOST_FRAMES then nat_lt MOST_FRAME_SCALARS (counted j + sums j) else true
 
         handed_same : I.handed ps (suc (length gs)) cells shape.params.items (I.arguments_of shape.method cells_given) (length shape.kinds.items) ≡ Some handed
         handed_same =

@@ -4,6 +4,7 @@ use Rattle.std.specs.Prelude.{Bool, true, false, Some, nat_lt, slice_get, slice_
 use Rattle.std.proofs.lemmas.Bool.{ltb-true}
 use Rattle.std.proofs.lemmas.List.{length-append, length-map, length-replicate, length-reverse, length-set}
 use Rattle.std.proofs.lemmas.Option.{slice_get_within}
+use Rattle.aos_base.specs.declared.limits.TheConstants.{MOST_FRAME_SCALARS, MOST_FRAMES}
 use Rattle.aos_code.specs.declared.instr.Cell.{Cell}
 use Rattle.aos_code.specs.declared.instr.Cell.TheVariants.{Num}
 use Rattle.aos_code.specs.Machine.{Frame}
@@ -96,12 +97,12 @@ module _ (depths keeps : ℕ → ℕ) where
       subst (AreRoomyFor depths keeps) (sym h) (roomy_more hs f front (last_roomy fs gs f e roomy) (omega (arith, long, len, roomy.few)))
 
 -- frames above which there may be one more
-pub shallow : (counted : ℕ) (fs : List KeptFrame) → deep counted (list_in fs) ≡ false → length fs < 512
-shallow counted fs e = by (nat_lt (length (list_in fs)) 512) refl e
+pub shallow : (counted : ℕ) (fs : List KeptFrame) → deep counted (list_in fs) ≡ false → length fs < MOST_FRAMES
+shallow counted fs e = by (nat_lt (length (list_in fs)) MOST_FRAMES) refl e
   where
-    by : (b : Bool) → nat_lt (length (list_in fs)) 512 ≡ b → (if b then nat_lt 65536 (counted + sum_by (λ (f : Frame). f.counted) (list_in fs)) else true) ≡ false → length fs < 512
+    by : (b : Bool) → nat_lt (length (list_in fs)) MOST_FRAMES ≡ b → (if b then nat_lt MOST_FRAME_SCALARS (counted + sum_by (λ (f : Frame). f.counted) (list_in fs)) else true) ≡ false → length fs < MOST_FRAMES
     by true lt g =
-        let h = ltb-true (length (list_in fs)) 512 lt in
+        let h = ltb-true (length (list_in fs)) MOST_FRAMES lt in
         let long = length-map (reverse fs) frame_in in
         let same = length-reverse fs in
         omega (arith, h, long, same)

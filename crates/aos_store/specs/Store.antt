@@ -1,5 +1,6 @@
 -- Frames and memory as code keeps them, and what of the definitions they show.
 use Rattle.std.specs.Prelude.{◌≡◌, replicate, ℕ, ◌+◌, ◌-◌, pos, List, [], ◌∷◌, ◌++◌, length, map, reverse, take, drop, get_or, Bool, true, false, ◌&&◌, nat_lt, nat_le, if◌then◌else◌, Option, Some, None, sum_by}
+use Rattle.aos_base.specs.declared.limits.TheConstants.{MOST_FRAME_SCALARS, MOST_FRAMES}
 use Rattle.aos_base.specs.declared.place.Root.{Root}
 use Rattle.aos_base.specs.Rooted.{Rooted, spliced}
 use Rattle.aos_code.specs.declared.instr.Cell.{Cell}
@@ -94,9 +95,9 @@ with_frames r g fs = record { following = reverse fs.following.items; frames = f
 
 -- Frames that are made.
 
--- an activity has 512 frames and 65,536 scalars in them at most, with a frame more that has so many
+-- whether a frame more with so many scalars passes the most frames, or the most scalars in them
 abbrev pub deep : ℕ → List Frame → Bool
-deep counted fs = if nat_lt (length fs) 512 then nat_lt 65536 (counted + sum_by (λ f. f.counted) fs) else true
+deep counted fs = if nat_lt (length fs) MOST_FRAMES then nat_lt MOST_FRAME_SCALARS (counted + sum_by (λ f. f.counted) fs) else true
 
 abbrev pub IsFrameRefusal : FrameErr → (too_deep : Bool) → Type 0
 IsFrameRefusal Deep too_deep = too_deep ≡ true

@@ -9,15 +9,9 @@ ghost use Rattle.aos_base.specs.Rooted.{from_last, change_from_last};
 ghost use Rattle.std.specs.Option.{option_and_then, option_map, option_copied};
 
 use crate::cells::{Change, change_front};
-use aos_base::{LockName, NoMemory, Pos};
+use aos_base::{LockName, MOST_FRAME_SCALARS, MOST_FRAMES, NoMemory, Pos};
 use aos_code::{Cell, Kind, ProcShape};
 use std::alloc::Global;
-
-/// The most frames of an activity, its body's own included.
-pub const MAX_FRAMES: usize = 512;
-
-/// The most scalars in an activity's frames.
-pub const MAX_COUNTED: u64 = 65_536;
 
 /// A frame: its procedure; the object whose method or body it is, 0 for none; the place of the next instruction; the statement
 /// last begun; whether the region of its lock is open; its cells, of which the last ones, so many, are those that it keeps values in; how many count as scalars; and its
@@ -45,7 +39,7 @@ pub struct Frames {
     pub turns: u64,
 }
 
-/// Why a frame isn't made: there are 512, or more than 65,536 scalars would be in them; or memory was wanted and not had.
+/// Why a frame isn't made: there are as many as may be, or too many scalars would be in them; or memory was wanted and not had.
 #[derive(Clone, Copy)]
 pub enum FrameErr {
     Deep,
@@ -241,7 +235,7 @@ impl Frames {
     pub fn is_deep(&self, counted: u32) -> bool
         ensures { result ≡ deep counted (list_in self.now.list.items) }
     {
-        if self.list.len() < MAX_FRAMES {
+        if self.list.len() < MOST_FRAMES {
             counts_past(&self.list, counted)
         } else {
             true
@@ -304,15 +298,18 @@ fn shape_of(shapes: &[ProcShape], procedure: u32) -> Option<&ProcShape>
     shapes.get(procedure.checked_sub(1)? as usize)
 }
 
-/// Whether frames and so many scalars more have more than 65,536 scalars.
+/// One scalar too many, at which a sum stops.
+const TOO_MANY: u32 = MOST_FRAME_SCALARS + 1;
+
+/// Whether frames and so many scalars more have too many scalars.
 fn counts_past(list: &[Frame], counted: u32) -> bool
-    ensures { result ≡ nat_lt 65536 (counted + sum_by (λ f. f.counted) (list_in list.now)) }
+    ensures { result ≡ nat_lt MOST_FRAME_SCALARS (counted + sum_by (λ f. f.counted) (list_in list.now)) }
 {
-    let mut sum = counted.min(65_537);
+    let mut sum = counted.min(TOO_MANY);
     for frame in list {
-        sum = sum.saturating_add(frame.counted).min(65_537);
+        sum = sum.saturating_add(frame.counted).min(TOO_MANY);
     }
-    65_536 < sum
+    MOST_FRAME_SCALARS < sum
 }
 
 /// What a cell of this kind holds at first.

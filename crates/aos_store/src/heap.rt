@@ -7,13 +7,10 @@ ghost use Rattle.aos_store.specs.Objects.{object_cells, object_counted, made_in}
 ghost use Rattle.aos_store.specs.Store.{fits_in, changed};
 
 use crate::cells::{Change, make_change};
-use aos_base::NoMemory;
+use aos_base::{MOST_SCALARS, NoMemory};
 use aos_code::Cell;
 use std::alloc::Global;
 use std::marker::Model;
-
-/// The most scalars in the heap. An object that has none counts as one.
-pub const MAX_SCALARS: u64 = 16_777_216;
 
 /// An object: the number of the type that it was made of, from 1; the lengths, where it's an open array; and its cells.
 #[derive(Drop)]
@@ -84,17 +81,17 @@ impl Heap {
 
     /// Whether there is room for an object more, which has so many cells.
     pub fn has_room(&self, cells: u64) -> bool
-        ensures { result ≡ nat_le (max 1 cells + sum_by object_counted self.now) 16777216 }
+        ensures { result ≡ nat_le (max 1 cells + sum_by object_counted self.now) MOST_SCALARS }
     {
         match counts_as(cells).checked_add(self.counted) {
             None => false,
-            Some(sum) => sum <= MAX_SCALARS,
+            Some(sum) => sum <= u64::from(MOST_SCALARS),
         }
     }
 
     /// One object more, for which there is room: it gives the object's number.
     pub fn add(&mut self, object: Object) -> Result<u32, NoMemory>
-        requires { object_counted object + sum_by object_counted self.old ≤ 16777216 }
+        requires { object_counted object + sum_by object_counted self.old ≤ MOST_SCALARS }
         ensures ok { IfOk result (λ o. (o ≡ suc (length self.old)) × (self.new ≡ self.old ++ object ∷ [])) }
         ensures err { OnErr result (self.new ≡ self.old) }
     {

@@ -8,7 +8,7 @@ pub mod memory;
 pub mod places;
 
 pub use cells::Change;
-pub use frames::{Frame, FrameErr, Frames, MAX_COUNTED, MAX_FRAMES};
-pub use heap::{Heap, MAX_SCALARS, Object};
+pub use frames::{Frame, FrameErr, Frames};
+pub use heap::{Heap, Object};
 pub use memory::Store;
 pub use places::{change_at, copy_at, has_cells_at, len_at, load_at, store_at};

@@ -1,6 +1,7 @@
 // The cells of modules and objects.
 ghost use Rattle.std.specs.Prelude.{◌≡◌, ◌≤◌, ◌+◌, ℕ, max, List, length, sum_by, nat_le, slice_get, IfOk, OnErr, if◌then◌else◌};
 ghost use Rattle.std.specs.Option.{option_and_then, option_map};
+ghost use Rattle.aos_base.specs.declared.limits.TheConstants.{MOST_SCALARS};
 ghost use Rattle.aos_base.specs.Rooted.{Made, by_number};
 ghost use Rattle.aos_code.specs.declared.instr.Cell.{Cell as CellOf};
 ghost use Rattle.aos_code.specs.Memory.{Memory, counted, with_object, new_number, type_of_object};
@@ -108,7 +109,7 @@ impl Store {
 
     /// Whether the heap has room for an object more, which has so many cells.
     pub fn has_room(&self, cells: u64) -> bool
-        ensures { result ≡ nat_le (max 1 cells + sum_by counted (memory_in self.now).objects) 16777216 }
+        ensures { result ≡ nat_le (max 1 cells + sum_by counted (memory_in self.now).objects) MOST_SCALARS }
     {
         self.objects.has_room(cells)
     }
@@ -120,7 +121,7 @@ impl Store {
         lengths: Vec<u32>,
         cells: Vec<Cell>,
     ) -> Result<u32, NoMemory>
-        requires { counted cells.items + sum_by counted (memory_in self.old).objects ≤ 16777216 }
+        requires { counted cells.items + sum_by counted (memory_in self.old).objects ≤ MOST_SCALARS }
         ensures ok { IfOk result (λ o. (o ≡ new_number (memory_in self.old)) ×
             (memory_in self.new ≡ with_object (record { type = made_of; lengths = lengths.items }) cells.items (memory_in self.old))) }
         ensures err { OnErr result (memory_in self.new ≡ memory_in self.old) }

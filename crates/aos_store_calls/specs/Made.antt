@@ -1,5 +1,6 @@
 -- What the store answers that is asked for an object.
 use Rattle.std.specs.Prelude.{◌≡◌, ℕ, ◌+◌, List, [], Bool, true, false, Option, Some, None, Result, Ok, Err, map, sum_by, nat_le}
+use Rattle.aos_base.specs.declared.limits.TheConstants.{MOST_SCALARS}
 use Rattle.aos_code.specs.declared.instr.Cell.{Cell}
 use Rattle.aos_code.specs.declared.image.TypeDesc.{TypeDesc}
 use Rattle.aos_code.specs.Memory.{Memory, counted, new_number, with_object}
@@ -13,7 +14,7 @@ new_cells d ns = in_rows [] ns (map first_cell d.kinds.items)
 
 -- a heap with these objects has room for these cells
 abbrev pub has_place : List Cell → List (List Cell) → Bool
-has_place cells objects = nat_le (counted cells + sum_by counted objects) 16777216
+has_place cells objects = nat_le (counted cells + sum_by counted objects) MOST_SCALARS
 
 -- of a type by its number, with these lengths
 module _ (t : ℕ) (ns : List ℕ) (old new : Memory) where

@@ -1,5 +1,6 @@
 // Objects are made by their type and lengths.
 ghost use Rattle.std.specs.Prelude.{◌≡◌, ◌≤◌, ◌+◌, ◌-◌, ◌^◌, min, [], map, sum_by, IfOk, OnErr};
+ghost use Rattle.aos_base.specs.declared.limits.TheConstants.{MOST_SCALARS};
 ghost use Rattle.aos_code.specs.Memory.{counted, new_number, with_object};
 ghost use Rattle.aos_code.specs.Numbered.{numbered};
 ghost use Rattle.aos_code.specs.Silent.{cells_of};
@@ -57,7 +58,7 @@ fn make(
     kinds: &[Kind],
     count: u64,
 ) -> Result<u32, NoMemory>
-    requires { counted (times [] count (map first_cell kinds.now)) + sum_by counted (memory_in store.old).objects ≤ 16777216 }
+    requires { counted (times [] count (map first_cell kinds.now)) + sum_by counted (memory_in store.old).objects ≤ MOST_SCALARS }
     ensures ok { IfOk result (λ o. (o ≡ new_number (memory_in store.old)) ×
         (memory_in store.new ≡ with_object (record { type = of_type; lengths = lens.now }) (times [] count (map first_cell kinds.now)) (memory_in store.old))) }
     ensures err { OnErr result (memory_in store.new ≡ memory_in store.old) }

@@ -2,8 +2,8 @@
 -- arrays, on objects and on AWAIT): where EXIT and AWAIT stand, and the steps of FOR; of which types arrays, records and pointers are;
 -- initializers, and which bodies are active.
 use Rattle.std.specs.Prelude.{◌≡◌, ◌≢◌, ℕ, pos, ◌≤◌, List, count_by, All, Bool, true, false, ◌||◌, Option, Some, slice_get}
+use Rattle.aos_base.specs.declared.limits.TheConstants.{MOST_SCALARS}
 use Rattle.aos_base.specs.declared.priority.Priority.TheVariants.{Normal}
-use Rattle.aos_types.specs.declared.TheConstants.{MOST_SCALARS}
 use Rattle.aos_types.specs.declared.row.TypeId.{TypeId}
 use Rattle.aos_types.specs.declared.row.TypeRow.{TypeRow}
 use Rattle.aos_types.specs.declared.row.TypeRow.TheVariants as row

@@ -8,6 +8,7 @@
 use Rattle.std.specs.Prelude.{◌≡◌, ◌≢◌, ◌⊎◌, ℕ, zero, suc, ℤ, pos, ◌≤◌, ◌<◌, ◌+◌, ◌==◌, ◌^◌, nat_le, int_le, List, [], ◌∷◌, ◌++◌, length, All, Bool, true, false, ◌&&◌, ◌||◌, Option, Some, None, slice_get, sum_by, is_some, option_map, option_and_then, map}
 use Rattle.std.specs.List.{AllPairs, list_all, list_any}
 use Rattle.std.specs.Char.{is_ascii_digit, is_ascii_alphabetic}
+use Rattle.aos_base.specs.declared.limits.TheConstants.{MOST_SCALARS}
 use Rattle.aos_base.specs.declared.number.Width.{Width}
 use Rattle.aos_base.specs.declared.number.Width.TheVariants.{W8, W16, W32, W64}
 use Rattle.aos_base.specs.declared.number.Relation.{Relation}
@@ -17,7 +18,6 @@ use Rattle.aos_base.specs.declared.operator.Unary.TheVariants.{Neg, Abs, Not, Od
 use Rattle.aos_base.specs.declared.operator.Binary.{Binary as BinaryOperator}
 use Rattle.aos_base.specs.declared.operator.Binary.TheVariants.{Add, Sub, Mul, Div, Mod, Ash, Cmp, Union, Minus, Meet, Xor, SetSpan, In}
 use Rattle.aos_base.specs.Number.{IsWithin}
-use Rattle.aos_types.specs.declared.TheConstants.{MOST_SCALARS}
 use Rattle.aos_types.specs.declared.row.TypeId.{TypeId}
 use Rattle.aos_types.specs.declared.row.TypeRow.{TypeRow}
 use Rattle.aos_types.specs.declared.row.TypeRow.TheVariants as row

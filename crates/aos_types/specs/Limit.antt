@@ -1,7 +1,7 @@
 -- The limit of scalars of a type, and which types are the first past it: a type of which a part is past it keeps it.
 use Rattle.std.specs.Prelude.{ℕ, nat_lt, List, Option, Bool, not, ◌&&◌}
 use Rattle.std.specs.List.{list_any}
-use Rattle.aos_types.specs.declared.TheConstants.{MOST_SCALARS}
+use Rattle.aos_base.specs.declared.limits.TheConstants.{MOST_SCALARS}
 use Rattle.aos_types.specs.declared.row.TypeId.{TypeId}
 use Rattle.aos_types.specs.declared.row.TypeRow.{TypeRow}
 use Rattle.aos_types.specs.Table.{row_of}

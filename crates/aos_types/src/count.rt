@@ -8,9 +8,9 @@ ghost use Rattle.aos_types.specs.Table as table;
 ghost use Rattle.aos_types.specs.Chain as chain;
 ghost use Rattle.aos_types.specs.Count as count;
 
-use crate::MOST_SCALARS;
 use crate::extension::row_of;
 use crate::row::{TypeId, TypeRow};
+use aos_base::MOST_SCALARS;
 
 /// A type on a walk, and how many of its first fields were seen to have their counts.
 #[derive(Clone, Copy)]

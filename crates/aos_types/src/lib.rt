@@ -15,9 +15,6 @@ mod sameness;
 mod signature;
 mod table;
 
-/// The most scalars that a type may have.
-pub const MOST_SCALARS: u32 = 16_777_216;
-
 pub use items::Items;
 pub use laws::{
     law_of_bases, law_of_circles, law_of_contents, law_of_extension, law_of_fronts, law_of_offsets,

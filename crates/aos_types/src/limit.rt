@@ -6,10 +6,10 @@ ghost use Rattle.aos_types.specs.Table as table;
 ghost use Rattle.aos_types.specs.Chain as chain;
 ghost use Rattle.aos_types.specs.Limit as limit;
 
-use crate::MOST_SCALARS;
 use crate::count::made;
 use crate::extension::row_of;
 use crate::row::{TypeId, TypeRow};
+use aos_base::MOST_SCALARS;
 
 fn is_past(counts: &[Option<u32>], t: TypeId) -> bool
     ensures { result ≡ limit.count_past counts.now t }

@@ -1,10 +1,10 @@
 // The table of types.
 
 ghost use Rattle.std.specs.Prelude.{◌≡◌, ◌↔◌, ◌<◌, ◌^◌, ◌++◌, ◌∷◌, [], length, slice_get, slice_set, IfOk, OnOk, OnErr, IsTrue};
+ghost use Rattle.aos_base.specs.declared.limits.TheConstants.{MOST_SCALARS};
 ghost use Rattle.aos_types.specs.Chain.{ContainsItself, NoneContainsItself, circles, cut};
 ghost use Rattle.aos_types.specs.Contents.{at_most, scalars, variable_scalars as variable_scalars_of};
 ghost use Rattle.aos_types.specs.Limit.{is_first_past as is_first_past_of};
-ghost use Rattle.aos_types.specs.declared.TheConstants.{MOST_SCALARS};
 ghost use Rattle.aos_types.specs.Extension.{extends as extends_of};
 ghost use Rattle.aos_types.specs.Sameness.{same as same_of};
 ghost use Rattle.aos_types.specs.Fit.{fits as fits_of};

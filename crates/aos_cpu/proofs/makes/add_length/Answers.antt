@@ -1,5 +1,6 @@
 use Rattle.std.proofs.Common.{◌≤ℤ◌, pos, arith}
 use Rattle.std.proofs.lemmas.Int.{ints}
+use Rattle.aos_base.specs.declared.limits.TheConstants.{MOST_SCALARS}
 use Rattle.aos_cpu.proofs.Making.{are_short, are_long, pushed}
 use Rattle.aos_cpu.proofs.makes.add_length.Goals as goal
 
@@ -14,5 +15,5 @@ pub returns : goal.returns
 returns c operands has =
     let z = c.args.number in
     let least : pos 1 ≤ℤ z = omega (arith, ints, c.if-number-lt1.false) in
-    let most : z ≤ℤ pos 16777216 = omega (arith, ints, c.if-number-gt-MAX_LENGTH.false) in
+    let most : z ≤ℤ pos MOST_SCALARS = omega (arith, ints, c.if-number-gt-MAX_LENGTH.false) in
     pushed operands c.args.lengths.items has z _ _ _ c.push_reserved.ensures.items c.in_ok-reserve.ensures.items least most (omega (arith, ints, least, most))

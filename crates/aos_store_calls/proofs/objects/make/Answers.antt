@@ -1,6 +1,7 @@
 use Rattle.std.proofs.Common.{◌≤◌, ◌+◌, List, sym, ◌∙◌, subst}
 use Rattle.std.specs.Prelude.{sum_by}
 use Rattle.std.proofs.lemmas.Result.{IfOk-weaker}
+use Rattle.aos_base.specs.declared.limits.TheConstants.{MOST_SCALARS}
 use Rattle.aos_code.specs.declared.instr.Cell.{Cell}
 use Rattle.aos_code.specs.Memory.{counted, with_object}
 use Rattle.aos_store.specs.Store.{memory_in}
@@ -9,7 +10,7 @@ use Rattle.aos_store_calls.proofs.objects.make.Goals as goal
 pub new_object-requires : goal.new_object-requires
 new_object-requires c =
     let mem = memory_in c.args.store.now in
-    subst (λ (cs : List Cell). counted cs + sum_by counted mem.objects ≤ 16777216) (sym c.in_ok-cells.ensures) c.requires
+    subst (λ (cs : List Cell). counted cs + sum_by counted mem.objects ≤ MOST_SCALARS) (sym c.in_ok-cells.ensures) c.requires
 
 pub returns-clause-ok : goal.returns-clause-ok
 returns-clause-ok c =
