@@ -10,14 +10,14 @@ use Rattle.aos_base.specs.declared.text.Pos.{Pos}
 use Rattle.aos_base.specs.Lock.{is_lock, Wants, Waiting}
 
 -- where an activity stands: on a worker, ready at a priority, or in a lock's list
-pub data Place : Type 0 where
-  On : (worker : ℕ) → Place
-  Ready : (priority : ℕ) → Place
-  At : (lock : LockName) → (wants : Wants) → Place
+pub data RunState : Type 0 where
+  On : (worker : ℕ) → RunState
+  Ready : (priority : ℕ) → RunState
+  At : (lock : LockName) → (wants : Wants) → RunState
 
 pub record Stand : Type 0 where
   pub activity : ℕ
-  pub place : Place
+  pub place : RunState
 
 -- what an activity's next turn is: its own, a trap, the release of a lock or, with none left, its end; none once it has ended
 pub data Next : Type 0 where
@@ -63,21 +63,21 @@ put same f k v = λ x. if same x k then v else f x
 
 -- Reading
 
-abbrev pub first_at : (Place → Bool) → List Stand → Option ℕ
+abbrev pub first_at : (RunState → Bool) → List Stand → Option ℕ
 first_at at [] = None
 first_at at (s ∷ line) = if at s.place then Some s.activity else first_at at line
 
-abbrev pub is_on : ℕ → Place → Bool
+abbrev pub is_on : ℕ → RunState → Bool
 is_on w (On v) = v == w
 is_on w (Ready p) = false
 is_on w (At l wants) = false
 
-abbrev pub is_ready : ℕ → Place → Bool
+abbrev pub is_ready : ℕ → RunState → Bool
 is_ready p (On v) = false
 is_ready p (Ready q) = q == p
 is_ready p (At l wants) = false
 
-abbrev pub is_at_lock : Place → Bool
+abbrev pub is_at_lock : RunState → Bool
 is_at_lock (On v) = false
 is_at_lock (Ready q) = false
 is_at_lock (At l wants) = true
@@ -94,7 +94,7 @@ or_next None other = other
 abbrev pub first_ready : List Stand → Option ℕ
 first_ready line = or_next (first_at (is_ready 3) line) (or_next (first_at (is_ready 2) line) (first_at (is_ready 1) line))
 
-abbrev pub wanted : LockName → Place → Option Wants
+abbrev pub wanted : LockName → RunState → Option Wants
 wanted l (At k wants) = if is_lock k l then Some wants else None
 wanted l (On v) = None
 wanted l (Ready q) = None
@@ -109,7 +109,7 @@ waiting l [] = []
 waiting l (s ∷ line) = listed (wanted l s.place) s.activity (waiting l line)
 
 -- where an activity stands
-abbrev pub place_of : List Stand → ℕ → Option Place
+abbrev pub place_of : List Stand → ℕ → Option RunState
 place_of [] a = None
 place_of (s ∷ line) a = if a == s.activity then Some s.place else place_of line a
 
@@ -134,10 +134,10 @@ abbrev pub leave_line : ℕ → List Stand → List Stand
 leave_line a line = filter (λ s. not (s.activity == a)) line
 
 -- the activity stands there from now on, behind all who came before
-abbrev pub move : ℕ → Place → List Stand → List Stand
+abbrev pub move : ℕ → RunState → List Stand → List Stand
 move a place line = leave_line a line ++ record { activity = a; place = place } ∷ []
 
-unfoldable pub stands : ℕ → Place → Book → Book
+unfoldable pub stands : ℕ → RunState → Book → Book
 stands a place b = record b { line = move a place b.line }
 
 -- last in the queue of its priority

@@ -4,7 +4,7 @@ use Rattle.aos_base.specs.declared.kernel.LockName.{LockName}
 use Rattle.aos_base.specs.declared.kernel.Outcome.{Outcome}
 use Rattle.aos_base.specs.declared.kernel.Outcome.TheVariants.{Going, Ended, Dead, Spent}
 use Rattle.aos_base.specs.Lock.{enters}
-use Rattle.aos_base.specs.Book.{Place, On, Ready, At, Stand, Where, TrapRow, place_of, outcome}
+use Rattle.aos_base.specs.Book.{RunState, On, Ready, At, Stand, Where, TrapRow, place_of, outcome}
 use Rattle.aos_base.specs.Machine.{Machine, State}
 
 -- who waits for a lock: to enter, or else for a condition
@@ -43,7 +43,7 @@ spent_if Ended a = None
 spent_if Dead a = None
 
 module _ {S F : Type 0} (m : Machine S F) where
-  abbrev pub wait_row : ℕ → Option Place → F → List WaitRow
+  abbrev pub wait_row : ℕ → Option RunState → F → List WaitRow
   wait_row a None f = []
   wait_row a (Some (On w)) f = []
   wait_row a (Some (Ready p)) f = []

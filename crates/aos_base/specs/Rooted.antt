@@ -1,7 +1,7 @@
 -- What stands below roots: once what the variables of a program hold, once the cells of an image.
 use Rattle.std.specs.Prelude.{ℕ, zero, suc, ◌+◌, List, [], ◌∷◌, ◌++◌, length, take, drop, Option, Some, None, option_map, option_and_then, slice_get, nat_eq, if◌then◌else◌}
-use Rattle.aos_base.specs.declared.place.Root.{Root}
-use Rattle.aos_base.specs.declared.place.Root.TheVariants.{Frame, Module, Object}
+use Rattle.aos_base.specs.declared.root.Root.{Root}
+use Rattle.aos_base.specs.declared.root.Root.TheVariants.{Frame, Module, Object}
 
 -- what an object was made as: a type, by its number from 1, and lengths if it is an open array
 pub record Made : Type 0 where

@@ -2,8 +2,8 @@
 use Rattle.std.specs.Prelude.{ℕ, suc, ◌+◌, List, [], ◌∷◌, ◌++◌, length, max, sum_by, nat_le, Bool, ◌&&◌, Option, option_map}
 use Rattle.std.specs.List.{list_all}
 use Rattle.aos_base.specs.declared.limits.TheConstants.{MOST_SCALARS}
-use Rattle.aos_base.specs.declared.place.Root.{Root}
-use Rattle.aos_base.specs.declared.place.Root.TheVariants.{Frame, Module, Object}
+use Rattle.aos_base.specs.declared.root.Root.{Root}
+use Rattle.aos_base.specs.declared.root.Root.TheVariants.{Frame, Module, Object}
 use Rattle.aos_base.specs.Rooted.{Made, Rooted, by_number, change_at, change_by_number}
 
 -- those of each module, in load order, and of each object, in the order of making, with what it was made as; X: once what variables

@@ -25,7 +25,7 @@ use Rattle.aos_designators.specs.Designators as desig
 use Rattle.aos_designators.specs.Methods.{Bound, Part, Begun, Meant, Waits, bound_part}
 use Rattle.aos_check_expr.specs.Expressions.{arguments_for, bracketed, signature_of, expr}
 use Rattle.aos_check_expr.specs.Expressions.{selector as selector_of}
-pub use Rattle.aos_stat_rules.specs.Calls.{refused, not_yet, plain_call, ended, arguments, behind_arguments, is_selected, is_selected_behind, goes_on, before_last, is_made, new_breaches, is_no_variable, lengths_wanted, count_breaches, made_type, makes_object, initializer_of, may_be_length, no_call, gives_value, is_value_called, changing, is_changed_set, is_amount, is_changed, changed_breaches, changed_by, code_of, is_code, code_in, text_to, value_fits, put_text, copied, called_spot}
+pub use Rattle.aos_stat_rules.specs.Calls.{refused, not_yet, plain_call, ended, arguments, behind_arguments, is_selected, is_selected_behind, goes_on, before_last, is_made, new_breaches, is_no_variable, lengths_wanted, count_breaches, made_type, makes_object, initializer_of, may_be_length, no_call, gives_value, is_value_called, changing, is_changed_set, is_amount, is_changed, changed_breaches, changed_by, code_of, is_code, code_in, text_to, value_fits, put_text, copied, called_entity}
 
 module _ (e : Env) where
   -- Procedures that modules declare.
@@ -64,24 +64,24 @@ module _ (e : Env) where
   -- without a bracket, and with one
   abbrev pub called_as : (first : Pos) → Part → Judged (Option Stat)
   called_as first (Waits b) = perform_bound first b []
-  called_as first (Begun h) = called_spot e first (kept (Begun h))
-  called_as first (Meant a) = called_spot e first (kept (Meant a))
+  called_as first (Begun h) = called_entity e first (kept (Begun h))
+  called_as first (Meant a) = called_entity e first (kept (Meant a))
 
   abbrev pub called_alone : (first : Pos) → Part → Judged (Option Stat)
   called_alone first a = called_as first (bound_part e first a)
 
-  abbrev pub bracketed_spot : (first : Pos) → Part → Pos → List TreeExpr → Judged (Option Stat)
-  bracketed_spot first a p xs = called_spot e first (bracketed e first a p (map (expr e) xs) xs)
+  abbrev pub bracketed_entity : (first : Pos) → Part → Pos → List TreeExpr → Judged (Option Stat)
+  bracketed_entity first a p xs = called_entity e first (bracketed e first a p (map (expr e) xs) xs)
 
   -- behind a name that may stand for a predeclared function
   abbrev pub bracketed_name : (first : Pos) → Head → Pos → List TreeExpr → Judged (Option Stat)
   bracketed_name first h p xs =
-      bind (bracketed_spot first (Begun h) p xs) (λ s. judged (breach_unless (not (is_value_called h.found)) 36 first) s)
+      bind (bracketed_entity first (Begun h) p xs) (λ s. judged (breach_unless (not (is_value_called h.found)) 36 first) s)
 
   abbrev pub bracketed_as : (first : Pos) → Part → Pos → List TreeExpr → Judged (Option Stat)
   bracketed_as first (Waits b) p xs = perform_bound first b xs
   bracketed_as first (Begun h) p xs = bracketed_name first h p xs
-  bracketed_as first (Meant a) p xs = bracketed_spot first (Meant a) p xs
+  bracketed_as first (Meant a) p xs = bracketed_entity first (Meant a) p xs
 
   abbrev pub called_with : (first : Pos) → Part → Pos → List TreeExpr → Judged (Option Stat)
   called_with first a p xs = bracketed_as first (bound_part e first a) p xs

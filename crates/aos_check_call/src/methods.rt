@@ -11,7 +11,7 @@ use aos_base::Pos;
 use aos_check_expr::{bracketed, follow_selectors};
 use aos_designators::{Bound, Head, Part, bound_part, plain};
 use aos_made_stat::MadeStat;
-use aos_stat_rules::{before_last, called_spot, is_value_called};
+use aos_stat_rules::{before_last, called_entity, is_value_called};
 use aos_symbols::{Breach, Env, WRONG_CALL, note};
 use aos_tree::{Desig, Expr, Selector};
 use std::alloc::{AllocError, Global};
@@ -49,14 +49,14 @@ fn called_alone(
 {
     match bound_part(alloc, env, first, part)? {
         Part::Waits(bound) => perform_bound(alloc, found, env, first, bound, &[]),
-        Part::Begun(head) => called_spot(alloc, found, env, first, Part::Begun(head)),
-        Part::Meant(spot) => called_spot(alloc, found, env, first, Part::Meant(spot)),
+        Part::Begun(head) => called_entity(alloc, found, env, first, Part::Begun(head)),
+        Part::Meant(entity) => called_entity(alloc, found, env, first, Part::Meant(entity)),
     }
 }
 
 /// A bracket, which stands here, behind what it doesn't call.
 #[tactic(auto, using(aos_symbols::proofs::Keeping::after_more))]
-fn bracketed_spot(
+fn bracketed_entity(
     alloc: Global,
     found: &mut Option<Breach>,
     env: &Env<'_>,
@@ -66,12 +66,12 @@ fn bracketed_spot(
     arguments: &[Expr],
 ) -> Result<Option<MadeStat>, AllocError>
     ensures noted { OnOk result (found.new ≡ first_after found.old
-        (judge.bracketed_spot env.now first (seen_part part) at arguments.now).breaches) }
+        (judge.bracketed_entity env.now first (seen_part part) at arguments.now).breaches) }
     ensures answer { IfOk result (λ s. option_map seen_stat s ≡
-        (judge.bracketed_spot env.now first (seen_part part) at arguments.now).answer) }
+        (judge.bracketed_entity env.now first (seen_part part) at arguments.now).answer) }
 {
     let called = bracketed(alloc, found, env, first, part, at, arguments)?;
-    called_spot(alloc, found, env, first, called)
+    called_entity(alloc, found, env, first, called)
 }
 
 /// A bracket, which stands here, behind a name that may stand for a predeclared function.
@@ -90,7 +90,7 @@ fn bracketed_name(
     ensures answer { IfOk result (λ s. option_map seen_stat s ≡
         (judge.bracketed_name env.now first head at arguments.now).answer) }
 {
-    let call = bracketed_spot(alloc, found, env, first, Part::Begun(head), at, arguments)?;
+    let call = bracketed_entity(alloc, found, env, first, Part::Begun(head), at, arguments)?;
     if is_value_called(head.found) {
         note(found, WRONG_CALL, first);
     }
@@ -115,8 +115,8 @@ fn called_with(
     match bound_part(alloc, env, first, part)? {
         Part::Waits(bound) => perform_bound(alloc, found, env, first, bound, arguments),
         Part::Begun(head) => bracketed_name(alloc, found, env, first, head, at, arguments),
-        Part::Meant(spot) => {
-            bracketed_spot(alloc, found, env, first, Part::Meant(spot), at, arguments)
+        Part::Meant(entity) => {
+            bracketed_entity(alloc, found, env, first, Part::Meant(entity), at, arguments)
         },
     }
 }

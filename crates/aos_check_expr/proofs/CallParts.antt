@@ -32,7 +32,7 @@ use Rattle.aos_designators.specs.Designators as desig
 use Rattle.aos_check_expr.specs.Expressions as judge
 use Rattle.aos_check_expr.specs.Expressions.{Callee, Calls, Invokes, Converts, Neither}
 use Rattle.aos_check_expr.proofs.Parts.{argument_part, arguments_part, limit_part}
-use Rattle.aos_check_expr.proofs.Spots.{IsWhole, GoodConstants, IsProcedure, MayFind, Part, Valued, Spotted, refused_part, refused_value_part, spotted, named_spot, guarded_part}
+use Rattle.aos_check_expr.proofs.Entities.{IsWhole, GoodConstants, IsProcedure, MayFind, Part, Valued, Denoted, refused_part, refused_value_part, denoted, named_entity, guarded_part}
 use Rattle.aos_check_expr.proofs.Worded.{len_alone_part, len_in_part}
 use Rattle.aos_check_expr.proofs.Called.{IsCalling}
 use Rattle.aos_check_expr.proofs.Passed.{invoked_part}
@@ -139,12 +139,12 @@ module _ (p : Inside) (e : Env) where
 
   -- what can't be called
   module _ (good : GoodConstants e) where
-    value_called : (h : Head) → MayFind p e h.found → (at : Pos) (xs : List Expr) → Holds (Spotted p e) (bind (desig.named e h) (λ a. desig.guarded e h.first at a (judge.guard_type e xs)))
+    value_called : (h : Head) → MayFind p e h.found → (at : Pos) (xs : List Expr) → Holds (Denoted p e) (bind (desig.named e h) (λ a. desig.guarded e h.first at a (judge.guard_type e xs)))
     value_called h may at xs =
-        holds_bind (Spotted p e) (Spotted p e) (desig.named e h) (λ a. desig.guarded e h.first at a (judge.guard_type e xs)) (named_spot p e good h may)
+        holds_bind (Denoted p e) (Denoted p e) (desig.named e h) (λ a. desig.guarded e h.first at a (judge.guard_type e xs)) (named_entity p e good h may)
         (λ a x. guarded_part p e h.first at a x (judge.guard_type e xs))
 
-    not_called_of : (l : Lookup) (place : Name) (first : Pos) → MayFind p e l → (at : Pos) (xs : List Expr) → Holds (Spotted p e) (judge.not_called e (record { found = l; name = place; first = first }) at xs)
+    not_called_of : (l : Lookup) (place : Name) (first : Pos) → MayFind p e l → (at : Pos) (xs : List Expr) → Holds (Denoted p e) (judge.not_called e (record { found = l; name = place; first = first }) at xs)
     not_called_of NoName place first may at xs = value_called (record { found = NoName; name = place; first = first }) may at xs
     not_called_of NotExported place first may at xs = value_called (record { found = NotExported; name = place; first = first }) may at xs
     not_called_of (Found x) place first may at xs = by x.at x.mark x.means may
@@ -152,12 +152,12 @@ module _ (p : Inside) (e : Env) where
         head : Open → Option Export → Meaning → Head
         head o mark m = record { found = Found (record { at = o; mark = mark; means = m }); name = place; first = first }
 
-        by : (o : Open) (mark : Option Export) (m : Meaning) → MayFind p e (head o mark m).found → Holds (Spotted p e) (judge.not_called e (head o mark m) at xs)
-        by o mark (means.Type None) may = spotted p e first (desig.refused 99 first) (refused_part p e 99 first)
-        by o mark (means.Type (Some t)) may = spotted p e first (desig.refused 36 first) (refused_part p e 36 first)
+        by : (o : Open) (mark : Option Export) (m : Meaning) → MayFind p e (head o mark m).found → Holds (Denoted p e) (judge.not_called e (head o mark m) at xs)
+        by o mark (means.Type None) may = denoted p e first (desig.refused 99 first) (refused_part p e 99 first)
+        by o mark (means.Type (Some t)) may = denoted p e first (desig.refused 36 first) (refused_part p e 36 first)
         by o mark m may = value_called (head o mark m) may at xs
 
-    not_called_part : (h : Head) → MayFind p e h.found → (at : Pos) (xs : List Expr) → Holds (Spotted p e) (judge.not_called e h at xs)
+    not_called_part : (h : Head) → MayFind p e h.found → (at : Pos) (xs : List Expr) → Holds (Denoted p e) (judge.not_called e h at xs)
     not_called_part h may at xs = not_called_of h.found h.name h.first may at xs
 
     function_part : (f : Function) (first : Pos) (js : List (Judged Answer)) → Parts js → (xs : List Expr) → IsFine (judge.function_called e f first js xs)
@@ -174,13 +174,13 @@ module _ (p : Inside) (e : Env) where
     function_part function.Short first js parts xs = of_one (op.applied function.Short) (applied_step p function.Short) (applied_tests function.Short tt) first js parts xs
 
     called : (c : Callee) → IsRightCallee c → (h : Head) → MayFind p e h.found → (at : Pos) (js : List (Judged Answer)) → Parts js → (xs : List Expr) → length js ≡ length xs →
-        Holds (Spotted p e) (judge.called_by e c h at js xs)
-    called (Calls f) right h may at js parts xs many = spotted p e h.first (judge.function_called e f h.first js xs) (function_part f h.first js parts xs)
+        Holds (Denoted p e) (judge.called_by e c h at js xs)
+    called (Calls f) right h may at js parts xs many = denoted p e h.first (judge.function_called e f h.first js xs) (function_part f h.first js parts xs)
     called (Invokes m k) right h may at js parts xs many =
-        spotted p e h.first (judge.invoked e h.first (Plain m k) (heading.Declared m k) js xs) (invoked_part p e h.first (Plain m k) (heading.Declared m k) right js parts xs many)
+        denoted p e h.first (judge.invoked e h.first (Plain m k) (heading.Declared m k) js xs) (invoked_part p e h.first (Plain m k) (heading.Declared m k) right js parts xs many)
     called (Converts t) right h may at js parts xs many =
-        spotted p e h.first (judge.one_of (judge.step_in (taking.Into t)) h.first js xs) (of_one (op.converted t) (converted_step p t right) (converted_tests t) h.first js parts xs)
+        denoted p e h.first (judge.one_of (judge.step_in (taking.Into t)) h.first js xs) (of_one (op.converted t) (converted_step p t right) (converted_tests t) h.first js parts xs)
     called Neither right h may at js parts xs many = not_called_part h may at xs
 
-    pub called_part : (h : Head) → MayFind p e h.found → (at : Pos) (js : List (Judged Answer)) → Parts js → (xs : List Expr) → length js ≡ length xs → Holds (Spotted p e) (judge.called e h at js xs)
+    pub called_part : (h : Head) → MayFind p e h.found → (at : Pos) (js : List (Judged Answer)) → Parts js → (xs : List Expr) → length js ≡ length xs → Holds (Denoted p e) (judge.called e h at js xs)
     called_part h may at js parts xs many = called (judge.callee h.found) (callee_right h.found may) h may at js parts xs many

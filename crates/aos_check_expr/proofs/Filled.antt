@@ -25,7 +25,7 @@ use Rattle.aos_values.specs.Signatures.{formal, given_by, row_signature, type_si
 use Rattle.aos_designators.specs.declared.methods.Heading.{Heading}
 use Rattle.aos_designators.specs.declared.methods.Heading.TheVariants as heading
 use Rattle.aos_check_expr.specs.Expressions.{signature_of}
-use Rattle.aos_check_expr.proofs.Spots.{IsWhole}
+use Rattle.aos_check_expr.proofs.Entities.{IsWhole}
 
 -- What stands in the second of two lists.
 

@@ -11,7 +11,7 @@ pub mod Agreeing
 pub mod Callable
 pub mod Selves
 pub mod Called
-pub mod Spots
+pub mod Entities
 pub mod Tested
 pub mod Filled
 pub mod Worded

@@ -60,7 +60,7 @@ use Rattle.aos_check_expr.proofs.Filled.{AreCovered, filled_is, heading_covered}
 use Rattle.aos_check_expr.proofs.Pointed.{comes_record, comes_whole}
 use Rattle.aos_check_expr.proofs.Compatible.{by_table, object_fits, whole_fits}
 use Rattle.aos_check_expr.proofs.Callable.{no_element, parameter_id, procedure_row, procedural_row, procedural_typed, procedural_value, callable_own, assignable_compatible, procedural_fits}
-use Rattle.aos_check_expr.proofs.Spots.{IsWhole, IsParameterType, elements_told, elements_id, AreParameters, IsResultOf, IsSigned, told_element, opened_row, row_opened, Part, Valued, refused_value_part}
+use Rattle.aos_check_expr.proofs.Entities.{IsWhole, IsParameterType, elements_told, elements_id, AreParameters, IsResultOf, IsSigned, told_element, opened_row, row_opened, Part, Valued, refused_value_part}
 use Rattle.aos_check_expr.proofs.Worded.{string_rows_are, string_kept, lengths_read, variables_held, has_in, array_row, no_text, no_object, no_routine, characters_row, char_row}
 
 some_not : (n : ℕ) → Some n ≡ None → ⊥

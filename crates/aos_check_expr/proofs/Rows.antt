@@ -18,12 +18,12 @@ use Rattle.aos_tree.specs.declared.expr.Selector.{Selector, Row_of-Expr, end_of-
 use Rattle.aos_tree.specs.declared.expr.Selector.TheVariants as s
 use Rattle.aos_symbols.specs.declared.env.Env.{Env}
 use Rattle.aos_symbols.specs.Judged.{Judged, bind, walk}
-use Rattle.aos_known.specs.Known.{Answer, Spot}
+use Rattle.aos_known.specs.Known.{Answer, Entity}
 use Rattle.aos_operators.specs.Operations.{no_elements}
 use Rattle.aos_operators.specs.Forms.{added, is_test, signed, opposite, whole_set, with_element, with_span}
 use Rattle.aos_rules.specs.Relations.{tested, related_by}
 use Rattle.aos_designators.specs.Designators.{plain, read}
-use Rattle.aos_designators.specs.Methods.{Part, Begun, spot_of_part, selected, as_part}
+use Rattle.aos_designators.specs.Methods.{Part, Begun, entity_of_part, selected, as_part}
 use Rattle.aos_check_expr.specs.Expressions.{expr, relation, relation_if, simple, addition, additions, term, product, products, factor, parenthesized, elements, element, designator, selectors, selector, indices, index, indexed, arguments, bracketed, qualident_in}
 
 -- a list of two
@@ -56,7 +56,7 @@ module _ (e : Env) where
   selectors_row _ first a end_of-Selector = refl
   selectors_row _ first a (more_of-Selector x xs) = ap (λ z. bind (selector e first a x) (λ b. z)) (selectors_row _ first (selector e first a x).answer xs)
 
-  indices_row : (n : _) (at : Pos) (a : Spot) (r : Row_of-Expr n) → indices e at a r ≡ walk (index e at) a (items-the_row-Expr n r)
+  indices_row : (n : _) (at : Pos) (a : Entity) (r : Row_of-Expr n) → indices e at a r ≡ walk (index e at) a (items-the_row-Expr n r)
   indices_row _ at a end_of-Expr = refl
   indices_row _ at a (more_of-Expr x xs) = ap (λ z. bind (index e at a x) (λ b. z)) (indices_row _ at (index e at a x).answer xs)
 
@@ -106,7 +106,7 @@ module _ (e : Env) where
   pub factor_desig : (x : Factor) (d : Desig) → x ≡ f.Desig d → factor e x ≡ bind (designator e d) (read e)
   factor_desig x d is =
       ap (λ y. factor e y) is
-      ∙ ap (λ z. bind (bind z (spot_of_part e)) (read e))
+      ∙ ap (λ z. bind (bind z (entity_of_part e)) (read e))
       (selectors_row _ d.name.pos (Begun (plain e d.name)) (hidden-the_row-Selector-0 d.selectors)
       ∙ ap (λ xs. walk (selector e d.name.pos) (Begun (plain e d.name)) xs) (items_hidden-the_row-Selector-0 d.selectors))
 

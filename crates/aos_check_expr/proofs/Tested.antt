@@ -37,7 +37,7 @@ use Rattle.aos_check_expr.proofs.Whole.{IsWhole}
 use Rattle.aos_check_expr.proofs.Objects.{either_is, IsReference, IsPartsRow, high_row, reference_kind, of_any_type, sound_object, parts_no_reference, record_no_reference, routine_no_parts}
 use Rattle.aos_check_expr.proofs.Pointed.{extends_reference, no_extension, made_there, names_passed, record_told, extension_named}
 use Rattle.aos_check_expr.proofs.Callable.{procedural_row, procedural_typed, callable_own, named_held}
-use Rattle.aos_check_expr.proofs.Spots.{Part}
+use Rattle.aos_check_expr.proofs.Entities.{Part}
 
 module _ (p : Inside) (e : Env) where
   abbrev HasObject : Expr → Type 0

@@ -34,7 +34,7 @@ use Rattle.aos_base.specs.Operators.{natural}
 use Rattle.aos_known.proofs.Inside.{IsOf, AreRows}
 use Rattle.aos_known.specs.declared.known.Class.{Class}
 use Rattle.aos_known.specs.declared.known.Class.TheVariants.{Unknown, Constant, Variable, ReadOnly, Computed, Procedure}
-use Rattle.aos_known.specs.Known.{Answer, Spot, read_from, is_number, is_boolean, is_char, is_lost, constant_answer}
+use Rattle.aos_known.specs.Known.{Answer, Entity, read_from, is_number, is_boolean, is_char, is_lost, constant_answer}
 use Rattle.aos_operators.specs.Operations as op
 use Rattle.aos_operators.proofs.Good.{IsKnownClass, within_if, natural_below}
 pub use Rattle.aos_known.proofs.Types.{wider}
@@ -49,12 +49,12 @@ use Rattle.aos_check_expr.specs.Expressions as judge
 use Rattle.aos_check_expr.proofs.Parts.{Elements, as_part, constant_part, added_part, multiplied_part, related_part, signed_part, opposite_part, number_part, character_part, string_part, no_elements, with_element_part, with_span_part, whole_part}
 use Rattle.aos_check_expr.proofs.Selves.{object_type_row}
 use Rattle.aos_check_expr.proofs.Called.{IsCalling, IsBound, if_some, and_then_some, dispatched_calling, own_calling, raised_calling}
-use Rattle.aos_check_expr.proofs.Spots.{MayFind, IsStoredHeld, Part, Spotted, refused_variable_part, refused_value_part, spotted, object_held, guarded_part, plain_head, behind_head, procedure_part, called_named, variable_named, bound_value, named_spot, field_part, element_part, followed_part, read_part}
+use Rattle.aos_check_expr.proofs.Entities.{MayFind, IsStoredHeld, Part, Denoted, refused_variable_part, refused_value_part, denoted, object_held, guarded_part, plain_head, behind_head, procedure_part, called_named, variable_named, bound_value, named_entity, field_part, element_part, followed_part, read_part}
 use Rattle.aos_check_expr.proofs.Passed.{invoked_part}
 use Rattle.aos_check_expr.proofs.Tested.{objects_part, procedures_part, tested_part}
 use Rattle.aos_check_expr.proofs.CallParts.{Parts, called_part}
 use Rattle.aos_check_expr.proofs.Worded.{first_below, texts_part}
-pub use Rattle.aos_check_expr.proofs.Spots.{IsTyped, GoodConstants, IsWhole, IsSoundSpot}
+pub use Rattle.aos_check_expr.proofs.Entities.{IsTyped, GoodConstants, IsWhole, IsSoundEntity}
 pub use Rattle.aos_check_expr.proofs.Worded.{characters_are, text_rows_are}
 pub use Rattle.aos_check_expr.proofs.Passed.{arguments_part}
 
@@ -64,8 +64,8 @@ module _ (p : Inside) (e : Env) (good : GoodConstants e) where
   abbrev IsFine : Judged Answer → Type 0
   IsFine = Holds (Part p e)
 
-  abbrev pub IsFineSpot : Judged Spot → Type 0
-  IsFineSpot = Holds (Spotted p e)
+  abbrev pub IsFineEntity : Judged Entity → Type 0
+  IsFineEntity = Holds (Denoted p e)
 
   abbrev AreFine : Judged Answer → Type 0
   AreFine = Holds (Elements p e)
@@ -76,51 +76,51 @@ module _ (p : Inside) (e : Env) (good : GoodConstants e) where
   -- what a designator is so far
   abbrev pub Parted : judge.Part → Type 0
   Parted (judge.Begun h) = MayFind p e h.found
-  Parted (judge.Meant a) = Spotted p e a
+  Parted (judge.Meant a) = Denoted p e a
   Parted (judge.Waits b) = IsBound p e b
 
   abbrev IsFinePart : Judged judge.Part → Type 0
   IsFinePart = Holds Parted
 
-  part_of : (j : Judged Spot) → IsFineSpot j → IsFinePart (judge.as_part j)
-  part_of j h = holds_bind (Spotted p e) Parted j (λ a. kept (judge.Meant a)) h (λ a x none. x)
+  part_of : (j : Judged Entity) → IsFineEntity j → IsFinePart (judge.as_part j)
+  part_of j h = holds_bind (Denoted p e) Parted j (λ a. kept (judge.Meant a)) h (λ a x none. x)
 
   -- a method that isn't called
-  unbound_of : (c : Callee) (h : Heading) (first : Pos) → (IsWhole p e → IsCalling p e c h) → IsFineSpot (judge.unbound e (record { callee = c; heading = h; first = first }))
-  unbound_of c (heading.OfType t) first calling = spotted p e first (desig.refused_value 36 first) (refused_value_part p e 36 first)
+  unbound_of : (c : Callee) (h : Heading) (first : Pos) → (IsWhole p e → IsCalling p e c h) → IsFineEntity (judge.unbound e (record { callee = c; heading = h; first = first }))
+  unbound_of c (heading.OfType t) first calling = denoted p e first (desig.refused_value 36 first) (refused_value_part p e 36 first)
   unbound_of c (heading.Declared m k) first calling = by (judge.value_called c) refl
     where
-      by : (o : Option TypedExpr) → judge.value_called c ≡ o → IsFineSpot (judge.unbound e (record { callee = c; heading = heading.Declared m k; first = first }))
-      by None is = rw is (spotted p e first (desig.refused_value 36 first) (refused_value_part p e 36 first))
+      by : (o : Option TypedExpr) → judge.value_called c ≡ o → IsFineEntity (judge.unbound e (record { callee = c; heading = heading.Declared m k; first = first }))
+      by None is = rw is (denoted p e first (desig.refused_value 36 first) (refused_value_part p e 36 first))
       by (Some x) is = rw is (procedure_part p e m k x first first (λ whole. called_named p e c x m k is (calling whole)))
 
-  unbound_fine : (b : judge.Bound) → IsBound p e b → IsFineSpot (judge.unbound e b)
+  unbound_fine : (b : judge.Bound) → IsBound p e b → IsFineEntity (judge.unbound e b)
   unbound_fine b calling = unbound_of b.callee b.heading b.first calling
 
-  named_fine : (h : Head) → MayFind p e h.found → (o : Option judge.Bound) → judge.own_method e h ≡ o → IsFineSpot (judge.named_or_bound e h o)
-  named_fine h may None found = named_spot p e good h may
+  named_fine : (h : Head) → MayFind p e h.found → (o : Option judge.Bound) → judge.own_method e h ≡ o → IsFineEntity (judge.named_or_bound e h o)
+  named_fine h may None found = named_entity p e good h may
   named_fine h may (Some b) found = unbound_fine b (λ whole. own_calling p e whole h b found)
 
-  pub spot_fine : (a : judge.Part) → Parted a → IsFineSpot (judge.spot_of_part e a)
-  spot_fine (judge.Begun h) may = named_fine h may (judge.own_method e h) refl
-  spot_fine (judge.Meant a) x = λ none. x
-  spot_fine (judge.Waits b) x = unbound_fine b x
+  pub entity_fine : (a : judge.Part) → Parted a → IsFineEntity (judge.entity_of_part e a)
+  entity_fine (judge.Begun h) may = named_fine h may (judge.own_method e h) refl
+  entity_fine (judge.Meant a) x = λ none. x
+  entity_fine (judge.Waits b) x = unbound_fine b x
 
-  selected_name_fine : (q : Pos) (h : Head) → MayFind p e h.found → IsFineSpot (judge.selected_name e q h)
+  selected_name_fine : (q : Pos) (h : Head) → MayFind p e h.found → IsFineEntity (judge.selected_name e q h)
   selected_name_fine q h may = by (judge.is_callable h.found)
     where
-      by : (b : Bool) → IsFineSpot (if b then desig.spotted h.first (desig.refused_variable 42 q) else desig.named e h)
-      by true = spotted p e h.first (desig.refused_variable 42 q) (refused_variable_part p e 42 q)
-      by false = named_spot p e good h may
+      by : (b : Bool) → IsFineEntity (if b then desig.denoted h.first (desig.refused_variable 42 q) else desig.named e h)
+      by true = denoted p e h.first (desig.refused_variable 42 q) (refused_variable_part p e 42 q)
+      by false = named_entity p e good h may
 
-  selected_fine : (q : Pos) (a : judge.Part) → Parted a → IsFineSpot (judge.selected e q a)
+  selected_fine : (q : Pos) (a : judge.Part) → Parted a → IsFineEntity (judge.selected e q a)
   selected_fine q (judge.Begun h) may = selected_name_fine q h may
   selected_fine q (judge.Meant a) x = λ none. x
-  selected_fine q (judge.Waits b) x = spotted p e b.first (desig.refused_variable 42 q) (refused_variable_part p e 42 q)
+  selected_fine q (judge.Waits b) x = denoted p e b.first (desig.refused_variable 42 q) (refused_variable_part p e 42 q)
 
   -- a method of an object, or a field
-  pointed_spot_fine : (first : Pos) (a : Spot) → Spotted p e a → (q : Pos) (n : Name) → IsFinePart (judge.pointed_spot e first a q n)
-  pointed_spot_fine first a x q n = by a.known.of refl (judge.method_of e a.known.of n) refl
+  pointed_entity_fine : (first : Pos) (a : Entity) → Denoted p e a → (q : Pos) (n : Name) → IsFinePart (judge.pointed_entity e first a q n)
+  pointed_entity_fine first a x q n = by a.known.of refl (judge.method_of e a.known.of n) refl
     where
       plain : IsFinePart (judge.as_part (desig.field e a q n))
       plain = part_of (desig.field e a q n) (field_part p e a x q n)
@@ -131,9 +131,9 @@ module _ (p : Inside) (e : Env) (good : GoodConstants e) where
           dispatched_calling p e whole t (read_from a.known.of a.held) m n (object_held p e whole a x t known two.0) (object_type_row p e whole t two.0).1 two.1
 
       seen : (t : TypeId) (m : Method) → IsBound p e (judge.dispatched first (read_from a.known.of a.held) t m) → (b : Bool) →
-          IsFinePart (if b then kept (judge.Waits (judge.dispatched first (read_from a.known.of a.held) t m)) else judge.as_part (desig.spotted n.pos (desig.refused_variable 15 n.pos)))
+          IsFinePart (if b then kept (judge.Waits (judge.dispatched first (read_from a.known.of a.held) t m)) else judge.as_part (desig.denoted n.pos (desig.refused_variable 15 n.pos)))
       seen t m bound true = λ none. bound
-      seen t m bound false = part_of (desig.spotted n.pos (desig.refused_variable 15 n.pos)) (spotted p e n.pos (desig.refused_variable 15 n.pos) (refused_variable_part p e 15 n.pos))
+      seen t m bound false = part_of (desig.denoted n.pos (desig.refused_variable 15 n.pos)) (denoted p e n.pos (desig.refused_variable 15 n.pos) (refused_variable_part p e 15 n.pos))
 
       by : (of : Option TypeId) → a.known.of ≡ of → (o : Option Method) → judge.method_of e a.known.of n ≡ o → IsFinePart (judge.pointed_as e first a q n of o)
       by None known None found = plain
@@ -147,30 +147,30 @@ module _ (p : Inside) (e : Env) (good : GoodConstants e) where
     where
       by : (b : Bool) → IsFinePart (if b then kept (judge.Begun (desig.member_behind e h n)) else judge.pointed_name e first h q n)
       by true = λ none. behind_head p e h.found n
-      by false = holds_bind (Spotted p e) Parted (judge.selected_name e q h) (λ a. judge.pointed_spot e first a q n) (selected_name_fine q h may) (λ a x. pointed_spot_fine first a x q n)
-  pointed_fine first (judge.Meant a) x q n = pointed_spot_fine first a x q n
+      by false = holds_bind (Denoted p e) Parted (judge.selected_name e q h) (λ a. judge.pointed_entity e first a q n) (selected_name_fine q h may) (λ a x. pointed_entity_fine first a x q n)
+  pointed_fine first (judge.Meant a) x q n = pointed_entity_fine first a x q n
   pointed_fine first (judge.Waits b) x q n = part_of (judge.selected e q (judge.Waits b)) (selected_fine q (judge.Waits b) x)
 
-  followed_spot_fine : (a : judge.Part) → Parted a → (q : Pos) → IsFinePart (judge.followed_spot e a q)
-  followed_spot_fine a may q =
+  followed_entity_fine : (a : judge.Part) → Parted a → (q : Pos) → IsFinePart (judge.followed_entity e a q)
+  followed_entity_fine a may q =
       part_of (bind (judge.selected e q a) (λ b. desig.followed e b q))
-      (holds_bind (Spotted p e) (Spotted p e) (judge.selected e q a) (λ b. desig.followed e b q) (selected_fine q a may) (λ b x. followed_part p e b x q))
+      (holds_bind (Denoted p e) (Denoted p e) (judge.selected e q a) (λ b. desig.followed e b q) (selected_fine q a may) (λ b x. followed_part p e b x q))
 
   raised_fine : (h : Head) (q : Pos) → IsFinePart (judge.raised e h q)
   raised_fine h q = by (judge.upper_here e h) refl
     where
       by : (o : Option judge.Bound) → judge.upper_here e h ≡ o → IsFinePart (judge.raised_to o h.first q)
-      by None found = part_of (desig.spotted h.first (desig.refused_variable 46 q)) (spotted p e h.first (desig.refused_variable 46 q) (refused_variable_part p e 46 q))
+      by None found = part_of (desig.denoted h.first (desig.refused_variable 46 q)) (denoted p e h.first (desig.refused_variable 46 q) (refused_variable_part p e 46 q))
       by (Some b) found = λ none whole. raised_calling p e whole h b found
 
   followed_part_fine : (a : judge.Part) → Parted a → (q : Pos) → IsFinePart (judge.followed_part e a q)
   followed_part_fine (judge.Begun h) may q = by (judge.is_method h.found)
     where
-      by : (b : Bool) → IsFinePart (if b then judge.raised e h q else judge.followed_spot e (judge.Begun h) q)
+      by : (b : Bool) → IsFinePart (if b then judge.raised e h q else judge.followed_entity e (judge.Begun h) q)
       by true = raised_fine h q
-      by false = followed_spot_fine (judge.Begun h) may q
-  followed_part_fine (judge.Meant a) x q = followed_spot_fine (judge.Meant a) x q
-  followed_part_fine (judge.Waits b) x q = followed_spot_fine (judge.Waits b) x q
+      by false = followed_entity_fine (judge.Begun h) may q
+  followed_part_fine (judge.Meant a) x q = followed_entity_fine (judge.Meant a) x q
+  followed_part_fine (judge.Waits b) x q = followed_entity_fine (judge.Waits b) x q
 
   -- a bracket behind it
   bound_head_fine : (h : Head) → MayFind p e h.found → (b : judge.Bound) → judge.bound_head e h ≡ Some b → IsBound p e b
@@ -196,13 +196,13 @@ module _ (p : Inside) (e : Env) (good : GoodConstants e) where
   bracketed_as_fine first (judge.Begun h) may q js parts xs many = by (desig.is_module h.found)
     where
       by : (b : Bool) → IsFinePart (if b then judge.as_part (desig.named e h) else judge.as_part (judge.called e h q js xs))
-      by true = part_of (desig.named e h) (named_spot p e good h may)
+      by true = part_of (desig.named e h) (named_entity p e good h may)
       by false = part_of (judge.called e h q js xs) (called_part p e good h may q js parts xs many)
   bracketed_as_fine first (judge.Meant a) x q js parts xs many =
       part_of (desig.guarded e first q a (judge.guard_type e xs)) (guarded_part p e first q a x (judge.guard_type e xs))
   bracketed_as_fine first (judge.Waits b) x q js parts xs many =
       let j = judge.invoked e b.first b.callee b.heading js xs in
-      part_of (desig.spotted b.first j) (spotted p e b.first j (invoked_part p e b.first b.callee b.heading x js parts xs many))
+      part_of (desig.denoted b.first j) (denoted p e b.first j (invoked_part p e b.first b.callee b.heading x js parts xs many))
 
   pub bracketed_fine : (first : Pos) (a : judge.Part) → Parted a → (q : Pos) (js : List (Judged Answer)) → Parts p e js → (xs : List Expr) → length js ≡ length xs → IsFinePart (judge.bracketed e first a q js xs)
   bracketed_fine first a x q js parts xs many = bracketed_as_fine first (judge.bound_part e first a) (bound_fine first a x) q js parts xs many
@@ -261,8 +261,8 @@ module _ (p : Inside) (e : Env) (good : GoodConstants e) where
     factor_fine (f.Desig' n shape row) =
         let begun = judge.Begun (desig.plain e n) in
         let j = judge.selectors e n.pos begun row in
-        holds_bind (Spotted p e) (Part p e) (bind j (judge.spot_of_part e)) (desig.read e)
-        (holds_bind Parted (Spotted p e) j (judge.spot_of_part e) (selectors_fine n.pos begun (plain_head p e n) row) spot_fine) (read_part p e)
+        holds_bind (Denoted p e) (Part p e) (bind j (judge.entity_of_part e)) (desig.read e)
+        (holds_bind Parted (Denoted p e) j (judge.entity_of_part e) (selectors_fine n.pos begun (plain_head p e n) row) entity_fine) (read_part p e)
     factor_fine (f.Number q n) = number_part p e (if_within W64 n) (within_if W64 n) q
     factor_fine (f.Char q n) = character_part p e (natural 256 n) (natural_below 256 n) q
     factor_fine (f.Text t) = string_part p e (text_constant e t.start) (first_below e t.start) t.pos
@@ -303,15 +303,15 @@ module _ (p : Inside) (e : Env) (good : GoodConstants e) where
     selector_fine first a h (s.Field q n) = pointed_fine first a h q n
     selector_fine first a h (s.Index' q shape row) =
         part_of (bind (judge.selected e q a) (λ b. judge.indices e q b row))
-        (holds_bind (Spotted p e) (Spotted p e) (judge.selected e q a) (λ b. judge.indices e q b row) (selected_fine q a h) (λ b k. indices_fine q b k row))
+        (holds_bind (Denoted p e) (Denoted p e) (judge.selected e q a) (λ b. judge.indices e q b row) (selected_fine q a h) (λ b k. indices_fine q b k row))
     selector_fine first a h (s.Follow q) = followed_part_fine a h q
     selector_fine first a h (s.Paren' q shape row) = bracketed_fine first a h q (judge.arguments e row) (arguments_fine row) (items-the_row-Expr _ row) (as_many row)
 
-    indices_fine : {m : _} (at : Pos) (a : Spot) → Spotted p e a → (r : Row_of-Expr m) → IsFineSpot (judge.indices e at a r)
+    indices_fine : {m : _} (at : Pos) (a : Entity) → Denoted p e a → (r : Row_of-Expr m) → IsFineEntity (judge.indices e at a r)
     indices_fine at a h end_of-Expr = λ none. h
     indices_fine at a h (more_of-Expr x xs) =
-        holds_bind (Spotted p e) (Spotted p e) (bind (judge.expr e x) (λ i. desig.element e at a i)) (λ b. judge.indices e at b xs)
-        (holds_bind (Part p e) (Spotted p e) (judge.expr e x) (λ i. desig.element e at a i) (expr_fine x) (λ i k. element_part p e a h at i k))
+        holds_bind (Denoted p e) (Denoted p e) (bind (judge.expr e x) (λ i. desig.element e at a i)) (λ b. judge.indices e at b xs)
+        (holds_bind (Part p e) (Denoted p e) (judge.expr e x) (λ i. desig.element e at a i) (expr_fine x) (λ i k. element_part p e a h at i k))
         (λ b k. indices_fine at b k xs)
 
     arguments_fine : {m : _} (r : Row_of-Expr m) → Parts p e (judge.arguments e r)
@@ -319,19 +319,19 @@ module _ (p : Inside) (e : Env) (good : GoodConstants e) where
     arguments_fine (more_of-Expr x xs) = (expr_fine x, arguments_fine xs)
 
   -- a designator, by the list of its selectors
-  designator_fine : (d : Desig) → IsFineSpot (judge.designator e d)
+  designator_fine : (d : Desig) → IsFineEntity (judge.designator e d)
   designator_fine d =
       let begun = judge.Begun (desig.plain e d.name) in
       let step = judge.selector e d.name.pos in
-      holds_bind Parted (Spotted p e) (walk step begun d.selectors) (judge.spot_of_part e)
-      (holds_walk Parted step (λ a x h. selector_fine d.name.pos a h x) d.selectors begun (plain_head p e d.name)) spot_fine
+      holds_bind Parted (Denoted p e) (walk step begun d.selectors) (judge.entity_of_part e)
+      (holds_walk Parted step (λ a x h. selector_fine d.name.pos a h x) d.selectors begun (plain_head p e d.name)) entity_fine
 
 -- The law.
 
 pub expr_sound : (p : Inside) (e : Env) → IsWhole p e → (x : Expr) → Holds (IsSound p) (judge.expr e x)
 expr_sound p e whole x none = (expr_fine p e whole.constants x none).sound whole
 
-pub designator_sound : (p : Inside) (e : Env) → IsWhole p e → (d : Desig) → Holds (IsSoundSpot p e) (judge.designator e d)
+pub designator_sound : (p : Inside) (e : Env) → IsWhole p e → (d : Desig) → Holds (IsSoundEntity p e) (judge.designator e d)
 designator_sound p e whole d none = (designator_fine p e whole.constants d none).sound whole
 
 -- what a designator is behind some of its selectors, and behind a bracket

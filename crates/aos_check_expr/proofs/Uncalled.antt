@@ -58,7 +58,7 @@ use Rattle.aos_operators.specs.declared.operations.Joint.{Joint}
 use Rattle.aos_operators.specs.declared.operations.Joint.TheVariants as joint
 use Rattle.aos_operators.specs.declared.operations.Step.{Step}
 use Rattle.aos_operators.specs.declared.operations.Operation.{Operation}
-use Rattle.aos_known.specs.Known.{Answer, Spot, Held, Stands, Value, read_from, type_as, typed_as, is_basic, is_nil, is_number, as_procedure}
+use Rattle.aos_known.specs.Known.{Answer, Entity, Held, Stands, Value, read_from, type_as, typed_as, is_basic, is_nil, is_number, as_procedure}
 use Rattle.aos_operators.specs.Operations as op
 use Rattle.aos_arguments.specs.declared.functions.Taking.TheVariants as taking
 use Rattle.aos_arguments.specs.Arguments.{Given}
@@ -77,7 +77,7 @@ abbrev IsCalmHeld : Held → Type 0
 IsCalmHeld (Stands p) = HasNoCallsInPlace p
 IsCalmHeld (Value x) = HasNoCalls x
 
-abbrev IsCalm : Spot → Type 0
+abbrev IsCalm : Entity → Type 0
 IsCalm a = IsCalmHeld a.held
 
 abbrev IsCalmCallee : Callee → Type 0
@@ -94,8 +94,8 @@ IsCalmPart (judge.Waits b) = IsCalmCallee b.callee
 abbrev IsCalmTyped : Judged Answer → Type 0
 IsCalmTyped j = Calm j.answer
 
-abbrev IsCalmSpot : Judged Spot → Type 0
-IsCalmSpot j = IsCalm j.answer
+abbrev IsCalmEntity : Judged Entity → Type 0
+IsCalmEntity j = IsCalm j.answer
 
 abbrev IsCalmBehind : Judged judge.Part → Type 0
 IsCalmBehind j = IsCalmPart j.answer
@@ -108,8 +108,8 @@ either P true x y p q = p
 either P false x y p q = q
 
 -- a designator of this type and class
-abbrev spot : Option TypeId → Class → Held → Pos → Spot
-spot of c h at = record { known = record { of = of; class = c }; held = h; at = at }
+abbrev entity : Option TypeId → Class → Held → Pos → Entity
+entity of c h at = record { known = record { of = of; class = c }; held = h; at = at }
 
 typed_calm : (c : Class) (x : Expr) → HasNoCalls x → HasNoCalls (typed_as c x)
 typed_calm (Constant (Some v)) x calm = tt
@@ -180,60 +180,60 @@ string_calm (Some t) at = tt
 module _ (e : Env) where
   -- Parts of variables, and guards.
 
-  part_calm : (may : Bool) (of : Option TypeId) (part : Place → Place) (at : Pos) (a : Spot) → ((p : Place) → HasNoCallsInPlace p → HasNoCallsInPlace (part p)) →
-      IsCalm a → IsCalm (desig.part_spot may of part at a)
+  part_calm : (may : Bool) (of : Option TypeId) (part : Place → Place) (at : Pos) (a : Entity) → ((p : Place) → HasNoCallsInPlace p → HasNoCallsInPlace (part p)) →
+      IsCalm a → IsCalm (desig.part_entity may of part at a)
   part_calm may of part at a each = by a.held
     where
       by : (h : Held) → IsCalmHeld h → IsCalmHeld (desig.part_held part h)
       by (Stands p) calm = each p calm
       by (Value x) calm = calm
 
-  followed_calm : (u : TypeId) (a : Spot) → IsCalm a → IsCalm (desig.followed_spot e u a)
+  followed_calm : (u : TypeId) (a : Entity) → IsCalm a → IsCalm (desig.followed_entity e u a)
   followed_calm u a calm =
       let x = read_calm a.known.of a.held calm in
       either HasNoCallsInPlace (desig.is_opened e u) _ _ x x
 
-  through_calm : (of : Option TypeId) (c : Class) (h : Held) (at : Pos) → IsCalmHeld h → IsCalm (desig.through e (spot of c h at))
+  through_calm : (of : Option TypeId) (c : Class) (h : Held) (at : Pos) → IsCalmHeld h → IsCalm (desig.through e (entity of c h at))
   through_calm None c h at calm = calm
   through_calm (Some t) c h at calm = by (desig.pointed e t) refl
     where
-      by : (o : Option TypeId) → desig.pointed e t ≡ o → IsCalm (desig.through e (spot (Some t) c h at))
+      by : (o : Option TypeId) → desig.pointed e t ≡ o → IsCalm (desig.through e (entity (Some t) c h at))
       by None is = rw is calm
-      by (Some u) is = rw is (followed_calm u (spot (Some t) c h at) calm)
+      by (Some u) is = rw is (followed_calm u (entity (Some t) c h at) calm)
 
   lacking_calm : (t : TypeId) (at : Pos) → IsCalm (desig.lacking e t at).answer
   lacking_calm t at = tt
 
-  followed_answer : (of : Option TypeId) (c : Class) (h : Held) (at p : Pos) → IsCalmHeld h → IsCalm (desig.followed e (spot of c h at) p).answer
+  followed_answer : (of : Option TypeId) (c : Class) (h : Held) (at p : Pos) → IsCalmHeld h → IsCalm (desig.followed e (entity of c h at) p).answer
   followed_answer None c h at p calm = calm
   followed_answer (Some t) c h at p calm = by (desig.pointed e t)
     where
-      by : (o : Option TypeId) → IsCalm (desig.followed_type e (spot (Some t) c h at) p t o).answer
+      by : (o : Option TypeId) → IsCalm (desig.followed_type e (entity (Some t) c h at) p t o).answer
       by None = tt
-      by (Some u) = followed_calm u (spot (Some t) c h at) calm
+      by (Some u) = followed_calm u (entity (Some t) c h at) calm
 
-  guarded_calm : (t : TypeId) (of : Option TypeId) (c : Class) (h : Held) (at : Pos) → IsCalmHeld h → IsCalm (desig.guarded_spot e t (spot of c h at))
+  guarded_calm : (t : TypeId) (of : Option TypeId) (c : Class) (h : Held) (at : Pos) → IsCalmHeld h → IsCalm (desig.guarded_entity e t (entity of c h at))
   guarded_calm t None c h at calm = calm
   guarded_calm t (Some of) c h at calm =
       either IsCalm (desig.is_record_type e of) _ _ (record_calm h calm) (read_calm (Some of) h calm)
     where
-      record_calm : (h : Held) → IsCalmHeld h → IsCalm (desig.guarded_record t (spot (Some of) c h at))
+      record_calm : (h : Held) → IsCalmHeld h → IsCalm (desig.guarded_record t (entity (Some of) c h at))
       record_calm (Stands p) calm = calm
       record_calm (Value x) calm = calm
 
-  guarded_with_calm : (t : Option TypeId) (a : Spot) → IsCalm a → IsCalm (desig.guarded_with e t a)
+  guarded_with_calm : (t : Option TypeId) (a : Entity) → IsCalm a → IsCalm (desig.guarded_with e t a)
   guarded_with_calm None a calm = calm
   guarded_with_calm (Some t) a calm = guarded_calm t a.known.of a.known.class a.held a.at calm
 
-  guard_calm : (at : Pos) (a : Spot) (t : Option TypeId) → IsCalm a → IsCalm (desig.guard e at a t).answer
-  guard_calm at a t calm = either IsCalmSpot (desig.may_test e (desig.is_passed (desig.place_of a.held)) a.known.of t) _ _ (guarded_with_calm t a calm) tt
+  guard_calm : (at : Pos) (a : Entity) (t : Option TypeId) → IsCalm a → IsCalm (desig.guard e at a t).answer
+  guard_calm at a t calm = either IsCalmEntity (desig.may_test e (desig.is_passed (desig.place_of a.held)) a.known.of t) _ _ (guarded_with_calm t a calm) tt
 
   bracket_calm : (first p : Pos) (of : Option TypeId) (c : Class) (h : Held) (at : Pos) (t : Option (Option TypeId)) → IsCalmHeld h →
-      IsCalm (desig.guarded e first p (spot of c h at) t).answer
+      IsCalm (desig.guarded e first p (entity of c h at) t).answer
   bracket_calm first p None c h at t calm = calm
   bracket_calm first p (Some of) c h at None calm = tt
   bracket_calm first p (Some of) c h at (Some None) calm = tt
-  bracket_calm first p (Some of) c h at (Some (Some t)) calm = guard_calm p (spot (Some of) c h at) (Some t) calm
+  bracket_calm first p (Some of) c h at (Some (Some t)) calm = guard_calm p (entity (Some of) c h at) (Some t) calm
 
   -- Variables.
 
@@ -261,24 +261,24 @@ module _ (e : Env) where
       either HasNoCallsInPlace (desig.is_of_module x) _ _ tt
       (either HasNoCallsInPlace (desig.is_own_scope e x.at) _ _ (own_calm k) (declared_calm e.self_type (env.object_at e x.at) k))
 
-  narrowed_calm : (x : Symbol) (k : ℕ) (vs : List Narrowed) (a : Spot) → IsCalm a → IsCalm (fold (desig.narrowed_by e x k) a vs)
+  narrowed_calm : (x : Symbol) (k : ℕ) (vs : List Narrowed) (a : Entity) → IsCalm a → IsCalm (fold (desig.narrowed_by e x k) a vs)
   narrowed_calm x k [] a calm = calm
   narrowed_calm x k (v ∷ vs) a calm =
       narrowed_calm x k vs (desig.narrowed_by e x k a v)
       (either IsCalm (desig.is_narrowed x k v) _ _ (guarded_calm v.of a.known.of a.known.class a.held a.at calm) calm)
 
-  variable_spot_calm : (x : Symbol) (k : ℕ) (at : Pos) → IsCalm (desig.variable_spot e x k at)
-  variable_spot_calm x k at = narrowed_calm x k e.narrowed (desig.variable e x k at) (variable_calm x k at)
+  variable_entity_calm : (x : Symbol) (k : ℕ) (at : Pos) → IsCalm (desig.variable_entity e x k at)
+  variable_entity_calm x k at = narrowed_calm x k e.narrowed (desig.variable e x k at) (variable_calm x k at)
 
   constant_calm : (v : Option (Option Literal)) (at : Pos) → Calm (desig.constant_of v at).answer
   constant_calm None at = tt
   constant_calm (Some None) at = tt
   constant_calm (Some (Some v)) at = tt
 
-  procedure_calm : (m k : ℕ) (x : Expr) (first at : Pos) → HasNoCalls x → IsCalm (desig.procedure_spot e m k x first at).answer
+  procedure_calm : (m k : ℕ) (x : Expr) (first at : Pos) → HasNoCalls x → IsCalm (desig.procedure_entity e m k x first at).answer
   procedure_calm m k x first at calm = by (env.signature e m k) refl
     where
-      by : (o : Option Signature) → env.signature e m k ≡ o → IsCalm (desig.procedure_spot e m k x first at).answer
+      by : (o : Option Signature) → env.signature e m k ≡ o → IsCalm (desig.procedure_entity e m k x first at).answer
       by None is = rw is tt
       by (Some g) is = rw is calm
 
@@ -287,10 +287,10 @@ module _ (e : Env) where
   self_calm (Some t) at = tt
 
   meant_calm : (x : Symbol) (m : Meaning) (h : Head) → IsCalm (desig.meant e x m h).answer
-  meant_calm x (means.Variable k) h = variable_spot_calm x k h.name.pos
+  meant_calm x (means.Variable k) h = variable_entity_calm x k h.name.pos
   meant_calm x (means.Constant k) h = constant_calm (env.constant e x.at k h.first) h.name.pos
   meant_calm x (means.Procedure k) h =
-      either IsCalmSpot (desig.is_of_module x) _ _
+      either IsCalmEntity (desig.is_of_module x) _ _
       (procedure_calm x.at.home k (ProcedureOf x.at.home k) h.first h.name.pos tt) tt
   meant_calm x means.Itself h = self_calm e.self_type h.name.pos
   meant_calm x m h = tt
@@ -305,36 +305,36 @@ module _ (e : Env) where
 
   -- Fields and elements.
 
-  field_spot_calm : (t : TypeId) (g : Field) (at : Pos) (a : Spot) → IsCalm a → IsCalm (desig.field_spot e t g at a)
-  field_spot_calm t g at a calm =
+  field_entity_calm : (t : TypeId) (g : Field) (at : Pos) (a : Entity) → IsCalm a → IsCalm (desig.field_entity e t g at a)
+  field_entity_calm t g at a calm =
       either IsCalm (desig.is_object_type e t) _ _ (read_calm a.known.of a.held calm)
       (part_calm (desig.may_write g) g.of (λ p. FieldOf p (type_as t) g.number) at a (λ p calm. calm) calm)
 
-  field_found_calm : (a : Spot) (p : Pos) (n : Name) (t : TypeId) (o : Option Field) → IsCalm a → IsCalm (desig.field_found e a p n t o).answer
+  field_found_calm : (a : Entity) (p : Pos) (n : Name) (t : TypeId) (o : Option Field) → IsCalm a → IsCalm (desig.field_found e a p n t o).answer
   field_found_calm a p n t None calm = tt
-  field_found_calm a p n t (Some g) calm = either IsCalmSpot (g.is_own || is_some g.mark) _ _ (field_spot_calm t g n.pos a calm) tt
+  field_found_calm a p n t (Some g) calm = either IsCalmEntity (g.is_own || is_some g.mark) _ _ (field_entity_calm t g n.pos a calm) tt
 
-  field_of_calm : (of : Option TypeId) (c : Class) (h : Held) (at p : Pos) (n : Name) → IsCalmHeld h → IsCalm (desig.field_of e (spot of c h at) p n).answer
+  field_of_calm : (of : Option TypeId) (c : Class) (h : Held) (at p : Pos) (n : Name) → IsCalmHeld h → IsCalm (desig.field_of e (entity of c h at) p n).answer
   field_of_calm None c h at p n calm = calm
   field_of_calm (Some t) c h at p n calm =
-      either IsCalmSpot (desig.has_fields e t) _ _ (field_found_calm (spot (Some t) c h at) p n t (env.field e t n) calm) tt
+      either IsCalmEntity (desig.has_fields e t) _ _ (field_found_calm (entity (Some t) c h at) p n t (env.field e t n) calm) tt
 
-  field_calm : (a : Spot) (p : Pos) (n : Name) → IsCalm a → IsCalm (desig.field e a p n).answer
+  field_calm : (a : Entity) (p : Pos) (n : Name) → IsCalm a → IsCalm (desig.field e a p n).answer
   field_calm a p n calm =
       let b = desig.through e a in
       field_of_calm b.known.of b.known.class b.held b.at p n (through_calm a.known.of a.known.class a.held a.at calm)
 
-  row_calm : (p : Pos) (a : Spot) (i : Answer) (t : TypeId) (o : Option TypeRow) → IsCalm a → Calm i → IsCalm (desig.element_in_row e p a i t o).answer
-  row_calm p a i t (Some (row.Array m u)) calm is = either IsCalmSpot (is_number i.known.of) _ _ (part_calm true (Some u) (λ q. Index q m (type_as u) i.typed) a.at a (λ q calm. (calm, is)) calm) tt
-  row_calm p a i t (Some (row.Open u)) calm is = either IsCalmSpot (is_number i.known.of) _ _ (part_calm true (Some u) (λ q. Of (Row (desig.rows_of q) (type_as (open_element e.types t)) i.typed)) a.at a (λ q calm. (rows_calm q calm, is)) calm) tt
+  row_calm : (p : Pos) (a : Entity) (i : Answer) (t : TypeId) (o : Option TypeRow) → IsCalm a → Calm i → IsCalm (desig.element_in_row e p a i t o).answer
+  row_calm p a i t (Some (row.Array m u)) calm is = either IsCalmEntity (is_number i.known.of) _ _ (part_calm true (Some u) (λ q. Index q m (type_as u) i.typed) a.at a (λ q calm. (calm, is)) calm) tt
+  row_calm p a i t (Some (row.Open u)) calm is = either IsCalmEntity (is_number i.known.of) _ _ (part_calm true (Some u) (λ q. Of (Row (desig.rows_of q) (type_as (open_element e.types t)) i.typed)) a.at a (λ q calm. (rows_calm q calm, is)) calm) tt
   row_calm p a i t o calm is = tt
 
-  element_of_calm : (p : Pos) (of : Option TypeId) (c : Class) (h : Held) (at : Pos) (i : Answer) → IsCalmHeld h → Calm i → IsCalm (desig.element_of e p (spot of c h at) i).answer
+  element_of_calm : (p : Pos) (of : Option TypeId) (c : Class) (h : Held) (at : Pos) (i : Answer) → IsCalmHeld h → Calm i → IsCalm (desig.element_of e p (entity of c h at) i).answer
   element_of_calm p None c h at i calm is = calm
   element_of_calm p (Some t) c h at i calm is =
-      either IsCalmSpot (is_basic t) _ _ tt (row_calm p (spot (Some t) c h at) i t (env.row_of e (Some t)) calm is)
+      either IsCalmEntity (is_basic t) _ _ tt (row_calm p (entity (Some t) c h at) i t (env.row_of e (Some t)) calm is)
 
-  element_calm : (p : Pos) (a : Spot) (i : Answer) → IsCalm a → Calm i → IsCalm (desig.element e p a i).answer
+  element_calm : (p : Pos) (a : Entity) (i : Answer) → IsCalm a → Calm i → IsCalm (desig.element e p a i).answer
   element_calm p a i calm is =
       let b = desig.through e a in
       element_of_calm p b.known.of b.known.class b.held b.at i (through_calm a.known.of a.known.class a.held a.at calm) is
@@ -532,28 +532,28 @@ module _ (e : Env) (within : e.is_condition ≡ true) where
       raised None calm = tt
       raised (Some b) calm = calm
 
-  named_part_calm : (h : Head) → IsCalm (judge.spot_of_part e (judge.Begun h)).answer
+  named_part_calm : (h : Head) → IsCalm (judge.entity_of_part e (judge.Begun h)).answer
   named_part_calm h = by (judge.own_method e h) (own_method_calm h)
     where
       by : (o : Option judge.Bound) → MayBeCalm o → IsCalm (judge.named_or_bound e h o).answer
       by None calm = named_calm e h
       by (Some b) calm = unbound_calm b.callee b.heading b.first calm
 
-  spot_calm : (a : judge.Part) → IsCalmPart a → IsCalm (judge.spot_of_part e a).answer
-  spot_calm (judge.Begun h) calm = named_part_calm h
-  spot_calm (judge.Meant a) calm = calm
-  spot_calm (judge.Waits b) calm = unbound_calm b.callee b.heading b.first calm
+  entity_calm : (a : judge.Part) → IsCalmPart a → IsCalm (judge.entity_of_part e a).answer
+  entity_calm (judge.Begun h) calm = named_part_calm h
+  entity_calm (judge.Meant a) calm = calm
+  entity_calm (judge.Waits b) calm = unbound_calm b.callee b.heading b.first calm
 
   selected_name_calm : (p : Pos) (h : Head) → IsCalm (judge.selected_name e p h).answer
-  selected_name_calm p h = either IsCalmSpot (judge.is_callable h.found) _ _ tt (named_calm e h)
+  selected_name_calm p h = either IsCalmEntity (judge.is_callable h.found) _ _ tt (named_calm e h)
 
   selected_calm : (p : Pos) (a : judge.Part) → IsCalmPart a → IsCalm (judge.selected e p a).answer
   selected_calm p (judge.Begun h) calm = selected_name_calm p h
   selected_calm p (judge.Meant a) calm = calm
   selected_calm p (judge.Waits b) calm = tt
 
-  pointed_spot_calm : (first : Pos) (a : Spot) → IsCalm a → (p : Pos) (n : Name) → IsCalmPart (judge.pointed_spot e first a p n).answer
-  pointed_spot_calm first a calm p n = by a.known.of (judge.method_of e a.known.of n)
+  pointed_entity_calm : (first : Pos) (a : Entity) → IsCalm a → (p : Pos) (n : Name) → IsCalmPart (judge.pointed_entity e first a p n).answer
+  pointed_entity_calm first a calm p n = by a.known.of (judge.method_of e a.known.of n)
     where
       by : (of : Option TypeId) (o : Option Method) → IsCalmPart (judge.pointed_as e first a p n of o).answer
       by None o = field_calm e a p n calm
@@ -563,38 +563,38 @@ module _ (e : Env) (within : e.is_condition ≡ true) where
   pointed_calm : (first : Pos) (a : judge.Part) → IsCalmPart a → (p : Pos) (n : Name) → IsCalmPart (judge.pointed e first a p n).answer
   pointed_calm first (judge.Begun h) calm p n =
       either IsCalmBehind (desig.is_module h.found) _ _ tt
-      (pointed_spot_calm first (judge.selected_name e p h).answer (selected_name_calm p h) p n)
-  pointed_calm first (judge.Meant a) calm p n = pointed_spot_calm first a calm p n
+      (pointed_entity_calm first (judge.selected_name e p h).answer (selected_name_calm p h) p n)
+  pointed_calm first (judge.Meant a) calm p n = pointed_entity_calm first a calm p n
   pointed_calm first (judge.Waits b) calm p n = tt
 
-  followed_spot_calm : (a : judge.Part) → IsCalmPart a → (p : Pos) → IsCalmPart (judge.followed_spot e a p).answer
-  followed_spot_calm a calm p =
+  followed_entity_calm : (a : judge.Part) → IsCalmPart a → (p : Pos) → IsCalmPart (judge.followed_entity e a p).answer
+  followed_entity_calm a calm p =
       let b = (judge.selected e p a).answer in
       followed_answer e b.known.of b.known.class b.held b.at p (selected_calm p a calm)
 
   followed_part_calm : (a : judge.Part) → IsCalmPart a → (p : Pos) → IsCalmPart (judge.followed_part e a p).answer
   followed_part_calm (judge.Begun h) calm p =
-      either IsCalmBehind (judge.is_method h.found) _ _ (raised_calm h p) (followed_spot_calm (judge.Begun h) tt p)
-  followed_part_calm (judge.Meant a) calm p = followed_spot_calm (judge.Meant a) calm p
-  followed_part_calm (judge.Waits b) calm p = followed_spot_calm (judge.Waits b) calm p
+      either IsCalmBehind (judge.is_method h.found) _ _ (raised_calm h p) (followed_entity_calm (judge.Begun h) tt p)
+  followed_part_calm (judge.Meant a) calm p = followed_entity_calm (judge.Meant a) calm p
+  followed_part_calm (judge.Waits b) calm p = followed_entity_calm (judge.Waits b) calm p
 
   -- a bracket behind it
-  bound_value_calm : (first : Pos) (of : Option TypeId) (c : Class) (h : Held) (at : Pos) → IsCalmHeld h → MayBeCalm (judge.bound_value e first (spot of c h at))
+  bound_value_calm : (first : Pos) (of : Option TypeId) (c : Class) (h : Held) (at : Pos) → IsCalmHeld h → MayBeCalm (judge.bound_value e first (entity of c h at))
   bound_value_calm first None c h at calm = tt
   bound_value_calm first (Some t) c h at calm = either MayBeCalm (desig.is_procedural e t) _ _ (read_calm (Some t) h calm) tt
 
   bound_head_calm : (h : Head) → MayBeCalm (judge.bound_head e h)
   bound_head_calm h = by (judge.own_method e h) (own_method_calm h)
     where
-      value : (o : Option Spot) → ((a : Spot) → o ≡ Some a → IsCalm a) → MayBeCalm (option_and_then (judge.bound_value e h.first) o)
+      value : (o : Option Entity) → ((a : Entity) → o ≡ Some a → IsCalm a) → MayBeCalm (option_and_then (judge.bound_value e h.first) o)
       value None calm = tt
       value (Some a) calm = bound_value_calm h.first a.known.of a.known.class a.held a.at (calm a refl)
 
-      meant : (x : Symbol) (m : Meaning) (at : Pos) (a : Spot) → desig.variable_meant e x m at ≡ Some a → IsCalm a
-      meant x (means.Variable k) at a is = subst IsCalm (same_Some (desig.variable_spot e x k at) a is) (variable_spot_calm e x k at)
+      meant : (x : Symbol) (m : Meaning) (at : Pos) (a : Entity) → desig.variable_meant e x m at ≡ Some a → IsCalm a
+      meant x (means.Variable k) at a is = subst IsCalm (same_Some (desig.variable_entity e x k at) a is) (variable_entity_calm e x k at)
       meant x m at a is = absurd (none-some a is)
 
-      found : (l : Lookup) (n : Name) (first : Pos) (a : Spot) → desig.variable_named e (record { found = l; name = n; first = first }) ≡ Some a → IsCalm a
+      found : (l : Lookup) (n : Name) (first : Pos) (a : Entity) → desig.variable_named e (record { found = l; name = n; first = first }) ≡ Some a → IsCalm a
       found NoName n first a is = absurd (none-some a is)
       found NotExported n first a is = absurd (none-some a is)
       found (Found x) n first a is = meant x x.means n.pos a is
@@ -663,8 +663,8 @@ module _ (e : Env) (within : e.is_condition ≡ true) where
     factor_calm : (x : Factor) → Calm (judge.factor e x).answer
     factor_calm (f.Desig' n shape row) =
         let a = (judge.selectors e n.pos (judge.Begun (desig.plain e n)) row).answer in
-        let b = (judge.spot_of_part e a).answer in
-        read_calm b.known.of b.held (spot_calm a (selectors_calm n.pos (judge.Begun (desig.plain e n)) tt row))
+        let b = (judge.entity_of_part e a).answer in
+        read_calm b.known.of b.held (entity_calm a (selectors_calm n.pos (judge.Begun (desig.plain e n)) tt row))
     factor_calm (f.Number p n) = number_calm (if_within W64 n) p
     factor_calm (f.Char p n) = character_calm (natural 256 n) p
     factor_calm (f.Text t) = string_calm (env.text_constant e t.start) t.pos
@@ -706,7 +706,7 @@ module _ (e : Env) (within : e.is_condition ≡ true) where
     selector_calm first a calm (s.Paren' p shape row) =
         bracketed_calm first (judge.bound_part e first a) (bound_calm first a calm) p (judge.arguments e row) (arguments_calm row) (items-the_row-Expr _ row)
 
-    indices_calm : {m : _} (at : Pos) (a : Spot) → IsCalm a → (r : Row_of-Expr m) → IsCalm (judge.indices e at a r).answer
+    indices_calm : {m : _} (at : Pos) (a : Entity) → IsCalm a → (r : Row_of-Expr m) → IsCalm (judge.indices e at a r).answer
     indices_calm at a calm end_of-Expr = calm
     indices_calm at a calm (more_of-Expr x xs) =
         indices_calm at (desig.element e at a (judge.expr e x).answer).answer (element_calm e at a (judge.expr e x).answer calm (expr_calm x)) xs

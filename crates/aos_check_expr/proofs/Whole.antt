@@ -40,7 +40,7 @@ use Rattle.aos_symbols.specs.Env.{nil, text}
 use Rattle.aos_symbols.proofs.Each.{Each}
 use Rattle.aos_symbols.proofs.Told.{IsTold, basic as basic_told, of_any, defined, IsKnown, PartsAreTold}
 use Rattle.aos_known.proofs.Inside.{Inside, IsPlaceOf, AreRows, AreVariables}
-use Rattle.aos_known.specs.Known.{Spot, is_basic, object_number, type_as, type_of}
+use Rattle.aos_known.specs.Known.{Entity, is_basic, object_number, type_as, type_of}
 use Rattle.aos_operators.proofs.Good.{HasGood}
 use Rattle.aos_known.proofs.Types.{not_both, id_as}
 use Rattle.aos_arguments.specs.Filled.{filled_texts}
@@ -146,7 +146,7 @@ told_element e opens t told = by (row_of e.types t) refl
     by r is = refl
 
 -- each WITH around a place guards its variable with a type that this may be guarded with
-abbrev pub NarrowsWell : Env → Symbol → ℕ → Spot → List Narrowed → Type 0
+abbrev pub NarrowsWell : Env → Symbol → ℕ → Entity → List Narrowed → Type 0
 NarrowsWell e x k a [] = Unit {0}
 NarrowsWell e x k a (v ∷ vs) =
     (desig.is_narrowed x k v ≡ true → desig.may_test e (desig.is_passed (desig.place_of a.held)) a.known.of (Some v.of) ≡ true)

@@ -52,7 +52,7 @@ use Rattle.aos_check_expr.proofs.Opens.{closed_row, closed_dimensions, closed_el
 use Rattle.aos_check_expr.proofs.Naming.{naming_made}
 use Rattle.aos_check_expr.proofs.Parts.{class_answered, related_texts}
 use Rattle.aos_check_expr.proofs.Objects.{routine_no_parts, IsPartsRow, parts_no_reference}
-use Rattle.aos_check_expr.proofs.Spots.{IsTyped, IsWhole, text_row, no_array, no_open, opened_row, held_place, Part, Valued}
+use Rattle.aos_check_expr.proofs.Entities.{IsTyped, IsWhole, text_row, no_array, no_open, opened_row, held_place, Part, Valued}
 
 -- The first character of a string constant.
 

@@ -42,7 +42,7 @@ use Rattle.aos_symbols.specs.Env as env
 use Rattle.aos_known.specs.declared.known.Class.{Class}
 use Rattle.aos_known.specs.declared.known.Class.TheVariants.{Unknown, Constant, Variable, ReadOnly, Computed, Procedure}
 use Rattle.aos_operators.specs.declared.operations.Step.{Step}
-use Rattle.aos_known.specs.Known.{Answer, Spot, is_boolean, is_integer, constant_answer}
+use Rattle.aos_known.specs.Known.{Answer, Entity, is_boolean, is_integer, constant_answer}
 use Rattle.aos_operators.specs.Operations as op
 pub use Rattle.aos_operators.specs.Forms.{not_yet, number, character, string, added, multiplied, is_test, signed, opposite, with_element, with_span, whole_set, enclosed}
 use Rattle.aos_arguments.specs.declared.functions.Taking.TheVariants as taking
@@ -58,7 +58,7 @@ use Rattle.aos_designators.specs.declared.designators.Head.{Head}
 use Rattle.aos_designators.specs.declared.methods.Heading.{Heading}
 use Rattle.aos_designators.specs.declared.methods.Heading.TheVariants as heading
 use Rattle.aos_designators.specs.Designators as desig
-pub use Rattle.aos_designators.specs.Methods.{Bound, Part, Begun, Meant, Waits, as_part, dispatched, is_method, is_callable, method_on, own_method, upper_method, declares, upper_of, upper_here, raised_to, raised, value_called, unbound, named_or_bound, spot_of_part, selected_name, selected, method_found, method_in, method_of, pointed_as, pointed_spot, pointed_name, pointed, followed_spot, followed_part, through, bound_value, bound_head, bound_or, bound_part}
+pub use Rattle.aos_designators.specs.Methods.{Bound, Part, Begun, Meant, Waits, as_part, dispatched, is_method, is_callable, method_on, own_method, upper_method, declares, upper_of, upper_here, raised_to, raised, value_called, unbound, named_or_bound, entity_of_part, selected_name, selected, method_found, method_in, method_of, pointed_as, pointed_entity, pointed_name, pointed, followed_entity, followed_part, through, bound_value, bound_head, bound_or, bound_part}
 
 -- An expression that is a designator.
 
@@ -164,18 +164,18 @@ callee (Found x) = callee_meant x x.means
 
 -- a bracket behind what can't be called: behind a type that has no conversion, or behind a variable or a value, of which it may be a
 -- guard
-abbrev pub not_called : Env → Head → Pos → List Expr → Judged Spot
+abbrev pub not_called : Env → Head → Pos → List Expr → Judged Entity
 not_called e h at args = by_lookup h.found
   where
-    by_value : Judged Spot → Judged Spot
+    by_value : Judged Entity → Judged Entity
     by_value j = bind j (λ a. desig.guarded e h.first at a (guard_type e args))
 
-    by_meaning : Meaning → Judged Spot
-    by_meaning (means.Type None) = desig.spotted h.first (desig.refused 99 h.first)
-    by_meaning (means.Type (Some t)) = desig.spotted h.first (desig.refused 36 h.first)
+    by_meaning : Meaning → Judged Entity
+    by_meaning (means.Type None) = desig.denoted h.first (desig.refused 99 h.first)
+    by_meaning (means.Type (Some t)) = desig.denoted h.first (desig.refused 36 h.first)
     by_meaning m = by_value (desig.named e h)
 
-    by_lookup : Lookup → Judged Spot
+    by_lookup : Lookup → Judged Entity
     by_lookup NoName = by_value (desig.named e h)
     by_lookup NotExported = by_value (desig.named e h)
     by_lookup (Found x) = by_meaning x.means
@@ -238,13 +238,13 @@ function_called e function.Len first js xs = len_of e first js xs
 function_called e function.Ash first js xs = two_of first js xs
 function_called e f first js xs = one_of (step_in (taking.By f)) first js xs
 
-abbrev pub called_by : Env → Callee → Head → Pos → List (Judged Answer) → List Expr → Judged Spot
-called_by e (Calls f) h at js xs = desig.spotted h.first (function_called e f h.first js xs)
-called_by e (Invokes m k) h at js xs = desig.spotted h.first (invoked e h.first (Plain m k) (heading.Declared m k) js xs)
-called_by e (Converts t) h at js xs = desig.spotted h.first (one_of (step_in (taking.Into t)) h.first js xs)
+abbrev pub called_by : Env → Callee → Head → Pos → List (Judged Answer) → List Expr → Judged Entity
+called_by e (Calls f) h at js xs = desig.denoted h.first (function_called e f h.first js xs)
+called_by e (Invokes m k) h at js xs = desig.denoted h.first (invoked e h.first (Plain m k) (heading.Declared m k) js xs)
+called_by e (Converts t) h at js xs = desig.denoted h.first (one_of (step_in (taking.Into t)) h.first js xs)
 called_by e Neither h at js xs = not_called e h at xs
 
-abbrev pub called : Env → Head → Pos → List (Judged Answer) → List Expr → Judged Spot
+abbrev pub called : Env → Head → Pos → List (Judged Answer) → List Expr → Judged Entity
 called e h at js xs = called_by e (callee h.found) h at js xs
 
 -- a bracket behind it, whose arguments are judged so: a call, or a guard
@@ -255,7 +255,7 @@ bracketed_name e h p js xs =
     else as_part (called e h p js xs)
 
 abbrev pub bracketed_method : Env → Bound → List (Judged Answer) → List Expr → Judged Part
-bracketed_method e b js xs = as_part (desig.spotted b.first (invoked e b.first b.callee b.heading js xs))
+bracketed_method e b js xs = as_part (desig.denoted b.first (invoked e b.first b.callee b.heading js xs))
 
 abbrev pub bracketed_as : Env → Pos → Part → Pos → List (Judged Answer) → List Expr → Judged Part
 bracketed_as e first (Begun h) p js xs = bracketed_name e h p js xs
@@ -320,7 +320,7 @@ module _ (e : Env) where
         bind (bind (factor right) (λ b. multiplied first at o a b)) (λ b. products first b xs)
 
     pub factor : Factor → Judged Answer
-    factor (f.Desig' n shape row) = bind (bind (selectors n.pos (Begun (desig.plain e n)) row) (spot_of_part e)) (desig.read e)
+    factor (f.Desig' n shape row) = bind (bind (selectors n.pos (Begun (desig.plain e n)) row) (entity_of_part e)) (desig.read e)
     factor (f.Number p n) = number (if_within W64 n) p
     factor (f.Char p n) = character (natural 256 n) p
     factor (f.Text t) = string (env.text_constant e t.start) t.pos
@@ -358,7 +358,7 @@ module _ (e : Env) where
     selector first a (s.Paren' p shape row) = bracketed e first a p (arguments row) (items-the_row-Expr _ row)
 
     -- `a[i, j]` is `a[i][j]`
-    pub indices : {m : _} → Pos → Spot → Row_of-Expr m → Judged Spot
+    pub indices : {m : _} → Pos → Entity → Row_of-Expr m → Judged Entity
     indices at a end_of-Expr = kept a
     indices at a (more_of-Expr x xs) = bind (bind (expr x) (λ i. desig.element e at a i)) (λ b. indices at b xs)
 
@@ -380,11 +380,11 @@ module _ (e : Env) where
   -- What statements and declarations ask of expressions.
 
   -- a designator, by the list of its selectors
-  abbrev pub designator : Desig → Judged Spot
-  designator d = bind (walk (selector d.name.pos) (Begun (desig.plain e d.name)) d.selectors) (spot_of_part e)
+  abbrev pub designator : Desig → Judged Entity
+  designator d = bind (walk (selector d.name.pos) (Begun (desig.plain e d.name)) d.selectors) (entity_of_part e)
 
   -- the same index, of a bracket's list, and the whole list
-  abbrev pub index : Pos → Spot → Expr → Judged Spot
+  abbrev pub index : Pos → Entity → Expr → Judged Entity
   index at a x = bind (expr x) (λ i. desig.element e at a i)
 
   abbrev pub indexed : Pos → Part → List Expr → Judged Part

@@ -4,14 +4,14 @@ ghost use Rattle.std.specs.Prelude.{◌≡◌, OnOk, IfOk};
 ghost use Rattle.std.specs.Option.{option_copied};
 ghost use Rattle.aos_symbols.specs.Breaches.{first_after};
 ghost use Rattle.aos_symbols.specs.Judged.{bind};
-ghost use Rattle.aos_known.specs.Seen.{seen_answer, seen_spot};
+ghost use Rattle.aos_known.specs.Seen.{seen_answer, seen_entity};
 ghost use Rattle.aos_designators.specs.Designators as designators;
 ghost use Rattle.aos_check_expr.specs.Expressions as judge;
 
 use aos_arguments::{Limit, limit_meant};
 use aos_base::Pos;
 use aos_designators::{Head, guarded, is_module, member, named, plain, refused_at};
-use aos_known::{Answer, Spot, refused};
+use aos_known::{Answer, Entity, refused};
 use aos_symbols::{
     ARGUMENT_COUNT, ARGUMENT_TYPE, Breach, Env, Lookup, Meaning, NOT_BUILT, NOT_EXPORTED, UNKNOWN,
     WRONG_CALL,
@@ -171,11 +171,11 @@ fn value_called(
     head: Head,
     at: Pos,
     arguments: &[Expr],
-) -> Result<Spot, AllocError>
+) -> Result<Entity, AllocError>
     ensures noted { OnOk result (found.new ≡ first_after found.old
         (bind (designators.named env.now head)
         (λ a. designators.guarded env.now head.first at a (judge.guard_type env.now arguments.now))).breaches) }
-    ensures answer { IfOk result (λ r. seen_spot r ≡
+    ensures answer { IfOk result (λ r. seen_entity r ≡
         (bind (designators.named env.now head)
         (λ a. designators.guarded env.now head.first at a (judge.guard_type env.now arguments.now))).answer) }
 {
@@ -192,10 +192,10 @@ pub fn not_called(
     head: Head,
     at: Pos,
     arguments: &[Expr],
-) -> Result<Spot, AllocError>
+) -> Result<Entity, AllocError>
     ensures noted { OnOk result (found.new ≡ first_after found.old
         (judge.not_called env.now head at arguments.now).breaches) }
-    ensures answer { IfOk result (λ r. seen_spot r ≡
+    ensures answer { IfOk result (λ r. seen_entity r ≡
         (judge.not_called env.now head at arguments.now).answer) }
 {
     let first = head.first;

@@ -5,7 +5,7 @@ ghost use Rattle.aos_typed.specs.Seen.{seen_callee};
 ghost use Rattle.aos_symbols.specs.Breaches.{first_after};
 ghost use Rattle.aos_symbols.specs.Judged.{walk};
 ghost use Rattle.aos_operators.specs.Operations as operations;
-ghost use Rattle.aos_known.specs.Seen.{seen_answer, seen_spot};
+ghost use Rattle.aos_known.specs.Seen.{seen_answer, seen_entity};
 ghost use Rattle.aos_designators.specs.Seen.{seen_bound, seen_part};
 ghost use Rattle.aos_arguments.specs.Seen.{seen_handing};
 ghost use Rattle.aos_check_expr.specs.Expressions as judge;
@@ -19,9 +19,9 @@ use aos_arguments::{
 use aos_base::Pos;
 use aos_designators::{
     Bound, Head, Heading, Part, bound_part, element as element_of, followed_part, guarded,
-    is_module, is_of_module, named, plain, pointed, read, selected, spot_of_part,
+    is_module, is_of_module, named, plain, pointed, read, selected, entity_of_part,
 };
-use aos_known::{Answer, Spot, constant_answer, is_integer, refused, refused_value, spot_of};
+use aos_known::{Answer, Entity, constant_answer, entity_of, is_integer, refused, refused_value};
 use aos_made::MadeCallee;
 use aos_operators::forms::{
     added, byte_of, character, enclosed, is_test, multiplied, number, opposite, signed, string,
@@ -208,8 +208,8 @@ fn factor(
 {
     match part {
         Factor::Desig(desig) => {
-            let spot = designator(alloc, found, env, desig)?;
-            Ok(read(found, env, spot))
+            let entity = designator(alloc, found, env, desig)?;
+            Ok(read(found, env, entity))
         }
         Factor::Number(_, n) => Ok(number(*n)),
         Factor::Char(at, n) => Ok(character(found, byte_of(*n), *at)),
@@ -301,15 +301,15 @@ pub fn designator(
     found: &mut Option<Breach>,
     env: &Env<'_>,
     part: &Desig,
-) -> Result<Spot, AllocError>
+) -> Result<Entity, AllocError>
     ensures noted { OnOk result (found.new ≡ first_after found.old
         (judge.designator env.now part.now).breaches) }
-    ensures answer { IfOk result (λ r. seen_spot r ≡ (judge.designator env.now part.now).answer) }
+    ensures answer { IfOk result (λ r. seen_entity r ≡ (judge.designator env.now part.now).answer) }
 {
     let begun = Part::Begun(plain(env, part.name));
     let first = part.name.pos;
     let whole = follow_selectors(alloc, found, env, first, begun, part.selectors.as_slice())?;
-    spot_of_part(alloc, found, env, whole)
+    entity_of_part(alloc, found, env, whole)
 }
 
 /// What a designator that begins here is so far, and its selectors.
@@ -390,13 +390,13 @@ fn indices(
     found: &mut Option<Breach>,
     env: &Env<'_>,
     at: Pos,
-    begun: Spot,
+    begun: Entity,
     all: &[Expr],
-) -> Result<Spot, AllocError>
+) -> Result<Entity, AllocError>
     ensures noted { OnOk result (found.new ≡ first_after found.old
-        (walk (judge.index env.now at) (seen_spot begun) all.now).breaches) }
-    ensures answer { IfOk result (λ r. seen_spot r ≡
-        (walk (judge.index env.now at) (seen_spot begun) all.now).answer) }
+        (walk (judge.index env.now at) (seen_entity begun) all.now).breaches) }
+    ensures answer { IfOk result (λ r. seen_entity r ≡
+        (walk (judge.index env.now at) (seen_entity begun) all.now).answer) }
 {
     let mut whole = begun;
     for part in all {
@@ -413,13 +413,13 @@ fn index(
     found: &mut Option<Breach>,
     env: &Env<'_>,
     at: Pos,
-    whole: Spot,
+    whole: Entity,
     part: &Expr,
-) -> Result<Spot, AllocError>
+) -> Result<Entity, AllocError>
     ensures noted { OnOk result (found.new ≡ first_after found.old
-        (judge.index env.now at (seen_spot whole) part.now).breaches) }
-    ensures answer { IfOk result (λ r. seen_spot r ≡
-        (judge.index env.now at (seen_spot whole) part.now).answer) }
+        (judge.index env.now at (seen_entity whole) part.now).breaches) }
+    ensures answer { IfOk result (λ r. seen_entity r ≡
+        (judge.index env.now at (seen_entity whole) part.now).answer) }
 {
     let index = expr(alloc, found, env, part)?;
     element_of(alloc, found, env, at, whole, index)
@@ -446,9 +446,9 @@ pub fn bracketed(
 {
     match bound_part(alloc, env, first, whole)? {
         Part::Begun(head) => bracketed_name(alloc, found, env, head, at, arguments),
-        Part::Meant(spot) => {
+        Part::Meant(entity) => {
             let of = guard_type(env, arguments);
-            let whole = guarded(alloc, found, env, first, at, spot, of)?;
+            let whole = guarded(alloc, found, env, first, at, entity, of)?;
             Ok(Part::Meant(whole))
         }
         Part::Waits(bound) => bracketed_method(alloc, found, env, bound, arguments),
@@ -474,7 +474,7 @@ fn bracketed_method(
 {
     let first = bound.first;
     let value = invoked(alloc, found, env, bound, arguments)?;
-    Ok(Part::Meant(spot_of(first, value)))
+    Ok(Part::Meant(entity_of(first, value)))
 }
 
 /// A bracket that stands here, behind a name.
@@ -511,11 +511,11 @@ fn called(
     head: Head,
     at: Pos,
     arguments: &[Expr],
-) -> Result<Spot, AllocError>
+) -> Result<Entity, AllocError>
     ensures noted { OnOk result (found.new ≡ first_after found.old
         (judge.called env.now head at
         (map (judge.expr env.now) arguments.now) arguments.now).breaches) }
-    ensures answer { IfOk result (λ r. seen_spot r ≡
+    ensures answer { IfOk result (λ r. seen_entity r ≡
         (judge.called env.now head at
         (map (judge.expr env.now) arguments.now) arguments.now).answer) }
 {
@@ -536,11 +536,11 @@ fn called_as(
     head: Head,
     at: Pos,
     arguments: &[Expr],
-) -> Result<Spot, AllocError>
+) -> Result<Entity, AllocError>
     ensures noted { OnOk result (found.new ≡ first_after found.old
         (judge.called_by env.now (judge.callee_meant symbol symbol.means) head at
         (map (judge.expr env.now) arguments.now) arguments.now).breaches) }
-    ensures answer { IfOk result (λ r. seen_spot r ≡
+    ensures answer { IfOk result (λ r. seen_entity r ≡
         (judge.called_by env.now (judge.callee_meant symbol symbol.means) head at
         (map (judge.expr env.now) arguments.now) arguments.now).answer) }
 {
@@ -548,7 +548,7 @@ fn called_as(
     match symbol.means {
         Meaning::Function(function) => {
             let value = called_function(alloc, found, env, function, first, arguments)?;
-            Ok(spot_of(first, value))
+            Ok(entity_of(first, value))
         }
         Meaning::Procedure(number) if is_of_module(symbol) => {
             let bound = Bound {
@@ -557,11 +557,11 @@ fn called_as(
                 first,
             };
             let value = invoked(alloc, found, env, bound, arguments)?;
-            Ok(spot_of(first, value))
+            Ok(entity_of(first, value))
         }
         Meaning::Type(Some(of)) if is_integer(of) => {
             let value = applied(alloc, found, env, Taking::Into(of), first, arguments)?;
-            Ok(spot_of(first, value))
+            Ok(entity_of(first, value))
         }
         _ => not_called(alloc, found, env, head, at, arguments),
     }

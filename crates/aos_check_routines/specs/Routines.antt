@@ -20,12 +20,12 @@ use Rattle.aos_symbols.specs.Spelling.{is_word}
 use Rattle.aos_symbols.specs.Env as env
 use Rattle.aos_types.specs.declared.row.TypeId.{TypeId}
 use Rattle.aos_known.specs.declared.known.Class.TheVariants.{Computed}
-use Rattle.aos_known.specs.Known.{Answer, Spot, is_number, is_char}
+use Rattle.aos_known.specs.Known.{Answer, Entity, is_number, is_char}
 use Rattle.aos_known.specs.Places.{place_of}
 use Rattle.aos_arguments.specs.Arguments.{listed as listed_arguments}
 use Rattle.aos_values.specs.Arrays.{may_be_text, text_rows}
 use Rattle.aos_check_expr.specs.Expressions.{arguments_for, expr, condition, argument, designator, desig_alone}
-pub use Rattle.aos_stat_rules.specs.Calls.{refused, not_yet, plain_call, ended, arguments, behind_arguments, is_selected, is_selected_behind, goes_on, before_last, is_made, new_breaches, is_no_variable, lengths_wanted, count_breaches, made_type, makes_object, initializer_of, may_be_length, no_call, gives_value, is_value_called, changing, is_changed_set, is_amount, is_changed, changed_breaches, changed_by, code_of, is_code, code_in, text_to, value_fits, put_text, copied, called_spot}
+pub use Rattle.aos_stat_rules.specs.Calls.{refused, not_yet, plain_call, ended, arguments, behind_arguments, is_selected, is_selected_behind, goes_on, before_last, is_made, new_breaches, is_no_variable, lengths_wanted, count_breaches, made_type, makes_object, initializer_of, may_be_length, no_call, gives_value, is_value_called, changing, is_changed_set, is_amount, is_changed, changed_breaches, changed_by, code_of, is_code, code_in, text_to, value_fits, put_text, copied, called_entity}
 
 abbrev pub outs : Pos → Judged Call → Judged (Option Stat)
 outs at j = bind j (λ c. kept (Some (Out at c)))
@@ -69,7 +69,7 @@ module _ (e : Env) where
   with_length at of ns x = bind (expr e x) (λ v. judged (breach_unless (may_be_length of v.known.of) 47 at) (ns ++ v.typed ∷ []))
 
   -- NEW of what a pointer leads to, with these lengths
-  abbrev pub new_lengths : Pos → Spot → List TreeExpr → Judged (Option Stat)
+  abbrev pub new_lengths : Pos → Entity → List TreeExpr → Judged (Option Stat)
   new_lengths at a xs =
       bind (judged (count_breaches e at a.known.of (length xs)) []) (λ none. bind (walk (with_length at a.known.of) none xs) (λ ns.
       kept (Some (Make at (place_of a.held) (made_type e a.known.of) ns))))
@@ -84,11 +84,11 @@ module _ (e : Env) where
   initialized at (Some m) xs = initialized_by at (env.signature e m.home m.number) xs
 
   -- NEW of an object
-  abbrev pub new_object : Pos → Spot → List TreeExpr → Judged (Option Stat)
+  abbrev pub new_object : Pos → Entity → List TreeExpr → Judged (Option Stat)
   new_object at a xs =
       bind (initialized at (initializer_of e a.known.of) xs) (λ more. kept (Some (New at (place_of a.held) (made_type e a.known.of) more)))
 
-  abbrev pub new_with : Pos → Pos → Spot → List TreeExpr → Judged (Option Stat)
+  abbrev pub new_with : Pos → Pos → Entity → List TreeExpr → Judged (Option Stat)
   new_with at first a xs =
       bind (judged (new_breaches e at first a.known.of a.known.class) a) (λ b.
       if is_no_variable b.known.class then kept None
@@ -114,7 +114,7 @@ module _ (e : Env) where
   amount r of None = kept (Lit (literal.Int (pos 1)))
   amount r of (Some x) = bind (expr e x) (λ v. judged (breach_unless (is_amount r of v.known.of) 35 (out-Expr x).pos) v.typed)
 
-  abbrev pub change_of : Routine → Pos → Pos → Spot → Option TreeExpr → Judged (Option Stat)
+  abbrev pub change_of : Routine → Pos → Pos → Entity → Option TreeExpr → Judged (Option Stat)
   change_of r at first a x =
       bind (judged (changed_breaches r first a) a) (λ b. bind (amount r b.known.of x) (λ n. kept (Some (changed_by r at b n))))
 

@@ -5,12 +5,12 @@ ghost use Rattle.std.specs.Option.{option_copied};
 ghost use Rattle.aos_typed.specs.Seen.{seen_expr, seen_list, seen_stat};
 ghost use Rattle.aos_symbols.specs.Breaches.{first_after};
 ghost use Rattle.aos_symbols.specs.Judged.{walk};
-ghost use Rattle.aos_known.specs.Seen.{seen_spot};
+ghost use Rattle.aos_known.specs.Seen.{seen_entity};
 ghost use Rattle.aos_check_routines.specs.Routines as judge;
 
 use aos_base::Pos;
 use aos_check_expr::{arguments_for, desig_alone, designator, expr};
-use aos_known::{Class, Spot, place_of};
+use aos_known::{Class, Entity, place_of};
 use aos_made::MadeArguments;
 use aos_made_stat::{MadeExprs, MadeStat};
 use aos_stat_rules::{
@@ -75,19 +75,19 @@ fn new_lengths(
     found: &mut Option<Breach>,
     env: &Env<'_>,
     at: Pos,
-    spot: Spot,
+    entity: Entity,
     lengths: &[Expr],
 ) -> Result<Option<MadeStat>, AllocError>
     ensures noted { OnOk result (found.new ≡ first_after found.old
-        (judge.new_lengths env.now at (seen_spot spot) lengths.now).breaches) }
+        (judge.new_lengths env.now at (seen_entity entity) lengths.now).breaches) }
     ensures answer { IfOk result (λ s. option_map seen_stat s ≡
-        (judge.new_lengths env.now at (seen_spot spot) lengths.now).answer) }
+        (judge.new_lengths env.now at (seen_entity entity) lengths.now).answer) }
 {
-    let of = spot.known.of;
+    let of = entity.known.of;
     refuse_count(found, env, at, of, lengths.len());
     let made = made_type(env, of)?;
     let lengths = lengths_of(alloc, found, env, at, of, lengths)?;
-    let one = MadeStat::make(alloc, at, place_of(spot.held), made, lengths)?;
+    let one = MadeStat::make(alloc, at, place_of(entity.held), made, lengths)?;
     Ok(Some(one))
 }
 
@@ -154,19 +154,19 @@ fn new_object(
     found: &mut Option<Breach>,
     env: &Env<'_>,
     at: Pos,
-    spot: Spot,
+    entity: Entity,
     arguments: &[Expr],
 ) -> Result<Option<MadeStat>, AllocError>
     ensures noted { OnOk result (found.new ≡ first_after found.old
-        (judge.new_object env.now at (seen_spot spot) arguments.now).breaches) }
+        (judge.new_object env.now at (seen_entity entity) arguments.now).breaches) }
     ensures answer { IfOk result (λ s. option_map seen_stat s ≡
-        (judge.new_object env.now at (seen_spot spot) arguments.now).answer) }
+        (judge.new_object env.now at (seen_entity entity) arguments.now).answer) }
 {
-    let of = spot.known.of;
+    let of = entity.known.of;
     let initializer = initializer_of(env, of)?;
     let made = made_type(env, of)?;
     let given = initialized(alloc, found, env, at, initializer, arguments)?;
-    let one = MadeStat::object(alloc, at, place_of(spot.held), made, given)?;
+    let one = MadeStat::object(alloc, at, place_of(entity.held), made, given)?;
     Ok(Some(one))
 }
 
@@ -178,22 +178,22 @@ fn new_with(
     env: &Env<'_>,
     at: Pos,
     first: Pos,
-    spot: Spot,
+    entity: Entity,
     arguments: &[Expr],
 ) -> Result<Option<MadeStat>, AllocError>
     ensures noted { OnOk result (found.new ≡ first_after found.old
-        (judge.new_with env.now at first (seen_spot spot) arguments.now).breaches) }
+        (judge.new_with env.now at first (seen_entity entity) arguments.now).breaches) }
     ensures answer { IfOk result (λ s. option_map seen_stat s ≡
-        (judge.new_with env.now at first (seen_spot spot) arguments.now).answer) }
+        (judge.new_with env.now at first (seen_entity entity) arguments.now).answer) }
 {
-    refuse_new(found, env, at, first, spot.known.of, spot.known.class);
-    if is_no_variable(spot.known.class) {
+    refuse_new(found, env, at, first, entity.known.of, entity.known.class);
+    if is_no_variable(entity.known.class) {
         return Ok(None);
     }
-    if makes_object(env, spot.known.of) {
-        new_object(alloc, found, env, at, spot, arguments)
+    if makes_object(env, entity.known.of) {
+        new_object(alloc, found, env, at, entity, arguments)
     } else {
-        new_lengths(alloc, found, env, at, spot, arguments)
+        new_lengths(alloc, found, env, at, entity, arguments)
     }
 }
 
@@ -219,8 +219,8 @@ fn new_of(
         refuse_new(found, env, at, first, value.known.of, Class::Computed);
         return Ok(None);
     };
-    let spot = designator(alloc, found, env, variable)?;
-    new_with(alloc, found, env, at, first, spot, arguments)
+    let entity = designator(alloc, found, env, variable)?;
+    new_with(alloc, found, env, at, first, entity, arguments)
 }
 
 /// NEW of these arguments, in a call that begins at a place.

@@ -4,12 +4,12 @@ ghost use Rattle.std.specs.Prelude.{◌≡◌, OnOk, IfOk, option_map};
 ghost use Rattle.std.specs.Option.{option_copied};
 ghost use Rattle.aos_typed.specs.Seen.{seen_expr, seen_stat};
 ghost use Rattle.aos_symbols.specs.Breaches.{first_after};
-ghost use Rattle.aos_known.specs.Seen.{seen_spot};
+ghost use Rattle.aos_known.specs.Seen.{seen_entity};
 ghost use Rattle.aos_check_routines.specs.Routines as judge;
 
 use aos_base::Pos;
 use aos_check_expr::{condition, desig_alone, designator, expr};
-use aos_known::{Spot, place_of};
+use aos_known::{Entity, place_of};
 use aos_made::Typed;
 use aos_made_stat::MadeStat;
 use aos_stat_rules::{
@@ -57,18 +57,18 @@ fn change_of(
     routine: Routine,
     at: Pos,
     first: Pos,
-    spot: Spot,
+    entity: Entity,
     value: Option<&Expr>,
 ) -> Result<Option<MadeStat>, AllocError>
     ensures noted { OnOk result (found.new ≡ first_after found.old
-        (judge.change_of env.now routine at first (seen_spot spot) (option_copied value.entry)).breaches) }
+        (judge.change_of env.now routine at first (seen_entity entity) (option_copied value.entry)).breaches) }
     ensures answer { IfOk result (λ s. option_map seen_stat s ≡
-        (judge.change_of env.now routine at first (seen_spot spot) (option_copied value.entry)).answer) }
+        (judge.change_of env.now routine at first (seen_entity entity) (option_copied value.entry)).answer) }
 {
-    refuse_changed(found, routine, first, &spot);
-    let value = amount(alloc, found, env, routine, spot.known.of, value)?;
-    let change = changing(routine, spot.known.of);
-    let one = MadeStat::change(alloc, at, change, place_of(spot.held), value)?;
+    refuse_changed(found, routine, first, &entity);
+    let value = amount(alloc, found, env, routine, entity.known.of, value)?;
+    let change = changing(routine, entity.known.of);
+    let one = MadeStat::change(alloc, at, change, place_of(entity.held), value)?;
     Ok(Some(one))
 }
 
@@ -94,8 +94,8 @@ fn change_at(
         let _value = expr(alloc, found, env, argument)?;
         return Ok(refused(found, NO_VARIABLE, first));
     };
-    let spot = designator(alloc, found, env, variable)?;
-    change_of(alloc, found, env, routine, at, first, spot, value)
+    let entity = designator(alloc, found, env, variable)?;
+    change_of(alloc, found, env, routine, at, first, entity, value)
 }
 
 /// INC, DEC, INCL and EXCL of these arguments, in a call that begins at a place: of the last two, a value is always written.

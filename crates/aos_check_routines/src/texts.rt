@@ -58,8 +58,8 @@ fn copied_to(
         let _value = expr(alloc, found, env, argument)?;
         return Ok(refused(found, NO_VARIABLE, second));
     };
-    let spot = designator(alloc, found, env, variable)?;
-    copied(alloc, found, env, at, value, second, spot)
+    let entity = designator(alloc, found, env, variable)?;
+    copied(alloc, found, env, at, value, second, entity)
 }
 
 /// COPY of these arguments, in a call that begins at a place.

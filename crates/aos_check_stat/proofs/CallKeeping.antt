@@ -24,12 +24,12 @@ use Rattle.aos_symbols.specs.declared.env.Lookup.TheVariants.{Unknown as NoName,
 use Rattle.aos_symbols.specs.declared.env.Env.{Env}
 use Rattle.aos_symbols.specs.Judged.{Judged, kept, bind}
 use Rattle.aos_symbols.specs.Spelling.{is_word}
-use Rattle.aos_known.specs.Known.{Answer, Spot}
+use Rattle.aos_known.specs.Known.{Answer, Entity}
 use Rattle.aos_designators.specs.declared.methods.Heading.{Heading}
 use Rattle.aos_designators.specs.declared.methods.Heading.TheVariants as heading
 use Rattle.aos_designators.specs.declared.designators.Head.{Head}
 use Rattle.aos_designators.specs.Designators as desig
-use Rattle.aos_designators.specs.Methods.{Part, Begun, Meant, Waits, spot_of_part, bound_part}
+use Rattle.aos_designators.specs.Methods.{Part, Begun, Meant, Waits, entity_of_part, bound_part}
 use Rattle.aos_check_expr.specs.Expressions.{bracketed, signature_of, expr, designator, desig_alone}
 use Rattle.aos_check_stat.specs.Called as judge
 use Rattle.aos_check_stat.specs.Called.{arguments, behind_arguments, goes_on}
@@ -94,7 +94,7 @@ module _ (e : Env) (r l : Bool) where
 
   -- The predeclared procedures.
 
-  new_with_keeps : (at first : Pos) (a : Spot) (xs : List TreeExpr) → IsKept (judge.new_with e at first a xs)
+  new_with_keeps : (at first : Pos) (a : Entity) (xs : List TreeExpr) → IsKept (judge.new_with e at first a xs)
   new_with_keeps at first a xs =
       let made = if judge.makes_object e a.known.of then judge.new_object e at a xs else judge.new_lengths e at a xs in
       choice_keeps (judge.is_no_variable a.known.class) (kept None) made tt
@@ -175,18 +175,18 @@ module _ (e : Env) (r l : Bool) where
   no_call_keeps at None = tt
   no_call_keeps at (Some t) = tt
 
-  spot_keeps : (first : Pos) (j : Judged Part) → IsKept (judge.called_spot e first j)
-  spot_keeps first j = no_call_keeps first (bind j (spot_of_part e)).answer.known.of
+  entity_keeps : (first : Pos) (j : Judged Part) → IsKept (judge.called_entity e first j)
+  entity_keeps first j = no_call_keeps first (bind j (entity_of_part e)).answer.known.of
 
   alone_keeps : (first : Pos) (a : Part) → IsKept (judge.called_as e first a)
   alone_keeps first (Waits b) = perform_keeps first b.callee b.heading []
-  alone_keeps first (Begun h) = spot_keeps first (kept (Begun h))
-  alone_keeps first (Meant a) = spot_keeps first (kept (Meant a))
+  alone_keeps first (Begun h) = entity_keeps first (kept (Begun h))
+  alone_keeps first (Meant a) = entity_keeps first (kept (Meant a))
 
   with_keeps : (first : Pos) (a : Part) (at : Pos) (xs : List TreeExpr) → IsKept (judge.bracketed_as e first a at xs)
   with_keeps first (Waits b) at xs = perform_keeps first b.callee b.heading xs
-  with_keeps first (Begun h) at xs = spot_keeps first (bracketed e first (Begun h) at (map (expr e) xs) xs)
-  with_keeps first (Meant a) at xs = spot_keeps first (bracketed e first (Meant a) at (map (expr e) xs) xs)
+  with_keeps first (Begun h) at xs = entity_keeps first (bracketed e first (Begun h) at (map (expr e) xs) xs)
+  with_keeps first (Meant a) at xs = entity_keeps first (bracketed e first (Meant a) at (map (expr e) xs) xs)
 
   whole_keeps : (d : Desig) → IsKept (judge.called_whole e d)
   whole_keeps d = alone_keeps d.name.pos (bound_part e d.name.pos (judge.part_of e d d.selectors).answer)

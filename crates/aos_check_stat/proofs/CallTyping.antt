@@ -35,7 +35,7 @@ use Rattle.aos_symbols.specs.Env as env
 use Rattle.aos_symbols.proofs.Each.{Each}
 use Rattle.aos_symbols.proofs.Holds.{Holds, holds_bind, holds_walk, test_is, broken}
 use Rattle.aos_known.specs.declared.known.Class.TheVariants.{Computed}
-use Rattle.aos_known.specs.Known.{Answer, Spot, object_number, type_as, is_number, is_char}
+use Rattle.aos_known.specs.Known.{Answer, Entity, object_number, type_as, is_number, is_char}
 use Rattle.aos_known.specs.Kinds.{is_pointer_type, is_object_type}
 use Rattle.aos_known.specs.Places.{place_of}
 use Rattle.aos_known.proofs.Inside.{Inside, IsPlaceOf, IsOf, AreArguments, IsCalled, IsInitialized, IsCall}
@@ -48,8 +48,8 @@ use Rattle.aos_designators.specs.declared.designators.Head.{Head}
 use Rattle.aos_designators.specs.Designators as desig
 use Rattle.aos_check_expr.specs.Expressions.{arguments_for, signature_of, expr, argument, designator, desig_alone}
 use Rattle.aos_check_expr.specs.Expressions as judge_expr
-use Rattle.aos_check_expr.proofs.Spots.{AreParameters, IsResultOf, IsSigned, IsSpot, Part, IsProcedure, MayFind, behind_head, behind_of_module}
-use Rattle.aos_check_expr.proofs.Typing.{IsWhole, IsSound, IsTextAt, expr_sound, expr_part, argument_sound, text_argument, arguments_part, Parted, spot_fine, bound_fine, bracketed_fine, parts_sound}
+use Rattle.aos_check_expr.proofs.Entities.{AreParameters, IsResultOf, IsSigned, IsEntity, Part, IsProcedure, MayFind, behind_head, behind_of_module}
+use Rattle.aos_check_expr.proofs.Typing.{IsWhole, IsSound, IsTextAt, expr_sound, expr_part, argument_sound, text_argument, arguments_part, Parted, entity_fine, bound_fine, bracketed_fine, parts_sound}
 use Rattle.aos_check_expr.proofs.Called.{IsCalling, IsBound}
 use Rattle.aos_check_expr.proofs.Filled.{AreCovered, heading_covered, signature_covered}
 use Rattle.aos_check_expr.proofs.Initials.{initialized, none_initialized}
@@ -162,7 +162,7 @@ module _ (p : Inside) (e : Env) (whole : IsWhole p e) where
   )
 
   -- of what a pointer leads to
-  led_sound : (at : Pos) (a : Spot) (t : TypeId) → a.known.of ≡ Some t → is_pointer_type e t ≡ true → IsPlaceOf p (place_of a.held) (type_as t) → (xs : List TreeExpr) →
+  led_sound : (at : Pos) (a : Entity) (t : TypeId) → a.known.of ≡ Some t → is_pointer_type e t ≡ true → IsPlaceOf p (place_of a.held) (type_as t) → (xs : List TreeExpr) →
       Holds MayBe (judge.new_lengths e at a xs)
   led_sound at a t known pointer held xs =
       let made = λ (ns : List Expr). kept (Some (Make at (place_of a.held) (judge.made_type e (Some t)) ns)) in
@@ -199,7 +199,7 @@ module _ (p : Inside) (e : Env) (whole : IsWhole p e) where
   initialized_sound at t object None found xs = λ h. none_initialized p e whole t object found
   initialized_sound at t object (Some m) found xs = initialized_by_sound at t object m found xs
 
-  object_sound : (at : Pos) (a : Spot) (t : TypeId) → a.known.of ≡ Some t → is_object_type e t ≡ true → IsPlaceOf p (place_of a.held) (type_as t) → (xs : List TreeExpr) →
+  object_sound : (at : Pos) (a : Entity) (t : TypeId) → a.known.of ≡ Some t → is_object_type e t ≡ true → IsPlaceOf p (place_of a.held) (type_as t) → (xs : List TreeExpr) →
       Holds MayBe (judge.new_object e at a xs)
   object_sound at a t known is held xs =
       let own = object_itself p e whole t is in
@@ -209,7 +209,7 @@ module _ (p : Inside) (e : Env) (whole : IsWhole p e) where
       (λ more handed h. let made = object_made p e whole t (place_of a.held) is held in
       (made.0, made.1, subst (λ k. IsInitialized p (initializer p.program k) k more) (sym own.1) handed)))
 
-  new_with_sound : (at first : Pos) (a : Spot) → IsRead p e whole a → (xs : List TreeExpr) → Holds MayBe (judge.new_with e at first a xs)
+  new_with_sound : (at first : Pos) (a : Entity) → IsRead p e whole a → (xs : List TreeExpr) → Holds MayBe (judge.new_with e at first a xs)
   new_with_sound at first a is xs =
       holds_bind (IsTarget p e whole) MayBe (judged (new_breaches e at first a.known.of a.known.class) a)
       (λ b. if is_no_variable b.known.class then kept None else if judge.makes_object e b.known.of then judge.new_object e at b xs else judge.new_lengths e at b xs)
@@ -220,7 +220,7 @@ module _ (p : Inside) (e : Env) (whole : IsWhole p e) where
       object_or true c is other = refl
       object_or false c is other = sym other ∙ is
 
-      by : (b : Spot) (to : IsTarget p e whole b) (c : Bool) → is_object_type e to.of ≡ c →
+      by : (b : Entity) (to : IsTarget p e whole b) (c : Bool) → is_object_type e to.of ≡ c →
           Holds MayBe (if judge.makes_object e b.known.of then judge.new_object e at b xs else judge.new_lengths e at b xs)
       by b to true kind = rw (ap (judge.makes_object e) to.known ∙ kind) (object_sound at b to.of to.known kind to.typed xs)
       by b to false kind =
@@ -305,28 +305,28 @@ module _ (p : Inside) (e : Env) (whole : IsWhole p e) where
   abbrev IsPart : judge_expr.Part → Type 0
   IsPart = Parted p e whole.constants
 
-  spot_sound : (first : Pos) (j : Judged judge_expr.Part) → Holds IsPart j → Holds MayBe (judge.called_spot e first j)
-  spot_sound first j is =
-      holds_bind (IsSpot p e) MayBe (bind j (judge_expr.spot_of_part e)) (λ a. judge.no_call first a.known.of)
-      (holds_bind IsPart (IsSpot p e) j (judge_expr.spot_of_part e) is (spot_fine p e whole.constants)) (λ a x. no_call_sound first a.known.of)
+  entity_sound : (first : Pos) (j : Judged judge_expr.Part) → Holds IsPart j → Holds MayBe (judge.called_entity e first j)
+  entity_sound first j is =
+      holds_bind (IsEntity p e) MayBe (bind j (judge_expr.entity_of_part e)) (λ a. judge.no_call first a.known.of)
+      (holds_bind IsPart (IsEntity p e) j (judge_expr.entity_of_part e) is (entity_fine p e whole.constants)) (λ a x. no_call_sound first a.known.of)
 
   bound_sound : (first : Pos) (b : judge_expr.Bound) → IsBound p e b → (xs : List TreeExpr) → Holds MayBe (judge.perform_bound e first b xs)
   bound_sound first b is xs = perform_sound first b.callee b.heading (is whole) xs
 
   alone_sound : (first : Pos) (a : judge_expr.Part) → IsPart a → Holds MayBe (judge.called_as e first a)
   alone_sound first (judge_expr.Waits b) is = bound_sound first b is []
-  alone_sound first (judge_expr.Begun h) is = spot_sound first (kept (judge_expr.Begun h)) (λ none. is)
-  alone_sound first (judge_expr.Meant a) is = spot_sound first (kept (judge_expr.Meant a)) (λ none. is)
+  alone_sound first (judge_expr.Begun h) is = entity_sound first (kept (judge_expr.Begun h)) (λ none. is)
+  alone_sound first (judge_expr.Meant a) is = entity_sound first (kept (judge_expr.Meant a)) (λ none. is)
 
-  bracket_sound : (first : Pos) (a : judge_expr.Part) → IsPart a → (at : Pos) (xs : List TreeExpr) → Holds MayBe (judge.bracketed_spot e first a at xs)
+  bracket_sound : (first : Pos) (a : judge_expr.Part) → IsPart a → (at : Pos) (xs : List TreeExpr) → Holds MayBe (judge.bracketed_entity e first a at xs)
   bracket_sound first a is at xs =
-      spot_sound first (judge_expr.bracketed e first a at (map (expr e) xs) xs)
+      entity_sound first (judge_expr.bracketed e first a at (map (expr e) xs) xs)
       (bracketed_fine p e whole.constants first a is at (map (expr e) xs) (parts_of xs) xs (length-map xs (expr e)))
 
   with_sound : (first : Pos) (a : judge_expr.Part) → IsPart a → (at : Pos) (xs : List TreeExpr) → Holds MayBe (judge.bracketed_as e first a at xs)
   with_sound first (judge_expr.Waits b) is at xs = bound_sound first b is xs
   with_sound first (judge_expr.Begun h) is at xs =
-      holds_bind MayBe MayBe (judge.bracketed_spot e first (judge_expr.Begun h) at xs) (λ s. judged (breach_unless (not (judge.is_value_called h.found)) 36 first) s)
+      holds_bind MayBe MayBe (judge.bracketed_entity e first (judge_expr.Begun h) at xs) (λ s. judged (breach_unless (not (judge.is_value_called h.found)) 36 first) s)
       (bracket_sound first (judge_expr.Begun h) is at xs) (λ s kept_so none. kept_so)
   with_sound first (judge_expr.Meant a) is at xs = bracket_sound first (judge_expr.Meant a) is at xs
 

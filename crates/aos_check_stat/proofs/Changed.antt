@@ -27,14 +27,14 @@ use Rattle.aos_symbols.specs.Judged.{judged, kept, bind}
 use Rattle.aos_symbols.proofs.Holds.{Holds, holds_bind, none_left, none_right, test_is}
 use Rattle.aos_known.specs.declared.known.Class.{Class}
 use Rattle.aos_known.specs.declared.known.Class.TheVariants.{Constant}
-use Rattle.aos_known.specs.Known.{Answer, Spot, is_basic, is_number, is_set, fits, type_as, width_of}
+use Rattle.aos_known.specs.Known.{Answer, Entity, is_basic, is_number, is_set, fits, type_as, width_of}
 use Rattle.aos_known.specs.Places.{place_of}
 use Rattle.aos_known.proofs.Inside.{Inside, IsPlaceOf, IsOf}
 use Rattle.aos_known.proofs.Types.{as_integer, integer_basic, same_type}
 use Rattle.aos_operators.proofs.Sound.{not_both, IsSound, sound_number}
 use Rattle.aos_designators.specs.Designators.{written}
 use Rattle.aos_check_expr.specs.Expressions.{expr, condition, designator, desig_alone}
-use Rattle.aos_check_expr.proofs.Spots.{IsTyped, closed, opened, opened_row}
+use Rattle.aos_check_expr.proofs.Entities.{IsTyped, closed, opened, opened_row}
 use Rattle.aos_check_expr.proofs.Typing.{IsWhole, expr_sound, condition_sound}
 use Rattle.aos_check_stat.specs.Called.{changing, is_changed_set, is_amount, is_changed, changed_breaches, changed_by, amount, change_of, change_at, change_call, code_in, trap_code, assert_call, halt_call, refused}
 use Rattle.aos_check_stat.proofs.Places.{MayBe, IsRead, read_sound, written_typed, fits_basic}
@@ -72,7 +72,7 @@ module _ (p : Inside) (e : Env) (whole : IsWhole p e) where
   one_of change.Exclude = inl (one_within W64)
 
   -- a variable that is changed
-  abbrev IsChanged : Routine → Spot → Type 0
+  abbrev IsChanged : Routine → Entity → Type 0
   IsChanged r a = IsTyped p e (place_of a.held) a.known.of × (is_changed r a.known.of ≡ true)
 
   -- no open array is changed
@@ -123,7 +123,7 @@ module _ (p : Inside) (e : Env) (whole : IsWhole p e) where
       (λ v. judged (breach_unless (is_amount r (Some t) v.known.of) 35 (out-Expr x).pos) v.typed) (expr_sound p e whole x)
       (λ v sound h. amount_of r t is v sound (test_is (is_amount r (Some t) v.known.of) 35 (out-Expr x).pos h))
 
-  change_sound : (r : Routine) (at first : Pos) (a : Spot) → IsRead p e whole a → (x : Option TreeExpr) → Holds (MayBe p) (change_of e r at first a x)
+  change_sound : (r : Routine) (at first : Pos) (a : Entity) → IsRead p e whole a → (x : Option TreeExpr) → Holds (MayBe p) (change_of e r at first a x)
   change_sound r at first a is x =
       holds_bind (IsChanged r) (MayBe p) (judged (changed_breaches r first a) a) (λ b. bind (amount e r b.known.of x) (λ n. kept (Some (changed_by r at b n))))
       (λ h. let own = breach_unless (is_changed r a.known.of) 35 first in

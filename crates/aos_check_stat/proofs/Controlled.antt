@@ -42,7 +42,7 @@ use Rattle.aos_operators.proofs.Sound.{IsSound, sound_number, sound_char}
 use Rattle.aos_designators.specs.Designators as desig
 use Rattle.aos_check_expr.specs.Expressions.{constant_class, expr}
 use Rattle.aos_check_expr.proofs.Passed.{basic_fit}
-use Rattle.aos_check_expr.proofs.Spots.{IsTyped, closed, opened, plain_head}
+use Rattle.aos_check_expr.proofs.Entities.{IsTyped, closed, opened, plain_head}
 use Rattle.aos_check_expr.proofs.Typing.{IsWhole, expr_sound, constant_good}
 use Rattle.aos_check_stat.specs.Bodies.{Control, Labels, lost, control, control_found, control_meant, control_rule, fitting, is_step, step_breaches, step_in, step_of, is_selector, selector, is_label, range_of, label_value, label_range, with_label, label_in}
 use Rattle.aos_stat_rules.proofs.Apart.{Behind, none_behind, one_behind, apart_push}

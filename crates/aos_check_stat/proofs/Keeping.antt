@@ -29,7 +29,7 @@ use Rattle.aos_symbols.specs.Env as env
 use Rattle.aos_symbols.proofs.Holds.{Holds, holds_bind, holds_walk, none_left, none_right, test_is}
 use Rattle.aos_known.specs.declared.known.Class.{Class}
 use Rattle.aos_known.specs.declared.known.Class.TheVariants.{Constant}
-use Rattle.aos_known.specs.Known.{Answer, Spot, Held, Stands, Value, fits, type_of, type_of_literal, width_of}
+use Rattle.aos_known.specs.Known.{Answer, Entity, Held, Stands, Value, fits, type_of, type_of_literal, width_of}
 use Rattle.aos_known.specs.Kinds.{has_parts}
 use Rattle.aos_known.specs.Places.{place_of, place_in}
 use Rattle.aos_values.specs.Assignable.{typed_for}
@@ -67,16 +67,16 @@ either_keeps r l false x y one other = other
 assigned_of : (e : Env) (r l : Bool) (first : Pos) (of : Option TypeId) (c : Class) (h : Held) (at : Pos) (v : Answer) →
     KeepsRules r l (judge.assigned_stat e first (record { known = record { of = of; class = c }; held = h; at = at }) v)
 assigned_of e r l first None c h at v =
-    let a : Spot = record { known = record { of = None; class = c }; held = h; at = at } in
+    let a : Entity = record { known = record { of = None; class = c }; held = h; at = at } in
     either_keeps r l (is_some (calls.text_to e a v)) (calls.put_text e first true v a) (Assign first (type_of None) (place_of h) (typed_for e None v)) tt tt
 assigned_of e r l first (Some t) c h at v =
-    let a : Spot = record { known = record { of = Some t; class = c }; held = h; at = at } in
+    let a : Entity = record { known = record { of = Some t; class = c }; held = h; at = at } in
     let copied = Copy first (type_of (Some t)) (place_of h) (place_in v.typed) in
     let stored = Assign first (type_of (Some t)) (place_of h) (typed_for e (Some t) v) in
     either_keeps r l (is_some (calls.text_to e a v)) (calls.put_text e first true v a) (if has_parts e t then copied else stored) tt
     (either_keeps r l (has_parts e t) copied stored tt tt)
 
-assigned_keeps : (e : Env) (r l : Bool) (first : Pos) (a : Spot) (v : Answer) → KeepsRules r l (judge.assigned_stat e first a v)
+assigned_keeps : (e : Env) (r l : Bool) (first : Pos) (a : Entity) (v : Answer) → KeepsRules r l (judge.assigned_stat e first a v)
 assigned_keeps e r l first a v = assigned_of e r l first a.known.of a.known.class a.held a.at v
 
 exit_keeps : (r l : Bool) (at : Pos) → Holds (MayKeep r l) (judge.exit_of l at)
@@ -177,7 +177,7 @@ mutual
       (λ step other. holds_bind (AreKept e.is_exclusive l) Fine (judge.stats_in e l [] row) (whole_for c a b step) (stats_keep e l [] tt row) (λ body are none. (other, are))))))
   stat_keeps e l (stat.With' q a r b shape row) =
       let Fine = MayKeep e.is_exclusive l in
-      let rest = λ (t : Option TypeId) (g : Spot). bind (judge.stats_in (judge.narrowed_by e a t) l [] row) (λ body. kept (Some (judge.with_stat q g.held (listed body)))) in
+      let rest = λ (t : Option TypeId) (g : Entity). bind (judge.stats_in (judge.narrowed_by e a t) l [] row) (λ body. kept (Some (judge.with_stat q g.held (listed body)))) in
       behind Fine (judge.with_variable e a) (λ v. bind (known_type e b) (λ t. bind (desig.guard e r v t) (λ g. rest t g)))
       (λ v. behind Fine (known_type e b) (λ t. bind (desig.guard e r v t) (λ g. rest t g))
       (λ t. behind Fine (desig.guard e r v t) (λ g. rest t g)

@@ -27,21 +27,21 @@ use Rattle.aos_symbols.specs.Env as env
 use Rattle.aos_known.specs.declared.known.Class.{Class}
 use Rattle.aos_known.specs.declared.known.Class.TheVariants.{Unknown, Constant, Variable, ReadOnly, Computed, Procedure as ClassOf}
 use Rattle.aos_known.specs.declared.known.Known.{Known}
-use Rattle.aos_known.specs.Known.{Spot, Held, Stands, Value, known_as, value_class, read_from, object_number, type_as}
+use Rattle.aos_known.specs.Known.{Entity, Held, Stands, Value, known_as, value_class, read_from, object_number, type_as}
 use Rattle.aos_known.proofs.Inside.{Inside, IsStatement, AreStatements}
 use Rattle.aos_known.proofs.Types.{not_both}
 use Rattle.aos_operators.proofs.Sound.{IsObject}
 use Rattle.aos_designators.specs.Designators as desig
 use Rattle.aos_check_expr.proofs.Objects.{of_any_type, sound_object, record_no_reference}
 use Rattle.aos_check_expr.proofs.Pointed.{guard_object, guard_record}
-use Rattle.aos_check_expr.proofs.Spots.{IsSpot, IsSoundSpot, no_type}
-use Rattle.aos_check_expr.proofs.Spots.{read_sound as held_sound}
+use Rattle.aos_check_expr.proofs.Entities.{IsEntity, IsSoundEntity, no_type}
+use Rattle.aos_check_expr.proofs.Entities.{read_sound as held_sound}
 use Rattle.aos_check_expr.proofs.Whole.{IsTyped, closed, opened, IsWhole, IsSigned, AreParameters, NarrowsWell}
 use Rattle.aos_check_stat.specs.Bodies.{in_region, in_condition, with_stat}
 
 -- a designator of this type and class
-abbrev spot : Option TypeId → Class → Held → Pos → Spot
-spot of c h at = record { known = record { of = of; class = c }; held = h; at = at }
+abbrev entity : Option TypeId → Class → Held → Pos → Entity
+entity of c h at = record { known = record { of = of; class = c }; held = h; at = at }
 
 -- The environment with other variables narrowed, and in another block or in a condition.
 
@@ -156,16 +156,16 @@ module _ (e : Env) (ns : List Narrowed) (exclusive condition : Bool) where
       by None is = rw is refl
       by (Some u) is = rw is refl
 
-  guarded_within : (t : TypeId) (of : Option TypeId) (c : Class) (h : Held) (at : Pos) → desig.guarded_spot within t (spot of c h at) ≡ desig.guarded_spot e t (spot of c h at)
+  guarded_within : (t : TypeId) (of : Option TypeId) (c : Class) (h : Held) (at : Pos) → desig.guarded_entity within t (entity of c h at) ≡ desig.guarded_entity e t (entity of c h at)
   guarded_within t None c h at = refl
   guarded_within t (Some of) c h at =
-      ap (λ n. if desig.is_record_type e of then desig.guarded_record t (spot (Some of) c h at)
+      ap (λ n. if desig.is_record_type e of then desig.guarded_record t (entity (Some of) c h at)
       else record { known = known_as (value_class c) (Some t); held = Value (Guard (read_from (Some of) h) n); at = at }) (number_within t)
 
-  narrowed_within : (x : Symbol) (k : ℕ) (a : Spot) (v : Narrowed) → desig.narrowed_by within x k a v ≡ desig.narrowed_by e x k a v
-  narrowed_within x k a v = ap (λ (b : Spot). if desig.is_narrowed x k v then b else a) (guarded_within v.of a.known.of a.known.class a.held a.at)
+  narrowed_within : (x : Symbol) (k : ℕ) (a : Entity) (v : Narrowed) → desig.narrowed_by within x k a v ≡ desig.narrowed_by e x k a v
+  narrowed_within x k a v = ap (λ (b : Entity). if desig.is_narrowed x k v then b else a) (guarded_within v.of a.known.of a.known.class a.held a.at)
 
-  narrows_within : (x : Symbol) (k : ℕ) (vs : List Narrowed) (a : Spot) → NarrowsWell e x k a vs → NarrowsWell within x k a vs
+  narrows_within : (x : Symbol) (k : ℕ) (vs : List Narrowed) (a : Entity) → NarrowsWell e x k a vs → NarrowsWell within x k a vs
   narrows_within x k [] a well = tt
   narrows_within x k (v ∷ vs) a well = (
     λ is. may_within (desig.is_passed (desig.place_of a.held)) a.known.of (Some v.of) ∙ well.0 is,
@@ -213,7 +213,7 @@ condition_whole p e whole = whole_within e e.narrowed e.is_exclusive true p whol
 
 module _ (e : Env) where
   -- one more that is narrowed
-  narrows_more : (x : Symbol) (k : ℕ) (vs : List Narrowed) (n : Narrowed) (a : Spot) → NarrowsWell e x k a vs →
+  narrows_more : (x : Symbol) (k : ℕ) (vs : List Narrowed) (n : Narrowed) (a : Entity) → NarrowsWell e x k a vs →
       (let b = fold (desig.narrowed_by e x k) a vs in
       desig.is_narrowed x k n ≡ true → desig.may_test e (desig.is_passed (desig.place_of b.held)) b.known.of (Some n.of) ≡ true) → NarrowsWell e x k a (vs ++ n ∷ [])
   narrows_more x k [] n a well last = (last, tt)
@@ -259,7 +259,7 @@ module _ (e : Env) where
   access_of false (Some OnlyRead) = tt
 
   -- two of one variable differ in their classes and places alone
-  abbrev AreAlike : Spot → Spot → Type 0
+  abbrev AreAlike : Entity → Entity → Type 0
   AreAlike a b = (a.held ≡ b.held) × (a.known.of ≡ b.known.of) × IsOfVariable a.known.class × IsOfVariable b.known.class
 
   known_alike : (c d : Class) (of : Option TypeId) (h : Held) (at there : Pos) → IsOfVariable c → IsOfVariable d →
@@ -267,28 +267,28 @@ module _ (e : Env) where
   known_alike c d of h at there i j = (refl, known_of c of i ∙ sym (known_of d of j), known_class c of i, known_class d of j)
 
   guarded_parts : (t : TypeId) (of : Option TypeId) (h : Held) (c d : Class) (at there : Pos) → IsOfVariable c → IsOfVariable d →
-      AreAlike (desig.guarded_spot e t (spot of c h at)) (desig.guarded_spot e t (spot of d h there))
+      AreAlike (desig.guarded_entity e t (entity of c h at)) (desig.guarded_entity e t (entity of d h there))
   guarded_parts t None h c d at there i j = known_alike c d None h at there i j
   guarded_parts t (Some of) h c d at there i j = by (desig.is_record_type e of)
     where
       by : (b : Bool) →
-          AreAlike (if b then desig.guarded_record t (spot (Some of) c h at) else desig.guarded_object e t (spot (Some of) c h at))
-          (if b then desig.guarded_record t (spot (Some of) d h there) else desig.guarded_object e t (spot (Some of) d h there))
+          AreAlike (if b then desig.guarded_record t (entity (Some of) c h at) else desig.guarded_object e t (entity (Some of) c h at))
+          (if b then desig.guarded_record t (entity (Some of) d h there) else desig.guarded_object e t (entity (Some of) d h there))
       by true = known_alike c d (Some t) _ at there i j
       by false = known_alike (value_class c) (value_class d) (Some t) _ at there (value_of c i) (value_of d j)
 
-  guarded_alike : (t : TypeId) (a b : Spot) → AreAlike a b → AreAlike (desig.guarded_spot e t a) (desig.guarded_spot e t b)
+  guarded_alike : (t : TypeId) (a b : Entity) → AreAlike a b → AreAlike (desig.guarded_entity e t a) (desig.guarded_entity e t b)
   guarded_alike t a b are =
-      subst (λ of. AreAlike (desig.guarded_spot e t a) (desig.guarded_spot e t (spot of b.known.class b.held b.at))) are.1
-      (subst (λ h. AreAlike (desig.guarded_spot e t a) (desig.guarded_spot e t (spot a.known.of b.known.class h b.at))) are.0
+      subst (λ of. AreAlike (desig.guarded_entity e t a) (desig.guarded_entity e t (entity of b.known.class b.held b.at))) are.1
+      (subst (λ h. AreAlike (desig.guarded_entity e t a) (desig.guarded_entity e t (entity a.known.of b.known.class h b.at))) are.0
       (guarded_parts t a.known.of a.held a.known.class b.known.class a.at b.at are.2 are.3))
 
-  fold_alike : (x y : Symbol) (k : ℕ) → x.at ≡ y.at → (vs : List Narrowed) (a b : Spot) → AreAlike a b →
+  fold_alike : (x y : Symbol) (k : ℕ) → x.at ≡ y.at → (vs : List Narrowed) (a b : Entity) → AreAlike a b →
       AreAlike (fold (desig.narrowed_by e x k) a vs) (fold (desig.narrowed_by e y k) b vs)
   fold_alike x y k same [] a b are = are
   fold_alike x y k same (v ∷ vs) a b are = fold_alike x y k same vs (desig.narrowed_by e x k a v) (desig.narrowed_by e y k b v) one
     where
-      at : (c d : Bool) → c ≡ d → AreAlike (if c then desig.guarded_spot e v.of a else a) (if d then desig.guarded_spot e v.of b else b)
+      at : (c d : Bool) → c ≡ d → AreAlike (if c then desig.guarded_entity e v.of a else a) (if d then desig.guarded_entity e v.of b else b)
       at true true is = guarded_alike v.of a b are
       at false false is = are
       at true false is = absurd (cc)
@@ -330,8 +330,8 @@ module _ (e : Env) where
 -- WITH of what is tested is a statement.
 
 module _ (p : Inside) (e : Env) (whole : IsWhole p e) where
-  with_parts : (at : Pos) (of : Option TypeId) (c : Class) (h : Held) (q : Pos) → IsSpot p e (spot of c h q) → (u : TypeId) →
-      desig.may_test e (desig.is_passed (desig.place_of h)) of (Some u) ≡ true → (body : Stats) → AreStatements p body → IsStatement p (with_stat at (desig.guarded_spot e u (spot of c h q)).held body)
+  with_parts : (at : Pos) (of : Option TypeId) (c : Class) (h : Held) (q : Pos) → IsEntity p e (entity of c h q) → (u : TypeId) →
+      desig.may_test e (desig.is_passed (desig.place_of h)) of (Some u) ≡ true → (body : Stats) → AreStatements p body → IsStatement p (with_stat at (desig.guarded_entity e u (entity of c h q)).held body)
   with_parts at None c h q is u may body are = absurd (no_type p e (record { of = None; class = c }) h refl (is.sound whole))
   with_parts at (Some of) c h q is u may body are = by (desig.is_record_type e of) refl
     where
@@ -348,7 +348,7 @@ module _ (p : Inside) (e : Env) (whole : IsWhole p e) where
           ((type_as u, typed, subst (λ t. is_record (row_of p.program.types (id_of t)) ≡ true) (sym typed.4) typed.3), are)
       guarded place (opened t r same opens opening rows lengths variables) = absurd (cc)
 
-      record_held : desig.is_record_type e of ≡ true → (h : Held) → IsSoundSpot p e (spot (Some of) c h q) → desig.is_passed (desig.place_of h) ≡ true →
+      record_held : desig.is_record_type e of ≡ true → (h : Held) → IsSoundEntity p e (entity (Some of) c h q) → desig.is_passed (desig.place_of h) ≡ true →
           IsStatement p (with_stat at (desig.part_held (λ place. Guarded place (object_number u)) h) body)
       record_held kind (Stands place) sound passed = guarded place (guard_record p e whole of u place sound passed kind test.1)
       record_held kind (Value x) sound passed = absurd (not_both (sym passed))
@@ -367,10 +367,10 @@ module _ (p : Inside) (e : Env) (whole : IsWhole p e) where
       first false is = is
 
       by : (b : Bool) → desig.is_record_type e of ≡ b →
-          IsStatement p (with_stat at (if b then desig.guarded_record u (spot (Some of) c h q) else desig.guarded_object e u (spot (Some of) c h q)).held body)
+          IsStatement p (with_stat at (if b then desig.guarded_record u (entity (Some of) c h q) else desig.guarded_object e u (entity (Some of) c h q)).held body)
       by true kind = record_held kind h (is.sound whole) (passed_of kind (desig.is_passed (desig.place_of h)) test.0)
       by false other = object_held (first (desig.is_reference e of) (sym (ap (λ r. desig.is_reference e of || (r && desig.is_passed (desig.place_of h))) other) ∙ test.0))
 
-  pub with_typed : (at : Pos) (v : Spot) → IsSpot p e v → (u : TypeId) → desig.may_test e (desig.is_passed (desig.place_of v.held)) v.known.of (Some u) ≡ true → (body : Stats) → AreStatements p body →
-      IsStatement p (with_stat at (desig.guarded_spot e u v).held body)
+  pub with_typed : (at : Pos) (v : Entity) → IsEntity p e v → (u : TypeId) → desig.may_test e (desig.is_passed (desig.place_of v.held)) v.known.of (Some u) ≡ true → (body : Stats) → AreStatements p body →
+      IsStatement p (with_stat at (desig.guarded_entity e u v).held body)
   with_typed at v is u may body are = with_parts at v.known.of v.known.class v.held v.at is u may body are

@@ -28,7 +28,7 @@ use Rattle.aos_symbols.proofs.Told.{IsTold, basic, of_any, defined}
 use Rattle.aos_known.specs.declared.known.Class.{Class}
 use Rattle.aos_known.specs.declared.known.Class.TheVariants.{Unknown, Constant, Variable, ReadOnly, Computed, Procedure}
 use Rattle.aos_known.specs.declared.known.Known.{Known}
-use Rattle.aos_known.specs.Known.{Answer, Spot, Held, Stands, Value, passes, is as is_the, is_basic, is_long_text, fits, fits_type, object_number, type_as}
+use Rattle.aos_known.specs.Known.{Answer, Entity, Held, Stands, Value, passes, is as is_the, is_basic, is_long_text, fits, fits_type, object_number, type_as}
 use Rattle.aos_known.specs.Kinds.{has_parts, is_opened, is_built, is_pointer_type, is_object_type}
 use Rattle.aos_known.specs.Places.{place_of, place_in}
 use Rattle.aos_known.proofs.Inside.{Inside, IsPlaceOf, IsOf, IsStatement}
@@ -44,9 +44,9 @@ use Rattle.aos_check_expr.specs.Expressions.{designator}
 use Rattle.aos_check_expr.proofs.Objects.{IsMadeAs, pointer_kind, object_kind}
 use Rattle.aos_check_expr.proofs.Pointed.{made_there, made_pointed, number_back}
 use Rattle.aos_check_expr.proofs.Passed.{basic_fit, whole_place}
-use Rattle.aos_check_expr.proofs.Spots.{IsTyped, closed, opened, IsStoredHeld, opened_row}
+use Rattle.aos_check_expr.proofs.Entities.{IsTyped, closed, opened, IsStoredHeld, opened_row}
 use Rattle.aos_check_expr.proofs.Worded.{room_kept, room_writable}
-use Rattle.aos_check_expr.proofs.Typing.{IsWhole, IsSoundSpot, IsTextAt, characters_are, text_rows_are, designator_sound, designator_known, designator_stored}
+use Rattle.aos_check_expr.proofs.Typing.{IsWhole, IsSoundEntity, IsTextAt, characters_are, text_rows_are, designator_sound, designator_known, designator_stored}
 use Rattle.aos_check_stat.specs.Called.{is_made, made_type, lengths_wanted, new_breaches, count_breaches, put_text}
 use Rattle.aos_check_stat.specs.Called as judge
 
@@ -102,22 +102,22 @@ MayBe p (Some x) = IsStatement p x
 
 module _ (p : Inside) (e : Env) (whole : IsWhole p e) where
   -- what a designator that breaks no rule is
-  pub record IsRead (a : Spot) : Type 0 where
+  pub record IsRead (a : Entity) : Type 0 where
     pub class : IsKnownClass IsGood a.known.class
     pub held : IsStoredHeld a.held a.known.class
-    pub sound : IsSoundSpot p e a
+    pub sound : IsSoundEntity p e a
 
   pub read_sound : (d : Desig) → Holds IsRead (designator e d)
   read_sound d none = record { class = designator_known p e whole d none; held = designator_stored p e whole d none; sound = designator_sound p e whole d none }
 
   -- a variable of a basic type, one that has parts, or an open array
-  pub record IsAssigned (a : Spot) : Type 0 where
+  pub record IsAssigned (a : Entity) : Type 0 where
     pub of : TypeId
     pub known : a.known.of ≡ Some of
     pub built : is_built e of ≡ true
     pub typed : IsTyped p e (place_of a.held) (Some of)
 
-  variable_assigned : (a : Spot) (of : Option TypeId) → of ≡ a.known.of → IsTyped p e (place_of a.held) of → passes (is_built e) of ≡ true → IsAssigned a
+  variable_assigned : (a : Entity) (of : Option TypeId) → of ≡ a.known.of → IsTyped p e (place_of a.held) of → passes (is_built e) of ≡ true → IsAssigned a
   variable_assigned a None is (closed typed known) test = absurd known
   variable_assigned a None is (opened t r same at opening rows lengths variables) test = absurd (none-some t same)
   variable_assigned a (Some t) is typed test = record { of = t; known = sym is; built = test; typed = typed }
@@ -128,15 +128,15 @@ module _ (p : Inside) (e : Env) (whole : IsWhole p e) where
   told_typed place t isnt (opened u r same at opening rows lengths variables) = absurd (not_both (sym isnt ∙ ap (is_opened e) (same_Some t u same) ∙ opening))
 
   -- what is written is a variable of its type
-  pub written_typed : (a : Spot) (first : Pos) → IsRead a → written a.known.class first ≡ [] → IsTyped p e (place_of a.held) a.known.of
+  pub written_typed : (a : Entity) (first : Pos) → IsRead a → written a.known.class first ≡ [] → IsTyped p e (place_of a.held) a.known.of
   written_typed a first is kept = by a.held refl is.held is.sound
     where
-      by : (h : Held) → h ≡ a.held → IsStoredHeld h a.known.class → IsSoundSpot p e (record { known = a.known; held = h; at = a.at }) →
+      by : (h : Held) → h ≡ a.held → IsStoredHeld h a.known.class → IsSoundEntity p e (record { known = a.known; held = h; at = a.at }) →
           IsTyped p e (place_of a.held) a.known.of
       by (Stands place) same held sound = subst (λ h. IsTyped p e (place_of h) a.known.of) same sound
       by (Value x) same held sound = absurd (no_value a.known.class first is.class held kept)
 
-  pub assigned_sound : (a : Spot) (first : Pos) → IsRead a → Holds IsAssigned (assigned e first a)
+  pub assigned_sound : (a : Entity) (first : Pos) → IsRead a → Holds IsAssigned (assigned e first a)
   assigned_sound a first is h =
       let own = breach_unless (passes (is_built e) a.known.of) 99 a.at in
       let typed = written_typed a first is (none_left (written a.known.class first) own h) in
@@ -151,11 +151,11 @@ module _ (p : Inside) (e : Env) (whole : IsWhole p e) where
       wider p v.typed (type_as sound.of) (type_as t) (scalar_of p sound.of v.typed sound.typed (basic_fit sound.of t low fit)) (fits_includes sound.of t (basic_fit sound.of t low fit) fit)
 
   -- of a variable of a basic type
-  pub fitting : (a : Spot) (v : Answer) (is : IsAssigned a) → is_basic is.of ≡ true → IsSound p v → fits v.known.of a.known.of ≡ true → IsOf p v.typed (type_as is.of)
+  pub fitting : (a : Entity) (v : Answer) (is : IsAssigned a) → is_basic is.of ≡ true → IsSound p v → fits v.known.of a.known.of ≡ true → IsOf p v.typed (type_as is.of)
   fitting a v is low sound h = fits_basic is.of v low sound (ap (fits v.known.of) (sym is.known) ∙ h)
 
   -- of one that has parts
-  pub record IsCopied (a : Spot) (v : Answer) (t : TypeId) : Type 0 where
+  pub record IsCopied (a : Entity) (v : Answer) (t : TypeId) : Type 0 where
     pub from : (u : TType) × IsPlaceOf p (place_in v.typed) u × (comes_to p.program.types (id_of u) (id_of (type_as t)) ≡ true)
     pub row : is_whole (row_of p.program.types (id_of (type_as t))) ≡ true
 
@@ -163,7 +163,7 @@ module _ (p : Inside) (e : Env) (whole : IsWhole p e) where
   has_row t told parts =
       ap (λ u. is_whole (row_of p.program.types u)) (id_as e.types t told) ∙ ap (λ rows. is_whole (row_of rows t)) whole.rows ∙ (and_parts _ _ parts).1
 
-  pub copying : (a : Spot) (v : Answer) (is : IsAssigned a) → IsTold e.types is.of → has_parts e is.of ≡ true → IsSound p v → is_assignable e v.known a.known.of ≡ true → IsCopied a v is.of
+  pub copying : (a : Entity) (v : Answer) (is : IsAssigned a) → IsTold e.types is.of → has_parts e is.of ≡ true → IsSound p v → is_assignable e v.known a.known.of ≡ true → IsCopied a v is.of
   copying a v is told parts sound h =
       let place = whole_place p e whole is.of parts v sound (ap (is_assignable e v.known) (sym is.known) ∙ h) in
       record {
@@ -190,7 +190,7 @@ module _ (p : Inside) (e : Env) (whole : IsWhole p e) where
   always false true = refl
   always false false = refl
 
-  pub putting : (first : Pos) (a : Spot) (v : Answer) (t : TextConstant) → IsAssigned a → IsSound p v → judge.text_to e a v ≡ Some t →
+  pub putting : (first : Pos) (a : Entity) (v : Answer) (t : TextConstant) → IsAssigned a → IsSound p v → judge.text_to e a v ≡ Some t →
       IsStatement p (put_text e first true v a)
   putting first a v t is sound found =
       let one = text_stored (is_characters e a.known) (string_in e v.known.class) t found in
@@ -209,7 +209,7 @@ module _ (p : Inside) (e : Env) (whole : IsWhole p e) where
       by None (opened t r same at opening rows lengths variables) h = absurd (none-some t same)
       by (Some t) typed h = h
 
-  pub copied_text : (at : Pos) (v : Answer) (second : Pos) (a : Spot) → IsTextAt p e v → IsRead a →
+  pub copied_text : (at : Pos) (v : Answer) (second : Pos) (a : Entity) → IsTextAt p e v → IsRead a →
       written a.known.class second ++ breach_unless (passes (λ t. is_characters e a.known) a.known.of) 35 second ≡ [] → IsStatement p (put_text e at false v a)
   copied_text at v second a text is h =
       let test = passes (λ t. is_characters e a.known) a.known.of in
@@ -298,13 +298,13 @@ module _ (p : Inside) (e : Env) (whole : IsWhole p e) where
       by o there pointer = absurd (not_both pointer)
 
   -- what NEW makes something for is of a pointer type, or of an object type
-  pub record IsTarget (a : Spot) : Type 0 where
+  pub record IsTarget (a : Entity) : Type 0 where
     pub of : TypeId
     pub known : a.known.of ≡ Some of
     pub kind : (is_pointer_type e of || is_object_type e of) ≡ true
     pub typed : IsPlaceOf p (place_of a.held) (type_as of)
 
-  pub target_sound : (at first : Pos) (a : Spot) → IsRead a → new_breaches e at first a.known.of a.known.class ≡ [] → IsTarget a
+  pub target_sound : (at first : Pos) (a : Entity) → IsRead a → new_breaches e at first a.known.of a.known.class ≡ [] → IsTarget a
   target_sound at first a is none =
       by a.known.of refl (written_typed a first is (none_right (breach_unless (is_made e a.known.of) 47 at) (written a.known.class first) none))
     where

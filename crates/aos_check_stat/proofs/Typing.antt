@@ -38,7 +38,7 @@ use Rattle.aos_symbols.specs.Breaches.{breach_unless}
 use Rattle.aos_symbols.specs.Judged.{Judged, judged, kept, bind, walk}
 use Rattle.aos_symbols.specs.Env as env
 use Rattle.aos_symbols.proofs.Holds.{Holds, holds_bind, holds_walk, none_left, none_right, test_is, broken}
-use Rattle.aos_known.specs.Known.{Answer, Spot, passes, is as is_the, type_as, is_long_text, width_of}
+use Rattle.aos_known.specs.Known.{Answer, Entity, passes, is as is_the, type_as, is_long_text, width_of}
 use Rattle.aos_known.specs.Kinds.{has_parts, is_opened}
 use Rattle.aos_known.specs.Places.{place_of, place_in}
 use Rattle.aos_known.proofs.Inside.{Inside, IsOf, IsStatement, AreStatements, AreArms, AreCases}
@@ -51,7 +51,7 @@ use Rattle.aos_designators.specs.Designators.{assigned}
 use Rattle.aos_check_expr.specs.Expressions.{expr, condition, designator}
 use Rattle.aos_check_expr.proofs.Passed.{scalar_fits}
 use Rattle.aos_check_expr.proofs.Tested.{known_some}
-use Rattle.aos_check_expr.proofs.Spots.{IsResultOf, IsSpot, Part, MayFind, plain_head, behind_head, named_spot, spotted, refused_part}
+use Rattle.aos_check_expr.proofs.Entities.{IsResultOf, IsEntity, Part, MayFind, plain_head, behind_head, named_entity, denoted, refused_part}
 use Rattle.aos_check_expr.proofs.Whole.{many_types}
 use Rattle.aos_check_expr.proofs.Typing.{IsWhole, IsSound, expr_sound, expr_part, condition_sound}
 use Rattle.aos_check_expr.proofs.Uncalled.{condition_calm}
@@ -95,7 +95,7 @@ module _ (p : Inside) (e : Env) (whole : IsWhole p e) where
   none_of (Some x) h = absurd (cc)
 
   -- an assigned value fits
-  stat_sound_of : (first : Pos) (a : Spot) (v : Answer) → IsAssigned p e whole a → Part p e v → calls.value_fits e a v (calls.text_to e a v) ≡ true →
+  stat_sound_of : (first : Pos) (a : Entity) (v : Answer) → IsAssigned p e whole a → Part p e v → calls.value_fits e a v (calls.text_to e a v) ≡ true →
       IsStatement p (judge.assigned_stat e first a v)
   stat_sound_of first a v is part h =
       either_stat (is_some (calls.text_to e a v)) (calls.put_text e first true v a) _
@@ -134,7 +134,7 @@ module _ (p : Inside) (e : Env) (whole : IsWhole p e) where
 
   assign_sound : (d : Desig) (at : Pos) (x : TreeExpr) → Holds MayBe (judge.assign e d at x)
   assign_sound d at x =
-      let last = λ (a : Spot) (v : Answer). judged (judge.assign_breaches e at a v) (Some (judge.assigned_stat e d.name.pos a v)) in
+      let last = λ (a : Entity) (v : Answer). judged (judge.assign_breaches e at a v) (Some (judge.assigned_stat e d.name.pos a v)) in
       holds_bind (IsAssigned p e whole) MayBe (bind (designator e d) (λ a. assigned e d.name.pos a)) (λ a. bind (expr e x) (λ v. last a v))
       (holds_bind (IsRead p e whole) (IsAssigned p e whole) (designator e d) (λ a. assigned e d.name.pos a) (read_sound p e whole d) (λ a is. assigned_sound p e whole a d.name.pos is))
       (λ a is. holds_bind (Part p e) MayBe (expr e x) (λ v. last a v) (expr_part p e whole x)
@@ -172,45 +172,45 @@ module _ (p : Inside) (e : Env) (whole : IsWhole p e) where
   -- WITH.
 
   -- what a WITH names is a designator, that of its variable, which breaks no rule
-  abbrev pub IsWithVariable : Qualident → Spot → Type 0
-  IsWithVariable q v = (v ≡ (judge.with_variable e q).answer) × ((judge.with_variable e q).breaches ≡ []) × IsSpot p e v
+  abbrev pub IsWithVariable : Qualident → Entity → Type 0
+  IsWithVariable q v = (v ≡ (judge.with_variable e q).answer) × ((judge.with_variable e q).breaches ≡ []) × IsEntity p e v
 
-  with_name_sound : (h : Head) → MayFind p e h.found → Holds (IsSpot p e) (judge.with_name e h)
+  with_name_sound : (h : Head) → MayFind p e h.found → Holds (IsEntity p e) (judge.with_name e h)
   with_name_sound h may = by (judge.may_be_variable h.found)
     where
-      by : (b : Bool) → Holds (IsSpot p e) (if b then desig.named e h else desig.spotted h.first (desig.refused (judge.with_rule e h.found) h.first))
-      by true = named_spot p e whole.constants h may
-      by false = spotted p e h.first (desig.refused (judge.with_rule e h.found) h.first) (refused_part p e (judge.with_rule e h.found) h.first)
+      by : (b : Bool) → Holds (IsEntity p e) (if b then desig.named e h else desig.denoted h.first (desig.refused (judge.with_rule e h.found) h.first))
+      by true = named_entity p e whole.constants h may
+      by false = denoted p e h.first (desig.refused (judge.with_rule e h.found) h.first) (refused_part p e (judge.with_rule e h.found) h.first)
 
-  with_part_sound : (h : Head) → MayFind p e h.found → Holds (IsSpot p e) (judge.with_part e h)
+  with_part_sound : (h : Head) → MayFind p e h.found → Holds (IsEntity p e) (judge.with_part e h)
   with_part_sound h may = by (judge.is_missing h.found)
     where
-      by : (b : Bool) → Holds (IsSpot p e) (if b then desig.named e h else desig.spotted h.first (desig.refused (judge.with_rule e h.found) h.first))
-      by true = named_spot p e whole.constants h may
-      by false = spotted p e h.first (desig.refused (judge.with_rule e h.found) h.first) (refused_part p e (judge.with_rule e h.found) h.first)
+      by : (b : Bool) → Holds (IsEntity p e) (if b then desig.named e h else desig.denoted h.first (desig.refused (judge.with_rule e h.found) h.first))
+      by true = named_entity p e whole.constants h may
+      by false = denoted p e h.first (desig.refused (judge.with_rule e h.found) h.first) (refused_part p e (judge.with_rule e h.found) h.first)
 
   pub with_variable_sound : (q : Qualident) → Holds (IsWithVariable q) (judge.with_variable e q)
   with_variable_sound q none = (refl, none, by q.second none)
     where
-      behind : (n : Name) (b : Bool) → Holds (IsSpot p e) (if b then judge.with_name e (desig.member e q.first n) else judge.with_part e (desig.plain e q.first))
+      behind : (n : Name) (b : Bool) → Holds (IsEntity p e) (if b then judge.with_name e (desig.member e q.first n) else judge.with_part e (desig.plain e q.first))
       behind n true = with_name_sound (desig.member e q.first n) (behind_head p e (env.lookup e q.first) n)
       behind n false = with_part_sound (desig.plain e q.first) (plain_head p e q.first)
 
-      by : (o : Option Name) → Holds (IsSpot p e) (judge.with_variable e (record { first = q.first; second = o }))
+      by : (o : Option Name) → Holds (IsEntity p e) (judge.with_variable e (record { first = q.first; second = o }))
       by None = with_name_sound (desig.plain e q.first) (plain_head p e q.first)
       by (Some n) = behind n (desig.is_module (env.lookup e q.first))
 
-  abbrev pub MayBeNarrowed : TypeId → Spot → Type 0
+  abbrev pub MayBeNarrowed : TypeId → Entity → Type 0
   MayBeNarrowed u v = desig.may_test e (desig.is_passed (place_of v.held)) v.known.of (Some u) ≡ true
 
-  abbrev pub IsGuarded : Spot → TypeId → Spot → Type 0
-  IsGuarded v u g = MayBeNarrowed u v × (g ≡ desig.guarded_spot e u v)
+  abbrev pub IsGuarded : Entity → TypeId → Entity → Type 0
+  IsGuarded v u g = MayBeNarrowed u v × (g ≡ desig.guarded_entity e u v)
 
-  pub guard_sound : (at : Pos) (v : Spot) → IsSpot p e v → (u : TypeId) → Holds (IsGuarded v u) (desig.guard e at v (Some u))
+  pub guard_sound : (at : Pos) (v : Entity) → IsEntity p e v → (u : TypeId) → Holds (IsGuarded v u) (desig.guard e at v (Some u))
   guard_sound at v is u = by (desig.may_test e (desig.is_passed (place_of v.held)) v.known.of (Some u)) refl
     where
       by : (b : Bool) → desig.may_test e (desig.is_passed (place_of v.held)) v.known.of (Some u) ≡ b →
-          Holds (IsGuarded v u) (if b then kept (desig.guarded_spot e u v) else desig.spotted v.at (desig.refused_variable 41 at))
+          Holds (IsGuarded v u) (if b then kept (desig.guarded_entity e u v) else desig.denoted v.at (desig.refused_variable 41 at))
       by true may = λ none. (may, refl)
       by false may = broken (IsGuarded v u) _ [] _
 
@@ -230,8 +230,8 @@ module _ (p : Inside) (e : Env) (whole : IsWhole p e) where
   name_ends u NotExported h is none may = whole
   name_ends u (Found x) h is none may = by x.means refl
     where
-      other : Judged Spot
-      other = desig.spotted h.first (desig.refused (judge.with_rule e h.found) h.first)
+      other : Judged Entity
+      other = desig.denoted h.first (desig.refused (judge.with_rule e h.found) h.first)
 
       by : (m : Meaning) → x.means ≡ m → Ends (judge.narrowed_meaning x m u)
       by (means.Variable k) same =
@@ -244,8 +244,8 @@ module _ (p : Inside) (e : Env) (whole : IsWhole p e) where
   part_breaks : (l : Lookup) (h : Head) → h.found ≡ l → (judge.with_part e h).breaches ≡ [] → ⊥
   part_breaks l h is none = by l (sym (ap (λ l. (if judge.is_missing l then desig.found e l h else other).breaches) is) ∙ none)
     where
-      other : Judged Spot
-      other = desig.spotted h.first (desig.refused (judge.with_rule e h.found) h.first)
+      other : Judged Entity
+      other = desig.denoted h.first (desig.refused (judge.with_rule e h.found) h.first)
 
       by : (l : Lookup) → (if judge.is_missing l then desig.found e l h else other).breaches ≡ [] → ⊥
       by NoName none = some_breach none
@@ -354,14 +354,14 @@ module _ (p : Inside) where
         (λ step z. holds_bind AreFine Fine (judge.stats_in e in_loop [] row) (whole_for c a b step) (stats_sound e whole in_loop [] tt row)
         (λ body are h. (is.variable, place_changed p e whole routine.Inc c.0 c.1 is.typed is.number, x, y, z, are))))))
     stat_sound e whole in_loop (stat.With' q a r b shape row) =
-        let rest = λ (v : Spot) (t : Option TypeId) (g : Spot). bind (judge.stats_in (judge.narrowed_by e a t) in_loop [] row) (λ body. kept (Some (judge.with_stat q g.held (listed body)))) in
+        let rest = λ (v : Entity) (t : Option TypeId) (g : Entity). bind (judge.stats_in (judge.narrowed_by e a t) in_loop [] row) (λ body. kept (Some (judge.with_stat q g.held (listed body)))) in
         holds_bind (IsWithVariable p e whole a) Fine (judge.with_variable e a) (λ v. bind (known_type e b) (λ t. bind (desig.guard e r v t) (λ g. rest v t g))) (with_variable_sound p e whole a)
         (λ v is. holds_bind (λ (t : Option TypeId). (u : TypeId) × (t ≡ Some u)) Fine (known_type e b) (λ t. bind (desig.guard e r v t) (λ g. rest v t g)) (known_some p e b)
         (λ t u. subst (λ t. Holds Fine (bind (desig.guard e r v t) (λ g. rest v t g))) (sym u.1)
         (holds_bind (IsGuarded p e whole v u.0) Fine (desig.guard e r v (Some u.0)) (λ g. rest v (Some u.0) g) (guard_sound p e whole r v is.2 u.0)
         (λ g guarded. holds_bind AreFine Fine (judge.stats_in (judge.narrowed_by e a (Some u.0)) in_loop [] row) (λ body. kept (Some (judge.with_stat q g.held (listed body))))
         (stats_sound (judge.narrowed_by e a (Some u.0)) (narrowed_whole p e whole a u.0 is.1 (subst (λ v. MayBeNarrowed p e whole u.0 v) is.0 guarded.0)) in_loop [] tt row)
-        (λ body are h. subst (λ (g : Spot). IsStatement p (judge.with_stat q g.held (listed body))) (sym guarded.1) (with_typed p e whole q v is.2 u.0 guarded.0 (listed body) are))))))
+        (λ body are h. subst (λ (g : Entity). IsStatement p (judge.with_stat q g.held (listed body))) (sym guarded.1) (with_typed p e whole q v is.2 u.0 guarded.0 (listed body) are))))))
 
     stats_sound : {m : _} (e : Env) (whole : IsWhole p e) (in_loop : Bool) (ts : List Stat) → AreFine ts → (r : Row_of-Stat m) → Holds AreFine (judge.stats_in e in_loop ts r)
     stats_sound e whole in_loop ts are end_of-Stat = λ h. are

@@ -10,9 +10,9 @@ use Rattle.aos_symbols.specs.declared.env.Lookup.TheVariants.{Unknown as NoName,
 use Rattle.aos_symbols.specs.declared.env.Env.{Env}
 use Rattle.aos_symbols.specs.Judged.{Judged}
 use Rattle.aos_designators.specs.Designators as desig
-pub use Rattle.aos_stat_rules.specs.Calls.{refused, not_yet, plain_call, ended, arguments, behind_arguments, is_selected, is_selected_behind, goes_on, before_last, is_made, new_breaches, is_no_variable, lengths_wanted, count_breaches, made_type, makes_object, initializer_of, may_be_length, no_call, gives_value, is_value_called, changing, is_changed_set, is_amount, is_changed, changed_breaches, changed_by, code_of, is_code, code_in, text_to, value_fits, put_text, copied, called_spot}
+pub use Rattle.aos_stat_rules.specs.Calls.{refused, not_yet, plain_call, ended, arguments, behind_arguments, is_selected, is_selected_behind, goes_on, before_last, is_made, new_breaches, is_no_variable, lengths_wanted, count_breaches, made_type, makes_object, initializer_of, may_be_length, no_call, gives_value, is_value_called, changing, is_changed_set, is_amount, is_changed, changed_breaches, changed_by, code_of, is_code, code_in, text_to, value_fits, put_text, copied, called_entity}
 pub use Rattle.aos_check_routines.specs.Routines.{outs, int_call, char_call, text_argument, string_call, out_call, out_selectors, with_length, new_lengths, initialized_by, initialized, new_object, new_with, new_of, new_call, copied_to, copy_call, amount, change_of, change_at, change_call, trap_code, assert_call, halt_call, routine_call}
-pub use Rattle.aos_check_call.specs.Calls.{perform_with, perform_signed, perform, performed, perform_bound, called_as, called_alone, bracketed_spot, bracketed_name, bracketed_as, called_with, part_of, called_whole, called_before, called_last, called_value, called_member, called_in_module}
+pub use Rattle.aos_check_call.specs.Calls.{perform_with, perform_signed, perform, performed, perform_bound, called_as, called_alone, bracketed_entity, bracketed_name, bracketed_as, called_with, part_of, called_whole, called_before, called_last, called_value, called_member, called_in_module}
 
 module _ (e : Env) where
   -- a call, by what its first name stands for

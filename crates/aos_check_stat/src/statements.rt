@@ -44,11 +44,11 @@ fn assign(
         (λ s. option_map seen_stat s ≡ (judge.assign env.now desig.now at value.now).answer) }
 {
     let first = desig.name.pos;
-    let spot = designator(alloc, found, env, desig)?;
-    refuse_assigned(found, env, first, &spot);
+    let entity = designator(alloc, found, env, desig)?;
+    refuse_assigned(found, env, first, &entity);
     let value = expr(alloc, found, env, value)?;
-    refuse_unfit(alloc, found, env, at, &spot, &value)?;
-    let one = assigned_stat(alloc, env, first, spot, value)?;
+    refuse_unfit(alloc, found, env, at, &entity, &value)?;
+    let one = assigned_stat(alloc, env, first, entity, value)?;
     Ok(Some(one))
 }
 

@@ -1,6 +1,6 @@
 -- The memory that code works on: cells below each root, and what objects were made as.
 use Rattle.std.specs.Prelude.{ℕ, List, length, Bool}
-use Rattle.aos_base.specs.declared.place.Root.{Root}
+use Rattle.aos_base.specs.declared.root.Root.{Root}
 use Rattle.aos_base.specs.Rooted.{Made}
 use Rattle.aos_base.specs.Shared.{Shared, counted_by, has_room_by}
 pub use Rattle.aos_base.specs.Shared.{type_of_object, with_object, new_number}

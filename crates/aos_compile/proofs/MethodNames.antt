@@ -28,7 +28,7 @@ use Rattle.aos_check_names.specs.Names.{declared_again, twice_after, twice, obje
 use Rattle.aos_symbols.specs.Scope.{Named, Scope, empty, find, has, with_names, is_procedure, methods_of}
 use Rattle.aos_symbols.proofs.Each.{Each, joined}
 use Rattle.aos_symbols.proofs.Holds.{none_left, none_right, test_is}
-use Rattle.aos_compile.proofs.Slots.{Word, spot, words, has_is, is_in}
+use Rattle.aos_compile.proofs.Slots.{Word, index_in, words, has_is, is_in}
 
 not_both : true ≡ false → ⊥
 not_both e = cc
@@ -52,15 +52,15 @@ copies_both (x ∷ xs) ys w = let more = copies_both xs ys w in omega (arith, mo
 itself : (w : Word) → bytes_eq w w ≡ true
 itself w = (bytes_eq-Decides w w).1 refl
 
-spot_copies : (vs : List Word) (w : Word) (k : ℕ) → spot vs w ≡ Some k → 1 ≤ copies vs w
-spot_copies [] w k is = absurd (none-some k is)
-spot_copies (v ∷ vs) w k is = by (bytes_eq w v) is (spot_copies vs w)
+index_copies : (vs : List Word) (w : Word) (k : ℕ) → index_in vs w ≡ Some k → 1 ≤ copies vs w
+index_copies [] w k is = absurd (none-some k is)
+index_copies (v ∷ vs) w k is = by (bytes_eq w v) is (index_copies vs w)
   where
-    by : (b : Bool) → (if b then Some 0 else option_map suc (spot vs w)) ≡ Some k → ((j : ℕ) → spot vs w ≡ Some j → 1 ≤ copies vs w) → 1 ≤ one b + copies vs w
+    by : (b : Bool) → (if b then Some 0 else option_map suc (index_in vs w)) ≡ Some k → ((j : ℕ) → index_in vs w ≡ Some j → 1 ≤ copies vs w) → 1 ≤ one b + copies vs w
     by true is more = omega arith
-    by false is more = deeper (spot vs w) refl is
+    by false is more = deeper (index_in vs w) refl is
       where
-        deeper : (o : Option ℕ) → spot vs w ≡ o → option_map suc o ≡ Some k → 1 ≤ 0 + copies vs w
+        deeper : (o : Option ℕ) → index_in vs w ≡ o → option_map suc o ≡ Some k → 1 ≤ 0 + copies vs w
         deeper None there is = absurd (none-some k is)
         deeper (Some j) there is = let l = more j there in omega (arith, l)
 
@@ -100,12 +100,12 @@ with_all (n ∷ ns) s once = by (has s n.0) refl (with_all ns (record s { entrie
     behind = sym (append_assoc s.entries (n ∷ []) ns)
 
     twice_there : has s n.0 ≡ true → ⊥
-    twice_there is = at (spot (words s.entries) n.0) refl (sym (has_is s n.0) ∙ is)
+    twice_there is = at (index_in (words s.entries) n.0) refl (sym (has_is s n.0) ∙ is)
       where
-        at : (o : Option ℕ) → spot (words s.entries) n.0 ≡ o → is_some o ≡ true → ⊥
+        at : (o : Option ℕ) → index_in (words s.entries) n.0 ≡ o → is_some o ≡ true → ⊥
         at None there some = not_both (sym some)
         at (Some k) there some =
-            let l = spot_copies (words s.entries) n.0 k there in
+            let l = index_copies (words s.entries) n.0 k there in
             let all : copies (words (s.entries ++ n ∷ ns)) n.0 ≡ copies (words s.entries) n.0 + (one (bytes_eq n.0 n.0) + copies (words ns) n.0) =
             ap (λ vs. copies vs n.0) (map-append (λ (m : Named). m.0) s.entries (n ∷ ns)) ∙ copies_both (words s.entries) (n.0 ∷ words ns) n.0 in
             let o = once n.0 in

@@ -21,7 +21,7 @@ use Rattle.aos_known.specs.Known.{object_number}
 use Rattle.aos_check_expr.proofs.Opens.{OpensFall}
 use Rattle.aos_types.specs.Signature.{same_type, same_kind, same_parameters, same_result, may_stand}
 use Rattle.aos_check_decl.proofs.Typing.{AreReady}
-use Rattle.aos_compile.proofs.Slots.{Word, spot, more, words, is_in}
+use Rattle.aos_compile.proofs.Slots.{Word, index_in, more, words, is_in}
 use Rattle.aos_compile.proofs.TypingMethods.{Meant, bare, meant_at, bare_meant, own_meant, meant, meant_behind, own_start, start, start_behind, slot_words, words_behind, own_words, above, base_falls, meant_is, start_is, words_are, IsMeant, IsOwn, AreOwnOf, HasOwn}
 use Rattle.aos_compile.proofs.TypingProcedures.{AreFormals, IsSignature, signature_on}
 use Rattle.aos_compile.proofs.TypingTables.{same_stays}
@@ -202,7 +202,7 @@ module _ (e f : Env) (ready : AreReady e.types) (ready_on : AreReady f.types) (s
       found = own_meant_stays t there v ∙ is.found;
       slot = is.slot;
       typed = meant_on is.meaning m.procedure is.typed;
-      place = ap (λ ws. spot ws v) (words_stay t there) ∙ is.place;
+      place = ap (λ ws. index_in ws v) (words_stay t there) ∙ is.place;
       keeps = λ u found.
           let one = is.keeps u (sym (behind_same t there v) ∙ found) in
           let other = known u.home u.number one.0 one.1 in (

@@ -37,7 +37,7 @@ use Rattle.aos_compile.proofs.MethodNames.{IsInner, AreOnce, once_first, once_re
 use Rattle.aos_compile.proofs.MethodsStay.{own_meant_is, own_start_is, own_methods_are, in_home, start_in, named_in}
 use Rattle.aos_types.specs.Signature.{may_stand}
 use Rattle.aos_compile.proofs.ObjectScopes.{scope_at, methods_before, method_at}
-use Rattle.aos_compile.proofs.Slots.{Word, spot, spot_is, words, fold_placed, is_in}
+use Rattle.aos_compile.proofs.Slots.{Word, index_in, index_is, words, fold_placed, is_in}
 use Rattle.aos_compile.proofs.TypingMethods.{Meant, bare, meant_at, own_meant, own_start, IsStarted, meant, meant_behind, slot_words, words_behind, own_words, words_are, meant_is, IsOwn, AreOwnOf}
 use Rattle.aos_compile.proofs.TypingProcedures.{IsSignature, heading_signature}
 
@@ -156,25 +156,25 @@ module _ (e : Env) (m : Tree) (j : ℕ) (d : TypeDef) (t : TypeId) where
         ∙ ap (λ s. option_and_then (λ (y : Symbol). meant_at (Some e.here) object y.means) (option_map (env.declared_at (env.object_place object)) s)) (is.inner.found i x at)
 
     -- its slot is the place of its name
-    spotted : (i : ℕ) (x : Def) → slice_get defs i ≡ Some x → (k : ℕ) × (spot (slot_words e t) (word text x.name) ≡ Some k)
-    spotted i x at =
+    indexed : (i : ℕ) (x : Def) → slice_get defs i ≡ Some x → (k : ℕ) × (index_in (slot_words e t) (word text x.name) ≡ Some k)
+    indexed i x at =
         let word_at : slice_get (own_words e t) i ≡ Some (word text x.name) =
         ap (λ l. slice_get l i) words_of ∙ slice_get-map (λ (x : Def). word text x.name) defs i ∙ ap (option_map (λ (x : Def). word text x.name)) at in
         let k = fold_placed (own_words e t) (words_behind e (base_of (row_of e.types t))) (word text x.name) i word_at in
-        (k.0, ap (λ ws. spot ws (word text x.name)) (words_are e ready t below) ∙ k.1)
+        (k.0, ap (λ ws. index_in ws (word text x.name)) (words_are e ready t below) ∙ k.1)
 
     placed_at : (ns : List Named) (i : ℕ) (w : Word) → slice_get (words ns) i ≡ Some w → slice_get (places_in (env.all_methods e t) ns) i ≡ Some (place_of (env.all_methods e t) w)
     placed_at [] i w at = absurd (none-some w at)
     placed_at (n ∷ ns) zero w at = ap (λ v. Some (place_of (env.all_methods e t) v)) (same_Some n.0 w at)
     placed_at (n ∷ ns) (suc i) w at = placed_at ns i w at
 
-    slot_is : (i : ℕ) (x : Def) → slice_get defs i ≡ Some x → spot (slot_words e t) (word text x.name) ≡ Some (slot_at e.here object i)
+    slot_is : (i : ℕ) (x : Def) → slice_get defs i ≡ Some x → index_in (slot_words e t) (word text x.name) ≡ Some (slot_at e.here object i)
     slot_is i x at =
         let w = word text x.name in
-        let k = spotted i x at in
+        let k = indexed i x at in
         let word_at : slice_get (own_words e t) i ≡ Some w =
         ap (λ l. slice_get l i) words_of ∙ slice_get-map (λ (x : Def). word text x.name) defs i ∙ ap (option_map (λ (x : Def). word text x.name)) at in
-        let place : place_of (env.all_methods e t) w ≡ k.0 = ap (λ o. unwrap_or o 0) (spot_is w (slot_words e t) ∙ k.1) in
+        let place : place_of (env.all_methods e t) w ≡ k.0 = ap (λ o. unwrap_or o 0) (index_is w (slot_words e t) ∙ k.1) in
         let number : suc j - 1 ≡ j = omega arith in
         let slot : slot_at e.here object i ≡ place_of (env.all_methods e t) w =
         ap (λ n. unwrap_or (option_and_then (λ ks. slice_get ks i) (slice_get e.here.slots n)) 0) number

@@ -34,7 +34,7 @@ use Rattle.aos_check_types.proofs.TypingLists.{set_other}
 use Rattle.aos_compile.proofs.Nearest.{initializer_is}
 use Rattle.aos_types.specs.Signature.{may_stand}
 use Rattle.aos_compile.proofs.Overriding.{overrides}
-use Rattle.aos_compile.proofs.Slots.{Word, spot, more, words, names_more, fold_stays, is_in, Stands, AreOwn, slots_stand}
+use Rattle.aos_compile.proofs.Slots.{Word, index_in, more, words, names_more, fold_stays, is_in, Stands, AreOwn, slots_stand}
 use Rattle.aos_compile.proofs.TypingProcedures.{IsSignature}
 use Rattle.aos_compile.proofs.TypingTypes.{RowsStay, bases_there}
 
@@ -199,7 +199,7 @@ module _ (e : Env) (modules : List Module) (objects : List ObjectType) where
   -- a type has in the slots of names what these stand for
   pub record HasSlots (t : TypeId) : Type 0 where
     pub stands : Stands (For (meant e t)) (slot_words e t) (methods_of program (object_number t))
-    pub slot : (w : Word) (m : Meant) → meant e t w ≡ Some m → spot (slot_words e t) w ≡ Some m.slot
+    pub slot : (w : Word) (m : Meant) → meant e t w ≡ Some m → index_in (slot_words e t) w ≡ Some m.slot
 
   -- its initializer is that of the program, in its slot
   pub record HasStart (t : TypeId) : Type 0 where
@@ -213,7 +213,7 @@ module _ (e : Env) (modules : List Module) (objects : List ObjectType) where
     pub found : own_meant e t v ≡ Some meaning
     pub slot : meaning.slot ≡ m.slot
     pub typed : IsMeant meaning m.procedure
-    pub place : spot (slot_words e t) v ≡ Some m.slot
+    pub place : index_in (slot_words e t) v ≡ Some m.slot
     pub keeps : (u : Meant) → meant_behind e (base_of (row_of e.types t)) v ≡ Some u →
         (s : Signature) × (env.signature e u.home u.number ≡ Some s) × (may_stand e.types typed.signature s ≡ true)
 
@@ -276,10 +276,10 @@ module _ (e : Env) (modules : List Module) (objects : List ObjectType) where
           by None is = record { long = refl; each = λ w k at. absurd (none-some k at) }
           by (Some b) is = (below b is).stands
 
-      base_slot : (w : Word) (m : Meant) → meant_behind e base w ≡ Some m → spot (words_behind e base) w ≡ Some m.slot
+      base_slot : (w : Word) (m : Meant) → meant_behind e base w ≡ Some m → index_in (words_behind e base) w ≡ Some m.slot
       base_slot w m = by base refl
         where
-          by : (o : Option TypeId) → base ≡ o → meant_behind e o w ≡ Some m → spot (words_behind e o) w ≡ Some m.slot
+          by : (o : Option TypeId) → base ≡ o → meant_behind e o w ≡ Some m → index_in (words_behind e o) w ≡ Some m.slot
           by None is found = absurd (none-some m found)
           by (Some b) is found = (below b is).slot w m found
 
@@ -305,7 +305,7 @@ module _ (e : Env) (modules : List Module) (objects : List ObjectType) where
       own_are [] (m ∷ ms) are = absurd are
       own_are (v ∷ vs) [] are = absurd are
       own_are (v ∷ vs) (m ∷ ms) are = (
-        ap (λ ws. spot ws v) (sym (words_are e ready t there)) ∙ are.0.place,
+        ap (λ ws. index_in ws v) (sym (words_are e ready t there)) ∙ are.0.place,
         (are.0.meaning, first v are.0.meaning are.0.found, are.0.typed),
         over v m are.0,
         are.1,
@@ -340,9 +340,9 @@ module _ (e : Env) (modules : List Module) (objects : List ObjectType) where
         slot = λ w m found. by w m (own_meant e t w) refl found;
       }
         where
-          by : (w : Word) (m : Meant) (o : Option Meant) → own_meant e t w ≡ o → meant e t w ≡ Some m → spot (slot_words e t) w ≡ Some m.slot
+          by : (w : Word) (m : Meant) (o : Option Meant) → own_meant e t w ≡ o → meant e t w ≡ Some m → index_in (slot_words e t) w ≡ Some m.slot
           by w m None none found =
-              ap (λ ws. spot ws w) (words_are e ready t there)
+              ap (λ ws. index_in ws w) (words_are e ready t there)
               ∙ fold_stays (own_words e t) (words_behind e base) w m.slot
               (base_slot w m (sym (meant_is e ready t there w ∙ ap (λ o. option_or o (meant_behind e base w)) none) ∙ found))
           by w m (Some n) own_is found =

@@ -10,9 +10,9 @@ use Rattle.aos_base.specs.declared.kernel.Event.{Event}
 use Rattle.aos_base.specs.declared.kernel.Event.TheVariants as event
 use Rattle.aos_base.specs.declared.kernel.Outcome.TheVariants as outcome_is
 use Rattle.aos_base.specs.Lock.{Entry, Condition, Heir, Nobody, Entrant, Waiter, Trapping, heir}
-use Rattle.aos_base.specs.Book.{Place, On, Ready, At, Next, Runs, WillTrap, Unwinds, Gone, put, place_of, waiting, tell, stands, ready, next_is, owned_by, counted, trapped, ended, born, on_worker, first_ready, is_full, outcome}
+use Rattle.aos_base.specs.Book.{RunState, On, Ready, At, Next, Runs, WillTrap, Unwinds, Gone, put, place_of, waiting, tell, stands, ready, next_is, owned_by, counted, trapped, ended, born, on_worker, first_ready, is_full, outcome}
 use Rattle.aos_base.specs.Machine.{Choice, Step, Tick, Machine, State, on_book, with_frames, go_past, pass, release, trap, enter, await, start, serve, turned, finish, turn_by, dispatch, step_of, tick_of, happens_in, if_going, happens, execution}
-use Rattle.aos_concurrency.specs.Spot.{Spot, spot, GoesPast, MayTrap, AtWork}
+use Rattle.aos_concurrency.specs.LocalState.{LocalState, local_state, GoesPast, MayTrap, AtWork}
 use Rattle.aos_concurrency.specs.Orderly.{Agrees, Orderly}
 use Rattle.aos_concurrency.specs.Regions.{KeepsFits}
 use Rattle.aos_concurrency.specs.Admits.{Admits, AlwaysAdmits}
@@ -20,7 +20,7 @@ use Rattle.aos_concurrency.specs.Sound.{Fitting}
 use Rattle.aos_concurrency.specs.Acting.{acts, acting, Change, ByTurn, ByGoingPast, ByStart, ByTrap, ByEnd, Changes, Unchanged, OneThen, KeepsTidy}
 use Rattle.aos_concurrency.proofs.Tables.{number, put_same, put_other, put_back, each_put}
 use Rattle.aos_concurrency.proofs.Lines.{StandsAs, heir_stands, found_on}
-use Rattle.aos_concurrency.proofs.Spots.{spot-stands, spot-next, spot-ended, spot-anew, spot-born, spot-past, spot-trap, spot-turned, spot-heir, spot-trapping, orderly-stands, orderly-next, orderly-past, orderly-turned, live_there, runs_there, not_started}
+use Rattle.aos_concurrency.proofs.LocalStates.{local_state-stands, local_state-next, local_state-ended, local_state-anew, local_state-born, local_state-past, local_state-trap, local_state-turned, local_state-heir, local_state-trapping, orderly-stands, orderly-next, orderly-past, orderly-turned, live_there, runs_there, not_started}
 use Rattle.aos_concurrency.proofs.Works.{runs_at, admitted_at, work_along, work_map}
 use Rattle.aos_concurrency.proofs.Itself.{happens_fitting}
 
@@ -43,74 +43,74 @@ module _ {S F : Type 0} (m : Machine S F) (Admitted : LockName → F → Type 0)
   then_moves : (x y : State S F) (s : S) (t : ℕ → Option F) → Moves x y → Changes m Admitted Fits y.store (acting m y) s t → Changes m Admitted Fits x.store (acting m x) s t
   then_moves x y s t h k = then_changes x.store (acting m x) y.store (acting m y) s t h k
 
-  abbrev of_spots : (ℕ → Spot F) → ℕ → Option F
-  of_spots x z = acts m (x z).next (x z).frames
+  abbrev of_local_states : (ℕ → LocalState F) → ℕ → Option F
+  of_local_states x z = acts m (x z).next (x z).frames
 
-  acting_put : (x y : ℕ → Spot F) (a : ℕ) (v : Spot F) → ((z : ℕ) → y z ≡ put nat_eq x a v z) → put nat_eq (of_spots x) a (acts m v.next v.frames) ≡ of_spots y
+  acting_put : (x y : ℕ → LocalState F) (a : ℕ) (v : LocalState F) → ((z : ℕ) → y z ≡ put nat_eq x a v z) → put nat_eq (of_local_states x) a (acts m v.next v.frames) ≡ of_local_states y
   acting_put x y a v e = λ i z. one z i
     where
-      one : (z : ℕ) → put nat_eq (of_spots x) a (acts m v.next v.frames) z ≡ of_spots y z
-      one z = (elim (nat_eq z a) as (λ q. (if q then acts m v.next v.frames else of_spots x z) ≡ acts m ((if q then v else x z)).next ((if q then v else x z)).frames) [ true ↦ refl | false ↦ refl ]) ∙ ap (λ (u : Spot F). acts m u.next u.frames) (sym (e z))
+      one : (z : ℕ) → put nat_eq (of_local_states x) a (acts m v.next v.frames) z ≡ of_local_states y z
+      one z = (elim (nat_eq z a) as (λ q. (if q then acts m v.next v.frames else of_local_states x z) ≡ acts m ((if q then v else x z)).next ((if q then v else x z)).frames) [ true ↦ refl | false ↦ refl ]) ∙ ap (λ (u : LocalState F). acts m u.next u.frames) (sym (e z))
 
   put_nothing : (t : ℕ → Option F) (a : ℕ) (o : Option F) → t a ≡ o → t ≡ put nat_eq t a o
   put_nothing t a o is = (λ i z. put_back number t a z i) ∙ ap (put nat_eq t a) is
 
-  -- to a store and spots that are equal to these
+  -- to a store and local states that are equal to these
   ends_at : (s : S) (t : ℕ → Option F) (s1 : S) (t1 : ℕ → Option F) (s2 : S) (t2 : ℕ → Option F) → s1 ≡ s2 → t1 ≡ t2 → Changes m Admitted Fits s t s1 t1 → Changes m Admitted Fits s t s2 t2
   ends_at s t s1 t1 s2 t2 p q h = subst (λ x. Changes m Admitted Fits s t x t2) p (subst (λ y. Changes m Admitted Fits s t s1 y) q h)
 
-  unchanged : (st : State S F) (s : S) (y : ℕ → Spot F) (a : ℕ) (v : Spot F) → st.store ≡ s → ((x : ℕ) → y x ≡ put nat_eq (spot st) a v x) → acts m v.next v.frames ≡ acting m st a → Changes m Admitted Fits st.store (acting m st) s (of_spots y)
+  unchanged : (st : State S F) (s : S) (y : ℕ → LocalState F) (a : ℕ) (v : LocalState F) → st.store ≡ s → ((x : ℕ) → y x ≡ put nat_eq (local_state st) a v x) → acts m v.next v.frames ≡ acting m st a → Changes m Admitted Fits st.store (acting m st) s (of_local_states y)
   unchanged st s y a v p e same =
-      ends_at st.store (acting m st) st.store (acting m st) s (of_spots y) p (put_nothing (acting m st) a _ (sym same) ∙ acting_put (spot st) y a v e) (Unchanged st.store (acting m st))
+      ends_at st.store (acting m st) st.store (acting m st) s (of_local_states y) p (put_nothing (acting m st) a _ (sym same) ∙ acting_put (local_state st) y a v e) (Unchanged st.store (acting m st))
 
-  goes : (st : State S F) (s : S) (y : ℕ → Spot F) (a : ℕ) (v : Spot F) (w : Did) → st.store ≡ s → ((x : ℕ) → y x ≡ put nat_eq (spot st) a v x) → acts m v.next v.frames ≡ Some (m.past (st.frames a)) → (st.book.activity a).next ≡ Runs → GoesPast Admitted w (st.frames a) → Fits st.store w (st.frames a) → Changes m Admitted Fits st.store (acting m st) s (of_spots y)
+  goes : (st : State S F) (s : S) (y : ℕ → LocalState F) (a : ℕ) (v : LocalState F) (w : Did) → st.store ≡ s → ((x : ℕ) → y x ≡ put nat_eq (local_state st) a v x) → acts m v.next v.frames ≡ Some (m.past (st.frames a)) → (st.book.activity a).next ≡ Runs → GoesPast Admitted w (st.frames a) → Fits st.store w (st.frames a) → Changes m Admitted Fits st.store (acting m st) s (of_local_states y)
   goes st s y a v w p e is runs past fits =
-      ends_at st.store (acting m st) st.store _ s (of_spots y) p (ap (put nat_eq (acting m st) a) (sym is) ∙ acting_put (spot st) y a v e)
+      ends_at st.store (acting m st) st.store _ s (of_local_states y) p (ap (put nat_eq (acting m st) a) (sym is) ∙ acting_put (local_state st) y a v e)
       (one_change st.store (acting m st) _ _ (ByGoingPast st.store (acting m st) a w (st.frames a) (ap (λ n. acts m n (st.frames a)) runs) past fits))
 
   -- it traps
-  falls : (st : State S F) (s : S) (y : ℕ → Spot F) (a : ℕ) (v : Spot F) (w : Did) → st.store ≡ s → ((x : ℕ) → y x ≡ put nat_eq (spot st) a v x) → acts m v.next v.frames ≡ m.anew (st.frames a) → (st.book.activity a).next ≡ Runs → MayTrap w → Fits st.store w (st.frames a) → Changes m Admitted Fits st.store (acting m st) s (of_spots y)
+  falls : (st : State S F) (s : S) (y : ℕ → LocalState F) (a : ℕ) (v : LocalState F) (w : Did) → st.store ≡ s → ((x : ℕ) → y x ≡ put nat_eq (local_state st) a v x) → acts m v.next v.frames ≡ m.anew (st.frames a) → (st.book.activity a).next ≡ Runs → MayTrap w → Fits st.store w (st.frames a) → Changes m Admitted Fits st.store (acting m st) s (of_local_states y)
   falls st s y a v w p e is runs may fits =
-      ends_at st.store (acting m st) st.store _ s (of_spots y) p (ap (put nat_eq (acting m st) a) (sym is) ∙ acting_put (spot st) y a v e)
+      ends_at st.store (acting m st) st.store _ s (of_local_states y) p (ap (put nat_eq (acting m st) a) (sym is) ∙ acting_put (local_state st) y a v e)
       (one_change st.store (acting m st) _ _ (ByTrap st.store (acting m st) a w (st.frames a) (ap (λ n. acts m n (st.frames a)) runs) may fits))
 
   -- it acts no more, if it did
-  quits : (st : State S F) (s : S) (y : ℕ → Spot F) (a : ℕ) (v : Spot F) → st.store ≡ s → ((x : ℕ) → y x ≡ put nat_eq (spot st) a v x) → acts m v.next v.frames ≡ None → Changes m Admitted Fits st.store (acting m st) s (of_spots y)
+  quits : (st : State S F) (s : S) (y : ℕ → LocalState F) (a : ℕ) (v : LocalState F) → st.store ≡ s → ((x : ℕ) → y x ≡ put nat_eq (local_state st) a v x) → acts m v.next v.frames ≡ None → Changes m Admitted Fits st.store (acting m st) s (of_local_states y)
   quits st s y a v p e is =
-      (elim (acting m st a) as (λ o. acting m st a ≡ o → Changes m Admitted Fits st.store (acting m st) s (of_spots y)) [
+      (elim (acting m st a) as (λ o. acting m st a ≡ o → Changes m Admitted Fits st.store (acting m st) s (of_local_states y)) [
         | None ↦ λ none. unchanged st s y a v p e (is ∙ sym none)
-        | Some f ↦ λ some. ends_at st.store (acting m st) st.store _ s (of_spots y) p (ap (put nat_eq (acting m st) a) (sym is) ∙ acting_put (spot st) y a v e)
+        | Some f ↦ λ some. ends_at st.store (acting m st) st.store _ s (of_local_states y) p (ap (put nat_eq (acting m st) a) (sym is) ∙ acting_put (local_state st) y a v e)
             (one_change st.store (acting m st) _ _ (ByEnd st.store (acting m st) a f some))
       ]) refl
 
   -- a worker's activity, whose turn has left this work
   record Turning (w : Did) (a : ℕ) (st : State S F) : Type 0 where
     orderly : Orderly st
-    others : (x : ℕ) → x ≢ a → AtWork (λ l. Admitted l (st.frames x)) (λ k. Fits st.store k (st.frames x)) (spot st x).next (spot st x).place
+    others : (x : ℕ) → x ≢ a → AtWork (λ l. Admitted l (st.frames x)) (λ k. Fits st.store k (st.frames x)) (local_state st x).next (local_state st x).place
     worker : ℕ
     on : place_of st.book.line a ≡ Some (On worker)
     runs : (st.book.activity a).next ≡ Runs
     fits : Fits st.store w (st.frames a)
 
-  fits_put : (s : S) (x y : ℕ → Spot F) (a : ℕ) (v : Spot F) → ((z : ℕ) → y z ≡ put nat_eq x a v z) → AtWork (λ l. Admitted l v.frames) (λ k. Fits s k v.frames) v.next v.place → ((z : ℕ) → z ≢ a → AtWork (λ l. Admitted l (x z).frames) (λ k. Fits s k (x z).frames) (x z).next (x z).place) → (z : ℕ) → AtWork (λ l. Admitted l (y z).frames) (λ k. Fits s k (y z).frames) (y z).next (y z).place
+  fits_put : (s : S) (x y : ℕ → LocalState F) (a : ℕ) (v : LocalState F) → ((z : ℕ) → y z ≡ put nat_eq x a v z) → AtWork (λ l. Admitted l v.frames) (λ k. Fits s k v.frames) v.next v.place → ((z : ℕ) → z ≢ a → AtWork (λ l. Admitted l (x z).frames) (λ k. Fits s k (x z).frames) (x z).next (x z).place) → (z : ℕ) → AtWork (λ l. Admitted l (y z).frames) (λ k. Fits s k (y z).frames) (y z).next (y z).place
   fits_put s x y a v e here others z =
-      subst (λ (u : Spot F). AtWork (λ l. Admitted l u.frames) (λ k. Fits s k u.frames) u.next u.place) (sym (e z)) (each_put number (λ _ (u : Spot F). AtWork (λ l. Admitted l u.frames) (λ k. Fits s k u.frames) u.next u.place) x a v here others z)
+      subst (λ (u : LocalState F). AtWork (λ l. Admitted l u.frames) (λ k. Fits s k u.frames) u.next u.place) (sym (e z)) (each_put number (λ _ (u : LocalState F). AtWork (λ l. Admitted l u.frames) (λ k. Fits s k u.frames) u.next u.place) x a v here others z)
 
   pass_moves : (verdict : ℕ → ℕ → Verdict) (a : ℕ) (l : LockName) (h : Heir) (st : State S F) → Fitting Admitted Fits st → StandsAs verdict l st.book.line h → Moves st (pass m a l h st)
   unfolding go_past next_is ready owned_by
   pass_moves verdict a l Nobody st fit stand = Unchanged st.store (acting m st)
   pass_moves verdict a l (Entrant b) st fit stand =
       let runs = runs_there st fit.orderly b l Entry stand in
-      goes st _ _ b (record (spot st b) { place = Some (Ready (st.book.activity b).priority); frames = m.past (st.frames b) }) (Enter l) refl (spot-heir m b l (event.Pass l a b false) st) (ap (λ n. acts m n (m.past (st.frames b))) runs) runs
+      goes st _ _ b (record (local_state st b) { place = Some (Ready (st.book.activity b).priority); frames = m.past (st.frames b) }) (Enter l) refl (local_state-heir m b l (event.Pass l a b false) st) (ap (λ n. acts m n (m.past (st.frames b))) runs) runs
       (admitted_at (λ k. Admitted k (st.frames b)) (λ k. Fits st.store k (st.frames b)) _ _ l runs stand (fit.fits b))
       (runs_at (λ l. Admitted l (st.frames b)) (λ k. Fits st.store k (st.frames b)) _ _ (At l Entry) runs stand (fit.fits b))
   pass_moves verdict a l (Waiter b) st fit stand =
       let runs = runs_there st fit.orderly b l (Condition stand.0) stand.1 in
-      goes st _ _ b (record (spot st b) { place = Some (Ready (st.book.activity b).priority); frames = m.past (st.frames b) }) (Await l stand.0) refl (spot-heir m b l (event.Pass l a b true) st) (ap (λ n. acts m n (m.past (st.frames b))) runs) runs tt
+      goes st _ _ b (record (local_state st b) { place = Some (Ready (st.book.activity b).priority); frames = m.past (st.frames b) }) (Await l stand.0) refl (local_state-heir m b l (event.Pass l a b true) st) (ap (λ n. acts m n (m.past (st.frames b))) runs) runs tt
       (runs_at (λ l. Admitted l (st.frames b)) (λ k. Fits st.store k (st.frames b)) _ _ (At l (Condition stand.0)) runs stand.1 (fit.fits b))
   pass_moves verdict a l (Trapping b n) st fit stand =
       let runs = runs_there st fit.orderly b l (Condition stand.0) stand.1 in
-      falls st _ _ b (record (spot st b) { place = Some (Ready (st.book.activity b).priority); next = WillTrap n }) (Await l stand.0) refl (spot-trapping m b n l (event.Pass l a b true) st) refl runs tt
+      falls st _ _ b (record (local_state st b) { place = Some (Ready (st.book.activity b).priority); next = WillTrap n }) (Await l stand.0) refl (local_state-trapping m b n l (event.Pass l a b true) st) refl runs tt
       (runs_at (λ l. Admitted l (st.frames b)) (λ k. Fits st.store k (st.frames b)) _ _ (At l (Condition stand.0)) runs stand.1 (fit.fits b))
 
   release_moves : (a : ℕ) (l : LockName) (st : State S F) → Fitting Admitted Fits st → Moves st (release m a l st)
@@ -122,30 +122,30 @@ module _ {S F : Type 0} (m : Machine S F) (Admitted : LockName → F → Type 0)
 
   trap_moves : (a n c : ℕ) (w : Did) (st : State S F) → (st.book.activity a).next ≡ Runs → MayTrap w → Fits st.store w (st.frames a) → Moves st (trap m a n c st)
   unfolding trap trapped next_is
-  trap_moves a n c w st runs may fits = falls st _ _ a (record (spot st a) { next = Unwinds (m.regions (st.frames a)) }) w refl (spot-trap m a n c st) refl runs may fits
+  trap_moves a n c w st runs may fits = falls st _ _ a (record (local_state st a) { next = Unwinds (m.regions (st.frames a)) }) w refl (local_state-trap m a n c st) refl runs may fits
 
   -- one that got its lock in order to trap
   due_moves : (a n k c : ℕ) (st : State S F) → (st.book.activity a).next ≡ WillTrap k → Moves st (trap m a n c st)
   unfolding trap trapped next_is
-  due_moves a n k c st is = unchanged st _ _ a (record (spot st a) { next = Unwinds (m.regions (st.frames a)) }) refl (spot-trap m a n c st) (ap (λ x. acts m x (st.frames a)) (sym is))
+  due_moves a n k c st is = unchanged st _ _ a (record (local_state st a) { next = Unwinds (m.regions (st.frames a)) }) refl (local_state-trap m a n c st) (ap (λ x. acts m x (st.frames a)) (sym is))
 
   ended_moves : (a : ℕ) (st : State S F) → Moves st (on_book (ended a) st)
-  ended_moves a st = quits st _ _ a (record (spot st a) { place = None; next = Gone }) refl (spot-ended a st) refl
+  ended_moves a st = quits st _ _ a (record (local_state st a) { place = None; next = Gone }) refl (local_state-ended a st) refl
 
-  stands_moves : (a : ℕ) (p : Place) (e : List Event) (st : State S F) → Moves st (on_book (λ k. stands a p (record k { events = e })) st)
-  stands_moves a p e st = unchanged st _ _ a (record (spot st a) { place = Some p }) refl (spot-stands a p e st) refl
+  stands_moves : (a : ℕ) (p : RunState) (e : List Event) (st : State S F) → Moves st (on_book (λ k. stands a p (record k { events = e })) st)
+  stands_moves a p e st = unchanged st _ _ a (record (local_state st a) { place = Some p }) refl (local_state-stands a p e st) refl
 
   past_moves : (a : ℕ) (w : Did) (st : State S F) → (st.book.activity a).next ≡ Runs → GoesPast Admitted w (st.frames a) → Fits st.store w (st.frames a) → Moves st (go_past m a st)
   unfolding go_past
   past_moves a w st runs past fits =
-      goes st _ _ a (record (spot st a) { frames = m.past (st.frames a) }) w refl (spot-past m a st.book.owner st.book.events st) (ap (λ n. acts m n (m.past (st.frames a))) runs) runs past fits
+      goes st _ _ a (record (local_state st a) { frames = m.past (st.frames a) }) w refl (local_state-past m a st.book.owner st.book.events st) (ap (λ n. acts m n (m.past (st.frames a))) runs) runs past fits
 
   -- past its work, with the lock left or joined
   past_fitting : KeepsFits m Admitted Fits → (w : Did) (a : ℕ) (st : State S F) → GoesPast Admitted w (st.frames a) → Turning w a st → Fitting Admitted Fits (go_past m a st)
   unfolding go_past
   past_fitting keeps w a st past t = record {
     orderly = orderly-past m a st.book.owner st.book.events st t.orderly;
-    fits = fits_put st.store (spot st) _ a (record (spot st a) { frames = m.past (st.frames a) }) (spot-past m a st.book.owner st.book.events st)
+    fits = fits_put st.store (local_state st) _ a (record (local_state st a) { frames = m.past (st.frames a) }) (local_state-past m a st.book.owner st.book.events st)
         (work_along (λ l. Admitted l (m.past (st.frames a))) (λ k. Fits st.store k (m.past (st.frames a))) _ _ _ _ (sym t.runs) (sym t.on) (keeps.past st.store w (st.frames a) past t.fits)) t.others;
   }
 
@@ -156,14 +156,14 @@ module _ {S F : Type 0} (m : Machine S F) (Admitted : LockName → F → Type 0)
       let e = st.book.events ++ event.Wait l a true ∷ [] in
       record {
         orderly = orderly-stands a p (On t.worker) e st t.on (subst (λ n. Agrees n (Some p)) (sym t.runs) tt) t.orderly;
-        fits = fits_put st.store (spot st) _ a (record (spot st a) { place = Some p }) (spot-stands a p e st)
+        fits = fits_put st.store (local_state st) _ a (record (local_state st a) { place = Some p }) (local_state-stands a p e st)
             (work_along (λ l. Admitted l (st.frames a)) (λ k. Fits st.store k (st.frames a)) _ _ _ _ (sym t.runs) refl t.fits) t.others;
       }
 
   enter_moves : (a : ℕ) (l : LockName) (o : Option ℕ) (st : State S F) → (o ≢ Some a → Admitted l (st.frames a)) → Turning (Enter l) a st → Moves st (enter m a l o st)
   unfolding go_past owned_by
   enter_moves a l None st admitted t =
-      goes st _ _ a (record (spot st a) { frames = m.past (st.frames a) }) (Enter l) refl (spot-past m a (owned_by l (Some a) st.book).owner (st.book.events ++ event.Enter l a ∷ []) st) (ap (λ n. acts m n (m.past (st.frames a))) t.runs) t.runs (admitted (λ e. absurd (cc e))) t.fits
+      goes st _ _ a (record (local_state st a) { frames = m.past (st.frames a) }) (Enter l) refl (local_state-past m a (owned_by l (Some a) st.book).owner (st.book.events ++ event.Enter l a ∷ []) st) (ap (λ n. acts m n (m.past (st.frames a))) t.runs) t.runs (admitted (λ e. absurd (cc e))) t.fits
   enter_moves a l (Some b) st admitted t =
       elim (nat_eq b a) as (λ q. Moves st (if q then trap m a 9 0 st else on_book (λ k. stands a (At l Entry) (tell (event.Wait l a false) k)) st)) [
         | true ↦ trap_moves a 9 0 (Enter l) st t.runs tt t.fits
@@ -183,15 +183,15 @@ module _ {S F : Type 0} (m : Machine S F) (Admitted : LockName → F → Type 0)
       let n = st.book.started in
       let p = m.priority st.store o in
       let f = m.body st.store o in
-      let v : Spot F = record { place = Some (Ready p); next = Runs; frames = f } in
+      let v : LocalState F = record { place = Some (Ready p); next = Runs; frames = f } in
       let st1 = on_book (born p) (with_frames n f st) in
-      let e : (x : ℕ) → spot st1 x ≡ put nat_eq (spot st) n v x = spot-born p f st in
+      let e : (x : ℕ) → local_state st1 x ≡ put nat_eq (local_state st) n v x = local_state-born p f st in
       let ne = not_started st t.orderly a (live_there st t.orderly a (On t.worker) t.on) in
-      let mine : spot st1 a ≡ spot st a = e a ∙ put_other number (spot st) n v a ne in
+      let mine : local_state st1 a ≡ local_state st a = e a ∙ put_other number (local_state st) n v a ne in
       then_moves st st1 _ _
-      (ends_at st.store (acting m st) st.store _ st1.store (acting m st1) refl (acting_put (spot st) (spot st1) n v e)
+      (ends_at st.store (acting m st) st.store _ st1.store (acting m st1) refl (acting_put (local_state st) (local_state st1) n v e)
       (one_change st.store (acting m st) _ _ (ByStart st.store (acting m st) n a o (st.frames a) (ap (λ k. acts m k (st.frames n)) (t.orderly.unborn n (omega arith))) (ap (λ k. acts m k (st.frames a)) t.runs) t.fits)))
-      (past_moves a (Start o) st1 (ap (λ (y : Spot F). y.next) mine ∙ t.runs) tt (subst (λ (y : Spot F). Fits st.store (Start o) y.frames) (sym mine) t.fits))
+      (past_moves a (Start o) st1 (ap (λ (y : LocalState F). y.next) mine ∙ t.runs) tt (subst (λ (y : LocalState F). Fits st.store (Start o) y.frames) (sym mine) t.fits))
 
   serve_moves : KeepsFits m Admitted Fits → (a : ℕ) (w : Did) (st : State S F) → ((l : LockName) → w ≡ Enter l → st.book.owner l ≢ Some a → Admitted l (st.frames a)) → Turning w a st → Moves st (serve m a w st)
   serve_moves keeps a Went st asked t = Unchanged st.store (acting m st)
@@ -206,39 +206,39 @@ module _ {S F : Type 0} (m : Machine S F) (Admitted : LockName → F → Type 0)
   unfolding turned counted
   turned_turning keeps a st fit v on runs rest =
       let t = m.turn st.store (st.frames a) in
-      let u = record (spot st a) { frames = t.frames } in
-      let e = spot-turned m a t st in
-      let mine = e a ∙ put_same number (spot st) a u in
+      let u = record (local_state st a) { frames = t.frames } in
+      let e = local_state-turned m a t st in
+      let mine = e a ∙ put_same number (local_state st) a u in
       record {
         orderly = orderly-turned m a t (On v) st on fit.orderly;
-        others = λ x ne. subst (λ (y : Spot F). AtWork (λ l. Admitted l y.frames) (λ k. Fits t.store k y.frames) y.next y.place) (sym (e x ∙ put_other number (spot st) a u x ne))
+        others = λ x ne. subst (λ (y : LocalState F). AtWork (λ l. Admitted l y.frames) (λ k. Fits t.store k y.frames) y.next y.place) (sym (e x ∙ put_other number (local_state st) a u x ne))
             (work_map (λ l. Admitted l (st.frames x)) (λ k. Fits st.store k (st.frames x)) (λ k. Fits t.store k (st.frames x)) (λ k h. keeps.kept st.store (st.frames a) rest k (st.frames x) h) _ _ (fit.fits x));
         worker = v;
         on = on;
-        runs = ap (λ (y : Spot F). y.next) mine ∙ runs;
-        fits = subst (λ (y : Spot F). Fits t.store t.left y.frames) (sym mine) (keeps.turn st.store (st.frames a) rest);
+        runs = ap (λ (y : LocalState F). y.next) mine ∙ runs;
+        fits = subst (λ (y : LocalState F). Fits t.store t.left y.frames) (sym mine) (keeps.turn st.store (st.frames a) rest);
       }
 
   turned_moves : (a : ℕ) (st : State S F) → (st.book.activity a).next ≡ Runs → Fits st.store Went (st.frames a) → Moves st (turned m a (m.turn st.store (st.frames a)) st)
   unfolding turned
   turned_moves a st runs rest =
       let t = m.turn st.store (st.frames a) in
-      let u = record (spot st a) { frames = t.frames } in
+      let u = record (local_state st a) { frames = t.frames } in
       let st1 = turned m a t st in
-      ends_at st.store (acting m st) t.store _ st1.store (acting m st1) refl (ap (λ n. put nat_eq (acting m st) a (acts m n t.frames)) (sym runs) ∙ acting_put (spot st) (spot st1) a u (spot-turned m a t st))
+      ends_at st.store (acting m st) t.store _ st1.store (acting m st1) refl (ap (λ n. put nat_eq (acting m st) a (acts m n t.frames)) (sym runs) ∙ acting_put (local_state st) (local_state st1) a u (local_state-turned m a t st))
       (one_change st.store (acting m st) _ _ (ByTurn st.store (acting m st) a (st.frames a) (ap (λ k. acts m k (st.frames a)) runs) rest))
 
   finish_moves : (a : ℕ) (few : Bool) (o : Option F) (st : State S F) → (st.book.activity a).next ≡ Unwinds [] → m.anew (st.frames a) ≡ o → Moves st (finish a few o st)
   finish_moves a false o st unwound is = ended_moves a st
   finish_moves a true None st unwound is = ended_moves a st
   finish_moves a true (Some g) st unwound is =
-      unchanged st _ _ a (record (spot st a) { next = Runs; frames = g }) refl (spot-anew a g st) (sym is ∙ ap (λ n. acts m n (st.frames a)) (sym unwound))
+      unchanged st _ _ a (record (local_state st a) { next = Runs; frames = g }) refl (local_state-anew a g st) (sym is ∙ ap (λ n. acts m n (st.frames a)) (sym unwound))
 
   next_fitting : (a : ℕ) (l : LockName) (locks : List LockName) (v : ℕ) (st : State S F) → Fitting Admitted Fits st → place_of st.book.line a ≡ Some (On v) → (st.book.activity a).next ≡ Unwinds (l ∷ locks) → Fitting Admitted Fits (on_book (next_is a (Unwinds locks)) st)
   unfolding next_is
   next_fitting a l locks v st fit on is = record {
     orderly = orderly-next a (Unwinds locks) (On v) st on refl (λ e. absurd (cc e)) fit.orderly;
-    fits = fits_put st.store (spot st) _ a (record (spot st a) { next = Unwinds locks }) (spot-next a (Unwinds locks) st)
+    fits = fits_put st.store (local_state st) _ a (record (local_state st a) { next = Unwinds locks }) (local_state-next a (Unwinds locks) st)
         (work_along (λ l. Admitted l (st.frames a)) (λ k. Fits st.store k (st.frames a)) _ (Unwinds (l ∷ locks)) _ (place_of st.book.line a) is refl (fit.fits a)) (λ x _. fit.fits x);
   }
 
@@ -258,7 +258,7 @@ module _ {S F : Type 0} (m : Machine S F) (Admitted : LockName → F → Type 0)
   turn_moves keeps a (WillTrap n) st admits fit v on is = due_moves a n n 0 st is
   turn_moves keeps a (Unwinds (l ∷ locks)) st admits fit v on is =
       let st1 = on_book (next_is a (Unwinds locks)) st in
-      then_moves st st1 _ _ (unchanged st _ _ a (record (spot st a) { next = Unwinds locks }) refl (spot-next a (Unwinds locks) st) (ap (λ n. acts m n (st.frames a)) (sym is))) (release_moves a l st1 (next_fitting a l locks v st fit on is))
+      then_moves st st1 _ _ (unchanged st _ _ a (record (local_state st a) { next = Unwinds locks }) refl (local_state-next a (Unwinds locks) st) (ap (λ n. acts m n (st.frames a)) (sym is))) (release_moves a l st1 (next_fitting a l locks v st fit on is))
   turn_moves keeps a (Unwinds []) st admits fit v on is = finish_moves a _ (m.anew (st.frames a)) st is refl
   turn_moves keeps a Gone st admits fit v on is = Unchanged st.store (acting m st)
 

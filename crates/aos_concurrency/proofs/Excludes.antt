@@ -5,16 +5,16 @@ use Rattle.aos_base.specs.declared.kernel.LockName.{LockName}
 use Rattle.aos_base.specs.declared.kernel.Did.{Did}
 use Rattle.aos_base.specs.declared.kernel.Outcome.TheVariants as outcome_is
 use Rattle.aos_base.specs.Lock.{Wants, Entry, Condition}
-use Rattle.aos_base.specs.Book.{Place, Stand, On, Ready, At, place_of, is_at_lock, all_at_locks, outcome_of}
+use Rattle.aos_base.specs.Book.{RunState, Stand, On, Ready, At, place_of, is_at_lock, all_at_locks, outcome_of}
 use Rattle.aos_base.specs.Machine.{Machine, State}
 use Rattle.aos_concurrency.specs.Regions.{times, regions_of}
 use Rattle.aos_concurrency.specs.Sound.{owns, waits_in, Sound}
 use Rattle.aos_concurrency.specs.Mutual.{Mutual}
 use Rattle.aos_concurrency.proofs.Tables.{number, lock, by_case}
-use Rattle.aos_concurrency.proofs.Spots.{gone_nowhere, somewhere}
+use Rattle.aos_concurrency.proofs.LocalStates.{gone_nowhere, somewhere}
 use Rattle.aos_concurrency.proofs.Steps.{owner_is, not_owner}
 
-not_waiting : (l : LockName) (p : Option Place) → ((c : ℕ) → p ≢ Some (At l (Condition c))) → waits_in l p ≡ 0
+not_waiting : (l : LockName) (p : Option RunState) → ((c : ℕ) → p ≢ Some (At l (Condition c))) → waits_in l p ≡ 0
 not_waiting l None h = refl
 not_waiting l (Some (On v)) h = refl
 not_waiting l (Some (Ready v)) h = refl
@@ -26,7 +26,7 @@ and_both : (a b : Bool) → (a && b) ≡ true → (a ≡ true) × (b ≡ true)
 and_both true b e = (refl, e)
 and_both false b e = absurd (cc e)
 
-at_a_lock : (p : Place) → is_at_lock p ≡ true → (l : LockName) × (w : Wants) × (p ≡ At l w)
+at_a_lock : (p : RunState) → is_at_lock p ≡ true → (l : LockName) × (w : Wants) × (p ≡ At l w)
 at_a_lock (On v) h = absurd (cc h)
 at_a_lock (Ready v) h = absurd (cc h)
 at_a_lock (At l w) h = (l, w, refl)
@@ -36,7 +36,7 @@ all_wait [] h a some = absurd (some refl)
 all_wait (s ∷ line) h a some =
     let both = and_both _ _ h in
     by_case number (λ q. ((if q then Some s.place else place_of line a) ≢ None) → (l : LockName) × (w : Wants) × ((if q then Some s.place else place_of line a) ≡ Some (At l w))) a s.activity
-    (λ _ _. let r = at_a_lock s.place both.0 in (r.0, r.1, ap (λ (p : Place). Some p) r.2)) (λ _ h'. all_wait line both.1 a h') some
+    (λ _ _. let r = at_a_lock s.place both.0 in (r.0, r.1, ap (λ (p : RunState). Some p) r.2)) (λ _ h'. all_wait line both.1 a h') some
 
 dead_waits : (line : List Stand) (spent : Option ℕ) → outcome_of line spent ≡ outcome_is.Dead → all_at_locks line ≡ true
 dead_waits [] spent h = refl

@@ -6,9 +6,9 @@ use Rattle.aos_base.specs.declared.kernel.Did.TheVariants.{Went, Await}
 use Rattle.aos_base.specs.declared.kernel.LockName.{LockName}
 use Rattle.aos_base.specs.declared.kernel.LockName.TheVariants.{Module}
 use Rattle.aos_base.specs.Lock.{Entry, Condition}
-use Rattle.aos_base.specs.Book.{Place, On, Ready, At, Next, Runs, WillTrap, Unwinds, Gone}
+use Rattle.aos_base.specs.Book.{RunState, On, Ready, At, Next, Runs, WillTrap, Unwinds, Gone}
 use Rattle.aos_base.specs.Machine.{Choice, Machine, State, start_of, happens, execution}
-use Rattle.aos_concurrency.specs.Spot.{spot, Anyone, AtWork}
+use Rattle.aos_concurrency.specs.LocalState.{local_state, Anyone, AtWork}
 use Rattle.aos_concurrency.specs.Orderly.{Agrees, Orderly}
 use Rattle.aos_concurrency.specs.Regions.{Outside, KeepsFits}
 use Rattle.aos_concurrency.specs.Admits.{Admits, AlwaysAdmits}
@@ -90,7 +90,7 @@ module _ {S F : Type 0} (m : Machine S F) where
     anew = λ s w f g may h e. tt;
   }
 
-  any_work : (n : Next) (p : Option Place) → Agrees n p → AtWork (λ l. Unit {0}) (λ w. Unit {0}) n p
+  any_work : (n : Next) (p : Option RunState) → Agrees n p → AtWork (λ l. Unit {0}) (λ w. Unit {0}) n p
   any_work Runs None h = tt
   any_work Runs (Some (On w)) h = tt
   any_work Runs (Some (Ready p)) h = tt
@@ -101,7 +101,7 @@ module _ {S F : Type 0} (m : Machine S F) where
   any_work Gone p h = tt
 
   pub any_fitting : (st : State S F) → Orderly st → Fitting Anyone Any st
-  any_fitting st o = record { orderly = o; fits = λ a. any_work (spot st a).next (spot st a).place (o.agrees a) }
+  any_fitting st o = record { orderly = o; fits = λ a. any_work (local_state st a).next (local_state st a).place (o.agrees a) }
 
   pub happens_orderly : (c : Choice) (st : State S F) → Orderly st → Orderly (happens m c st)
   happens_orderly c st o = (happens_fitting m Anyone Any (anything Anyone) c st (λ a l asks. tt) (any_fitting st o)).orderly

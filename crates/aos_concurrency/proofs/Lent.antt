@@ -10,19 +10,19 @@ use Rattle.aos_base.specs.declared.kernel.Event.{Event}
 use Rattle.aos_base.specs.declared.kernel.Event.TheVariants as event
 use Rattle.aos_base.specs.declared.kernel.Outcome.TheVariants as outcome_is
 use Rattle.aos_base.specs.Lock.{Entry, Condition, Heir, Nobody, Entrant, Waiter, Trapping, heir}
-use Rattle.aos_base.specs.Book.{Place, Stand, On, Ready, At, Next, Runs, WillTrap, Unwinds, Gone, Activity, place_of, leave_line, move, first_at, is_on, waiting, tell, stands, ready, next_is, owned_by, counted, trapped, ended, restarted, born, on_worker, first_ready, is_full, outcome}
+use Rattle.aos_base.specs.Book.{RunState, Stand, On, Ready, At, Next, Runs, WillTrap, Unwinds, Gone, Activity, place_of, leave_line, move, first_at, is_on, waiting, tell, stands, ready, next_is, owned_by, counted, trapped, ended, restarted, born, on_worker, first_ready, is_full, outcome}
 use Rattle.aos_base.specs.Machine.{Choice, Step, Tick, Turn, Machine, State, on_book, with_frames, go_past, pass, release, trap, enter, await, start, serve, turned, finish, turn_by, dispatch, step_of, tick_of, happens_in, if_going, happens, execution}
 use Rattle.aos_concurrency.specs.Orderly.{Distinct, Orderly}
 use Rattle.aos_concurrency.specs.Private.{steps, ArePrivate, GoesOn, settled, of_worker, NoneOf, IsLent}
 use Rattle.aos_concurrency.proofs.Tables.{number, by_case, put_other}
 use Rattle.aos_concurrency.proofs.Lines.{StandsAs, heir_stands, found, found_ready, place_of-move, place_of-leave, distinct-move}
-use Rattle.aos_concurrency.proofs.Spots.{not_started, orderly-turned, live_there}
+use Rattle.aos_concurrency.proofs.LocalStates.{not_started, orderly-turned, live_there}
 use Rattle.aos_concurrency.proofs.Itself.{happens_orderly}
 use Rattle.aos_concurrency.proofs.Settles.{settle}
 
 -- who is found first is so still when another leaves or comes
 
-first-leave : (at : Place → Bool) (a b : ℕ) (line : List Stand) → a ≢ b → first_at at line ≡ Some a → first_at at (leave_line b line) ≡ Some a
+first-leave : (at : RunState → Bool) (a b : ℕ) (line : List Stand) → a ≢ b → first_at at line ≡ Some a → first_at at (leave_line b line) ≡ Some a
 first-leave at a b [] ne is = absurd (cc is)
 first-leave at a b (s ∷ line) ne is =
     by_case number (λ q. first_at at (if not q then s ∷ leave_line b line else leave_line b line) ≡ Some a) s.activity b
@@ -35,7 +35,7 @@ first-leave at a b (s ∷ line) ne is =
       | false ↦ λ h. first-leave at a b line ne h
     ]) is)
 
-first-append : (at : Place → Bool) (a : ℕ) (line : List Stand) (s : Stand) → first_at at line ≡ Some a → first_at at (line ++ s ∷ []) ≡ Some a
+first-append : (at : RunState → Bool) (a : ℕ) (line : List Stand) (s : Stand) → first_at at line ≡ Some a → first_at at (line ++ s ∷ []) ≡ Some a
 first-append at a [] s is = absurd (cc is)
 first-append at a (t ∷ line) s is =
     (elim (at t.place) as (λ q. (if q then Some t.activity else first_at at line) ≡ Some a → (if q then Some t.activity else first_at at (line ++ s ∷ [])) ≡ Some a) [
@@ -43,7 +43,7 @@ first-append at a (t ∷ line) s is =
       | false ↦ λ h. first-append at a line s h
     ]) is
 
-first-move : (at : Place → Bool) (a b : ℕ) (p : Place) (line : List Stand) → a ≢ b → first_at at line ≡ Some a → first_at at (move b p line) ≡ Some a
+first-move : (at : RunState → Bool) (a b : ℕ) (p : RunState) (line : List Stand) → a ≢ b → first_at at line ≡ Some a → first_at at (move b p line) ≡ Some a
 first-move at a b p line ne is = first-append at a (leave_line b line) (record { activity = b; place = p }) (first-leave at a b line ne is)
 
 module _ {S F : Type 0} (m : Machine S F) (w a : ℕ) (r : Activity) (f : F) where
@@ -58,7 +58,7 @@ module _ {S F : Type 0} (m : Machine S F) (w a : ℕ) (r : Activity) (f : F) whe
   unfolding go_past
   past_lent b st ne h = record { on = h.on; stands = h.stands; activity = h.activity; frames = put_other number st.frames b _ a ne ∙ h.frames }
 
-  stands_lent : (b : ℕ) (p : Place) (e : List Event) (st : State S F) → a ≢ b → Lent st → Lent (on_book (λ k. stands b p (record k { events = e })) st)
+  stands_lent : (b : ℕ) (p : RunState) (e : List Event) (st : State S F) → a ≢ b → Lent st → Lent (on_book (λ k. stands b p (record k { events = e })) st)
   unfolding stands
   stands_lent b p e st ne h = record { on = first-move (is_on w) a b p st.book.line ne h.on; stands = place_of-move b p st.book.line a ∙ put_other number (place_of st.book.line) b (Some p) a ne ∙ h.stands; activity = h.activity; frames = h.frames }
 
@@ -88,7 +88,7 @@ module _ {S F : Type 0} (m : Machine S F) (w a : ℕ) (r : Activity) (f : F) whe
   turned_lent b t st ne h = record { on = h.on; stands = h.stands; activity = put_other number st.book.activity b _ a ne ∙ h.activity; frames = put_other number st.frames b _ a ne ∙ h.frames }
 
   -- who stands elsewhere is another
-  elsewhere : (st : State S F) → Lent st → (b : ℕ) (p : Place) → place_of st.book.line b ≡ Some p → p ≢ On w → a ≢ b
+  elsewhere : (st : State S F) → Lent st → (b : ℕ) (p : RunState) → place_of st.book.line b ≡ Some p → p ≢ On w → a ≢ b
   elsewhere st h b p at far e = far (let z = sym at ∙ ap (place_of st.book.line) (sym e) ∙ h.stands in let y : p ≡ On w = cc z in y)
 
   heir_lent : (b : ℕ) (l : LockName) (e : Event) (st : State S F) → a ≢ b → Lent st → Lent (go_past m b (on_book (λ k. ready b (owned_by l (Some b) (tell e k))) st))
@@ -122,7 +122,7 @@ module _ {S F : Type 0} (m : Machine S F) (w a : ℕ) (r : Activity) (f : F) whe
         | false ↦ stands_lent b (At l Entry) (st.book.events ++ event.Wait l b false ∷ []) st ne h
       ]
 
-  once_stands : (b : ℕ) (p : Place) (e : List Event) (st : State S F) → Distinct st.book.line → Distinct (on_book (λ k. stands b p (record k { events = e })) st).book.line
+  once_stands : (b : ℕ) (p : RunState) (e : List Event) (st : State S F) → Distinct st.book.line → Distinct (on_book (λ k. stands b p (record k { events = e })) st).book.line
   unfolding stands
   once_stands b p e st d = distinct-move b p st.book.line d
 
@@ -159,7 +159,7 @@ module _ {S F : Type 0} (m : Machine S F) (w a : ℕ) (r : Activity) (f : F) whe
   finish_lent b true None st ne h = ended_lent b st ne h
   finish_lent b false k st ne h = ended_lent b st ne h
 
-  turn_lent : (b : ℕ) (n : Next) (p : Place) (st : State S F) → a ≢ b → place_of st.book.line b ≡ Some p → Orderly st → Lent st → Lent (turn_by m b n st)
+  turn_lent : (b : ℕ) (n : Next) (p : RunState) (st : State S F) → a ≢ b → place_of st.book.line b ≡ Some p → Orderly st → Lent st → Lent (turn_by m b n st)
   turn_lent b Runs p st ne at o h =
       let t = m.turn st.store (st.frames b) in
       serve_lent b t.left (turned m b t st) ne (orderly-turned m b t p st at o) (turned_lent b t st ne h)
@@ -169,7 +169,7 @@ module _ {S F : Type 0} (m : Machine S F) (w a : ℕ) (r : Activity) (f : F) whe
   turn_lent b Gone p st ne at o h = h
 
   -- another worker's activity
-  on_another : (v b : ℕ) (st : State S F) → Orderly st → Lent st → v ≢ w → on_worker v st.book.line ≡ Some b → (p : Place) × ((place_of st.book.line b ≡ Some p) × (a ≢ b))
+  on_another : (v b : ℕ) (st : State S F) → Orderly st → Lent st → v ≢ w → on_worker v st.book.line ≡ Some b → (p : RunState) × ((place_of st.book.line b ≡ Some p) × (a ≢ b))
   on_another v b st o h far is =
       let q = found (is_on v) st.book.line b o.once is in
       (q.0, (q.1, elsewhere st h b q.0 q.1 (λ e. absurd (far (sym (same_worker w (subst (λ x. is_on v x ≡ true) e q.2)))))))

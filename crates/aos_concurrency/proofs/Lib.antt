@@ -1,6 +1,6 @@
 pub mod Tables
 pub mod Lines
-pub mod Spots
+pub mod LocalStates
 pub mod Works
 pub mod Release
 pub mod Steps

@@ -5,12 +5,12 @@ use Rattle.aos_base.specs.declared.kernel.LockName.{LockName}
 use Rattle.aos_base.specs.declared.kernel.Verdict.{Verdict}
 use Rattle.aos_base.specs.declared.kernel.Verdict.TheVariants.{Holds, Fails, Traps}
 use Rattle.aos_base.specs.Lock.{Wants, Heir, Entry, Condition, Nobody, Entrant, Waiter, Trapping, judged, served, first_waiter, first_entrant, entering, or_else, heir}
-use Rattle.aos_base.specs.Book.{Place, Stand, On, Ready, At, put, place_of, leave_line, move, first_at, is_on, on_worker, is_ready, first_ready, or_next, waiting, wanted, listed}
+use Rattle.aos_base.specs.Book.{RunState, Stand, On, Ready, At, put, place_of, leave_line, move, first_at, is_on, on_worker, is_ready, first_ready, or_next, waiting, wanted, listed}
 use Rattle.aos_concurrency.specs.Orderly.{Distinct}
 use Rattle.aos_concurrency.proofs.Tables.{number, lock, by_case, is_itself, put_same, put_other}
 
 pub place_of-leave : (a : ℕ) (line : List Stand) (x : ℕ) → place_of (leave_line a line) x ≡ put nat_eq (place_of line) a None x
-place_of-leave a [] x = by_case number (λ q. ◌≡◌ {A = Option Place} None (if q then None else None)) x a (λ _. refl) (λ _. refl)
+place_of-leave a [] x = by_case number (λ q. ◌≡◌ {A = Option RunState} None (if q then None else None)) x a (λ _. refl) (λ _. refl)
 place_of-leave a (s ∷ line) x =
     by_case number (λ q. place_of (if not q then s ∷ leave_line a line else leave_line a line) x ≡ put nat_eq (place_of (s ∷ line)) a None x) s.activity a
     (λ e. place_of-leave a line x ∙ by_case number (λ q. (if q then None else place_of line x) ≡ (if q then None else place_of (s ∷ line) x)) x a (λ _. refl)
@@ -36,7 +36,7 @@ place_of-append_other (t ∷ line) s x ne =
     ]
 
 -- after a move the activity stands there, and each other where it stood
-pub place_of-move : (a : ℕ) (p : Place) (line : List Stand) (x : ℕ) → place_of (move a p line) x ≡ put nat_eq (place_of line) a (Some p) x
+pub place_of-move : (a : ℕ) (p : RunState) (line : List Stand) (x : ℕ) → place_of (move a p line) x ≡ put nat_eq (place_of line) a (Some p) x
 place_of-move a p line x =
     by_case number (λ q. place_of (move a p line) x ≡ (if q then Some p else place_of line x)) x a
     (λ e. place_of-append (leave_line a line) (record { activity = a; place = p }) x (place_of-leave a line x ∙ ap (put nat_eq (place_of line) a None) e ∙ put_same number (place_of line) a None)
@@ -60,7 +60,7 @@ distinct-append (t ∷ line) s none d =
     (λ ne h. (place_of-append_other line s t.activity (λ q. ne (sym q)) ∙ d.0, distinct-append line s h d.1))
     none
 
-pub distinct-move : (a : ℕ) (p : Place) (line : List Stand) → Distinct line → Distinct (move a p line)
+pub distinct-move : (a : ℕ) (p : RunState) (line : List Stand) → Distinct line → Distinct (move a p line)
 distinct-move a p line d =
     distinct-append (leave_line a line) (record { activity = a; place = p }) (place_of-leave a line a ∙ put_same number (place_of line) a None) (distinct-leave a line d)
 
@@ -80,7 +80,7 @@ leave-room a (s ∷ line) there =
 
 -- Whoever is found stands where it was looked for
 
-pub place-cons : (s : Stand) (line : List Stand) (a : ℕ) (p : Place) → place_of line s.activity ≡ None → place_of line a ≡ Some p → place_of (s ∷ line) a ≡ Some p
+pub place-cons : (s : Stand) (line : List Stand) (a : ℕ) (p : RunState) → place_of line s.activity ≡ None → place_of line a ≡ Some p → place_of (s ∷ line) a ≡ Some p
 place-cons s line a p new is =
     by_case number (λ q. (if q then Some s.place else place_of line a) ≡ Some p) a s.activity
     (λ e. absurd (let h = sym new ∙ ap (place_of line) (sym e) ∙ is in cc h)) (λ _. is)
@@ -88,10 +88,10 @@ place-cons s line a p new is =
 pub place-head : (s : Stand) (line : List Stand) → place_of (s ∷ line) s.activity ≡ Some s.place
 place-head s line = put_same number (place_of line) s.activity (Some s.place)
 
-pub found : (at : Place → Bool) (line : List Stand) (a : ℕ) → Distinct line → first_at at line ≡ Some a → (p : Place) × (place_of line a ≡ Some p) × (at p ≡ true)
+pub found : (at : RunState → Bool) (line : List Stand) (a : ℕ) → Distinct line → first_at at line ≡ Some a → (p : RunState) × (place_of line a ≡ Some p) × (at p ≡ true)
 found at [] a d is = absurd (cc is)
 found at (s ∷ line) a d is =
-    (elim (at s.place) as (λ q. at s.place ≡ q → (if q then Some s.activity else first_at at line) ≡ Some a → (p : Place) × (place_of (s ∷ line) a ≡ Some p) × (at p ≡ true)) [
+    (elim (at s.place) as (λ q. at s.place ≡ q → (if q then Some s.activity else first_at at line) ≡ Some a → (p : RunState) × (place_of (s ∷ line) a ≡ Some p) × (at p ≡ true)) [
       | true ↦ λ t h. (s.place, subst (λ x. place_of (s ∷ line) x ≡ Some s.place) (let e : s.activity ≡ a = cc h in e) (place-head s line), t)
       | false ↦ λ t h. let r = found at line a d.1 h in (r.0, place-cons s line a r.0 d.0 r.1, r.2)
     ]) refl is
@@ -106,7 +106,7 @@ found_ready line a d is =
       ]) refl h
     ]) refl is
   where
-    ready_is : (q : ℕ) (p : Place) → is_ready q p ≡ true → place_of line a ≡ Some p → (r : ℕ) × (place_of line a ≡ Some (Ready r))
+    ready_is : (q : ℕ) (p : RunState) → is_ready q p ≡ true → place_of line a ≡ Some p → (r : ℕ) × (place_of line a ≡ Some (Ready r))
     ready_is q (On w) t h = absurd (cc t)
     ready_is q (Ready r) t h = (r, h)
     ready_is q (At l w) t h = absurd (cc t)
@@ -117,7 +117,7 @@ found_ready line a d is =
 pub found_on : (line : List Stand) (w a : ℕ) → Distinct line → on_worker w line ≡ Some a → (v : ℕ) × (place_of line a ≡ Some (On v))
 found_on line w a d h = let r = found (is_on w) line a d h in on_is r.0 r.2 r.1
   where
-    on_is : (p : Place) → is_on w p ≡ true → place_of line a ≡ Some p → (v : ℕ) × (place_of line a ≡ Some (On v))
+    on_is : (p : RunState) → is_on w p ≡ true → place_of line a ≡ Some p → (v : ℕ) × (place_of line a ≡ Some (On v))
     on_is (On v) t h' = (v, h')
     on_is (Ready r) t h' = absurd (cc t)
     on_is (At l w') t h' = absurd (cc t)
@@ -136,7 +136,7 @@ stands-cons verdict l s line (Entrant a) new is = place-cons s line a (At l Entr
 stands-cons verdict l s line (Waiter a) new is = (is.0, place-cons s line a (At l (Condition is.0)) new is.1, is.2)
 stands-cons verdict l s line (Trapping a n) new is = (is.0, place-cons s line a (At l (Condition is.0)) new is.1, is.2)
 
-pub wanted_tells : (l : LockName) (p : Place) → (wanted l p ≡ None) ⊎ ((w : Wants) × (p ≡ At l w) × (wanted l p ≡ Some w))
+pub wanted_tells : (l : LockName) (p : RunState) → (wanted l p ≡ None) ⊎ ((w : Wants) × (p ≡ At l w) × (wanted l p ≡ Some w))
 wanted_tells l (On w) = inl refl
 wanted_tells l (Ready p) = inl refl
 wanted_tells l (At k w) =
@@ -157,7 +157,7 @@ waiter_stands verdict l (s ∷ line) d =
       | inr r ↦ subst (λ o. StandsAs verdict l (s ∷ line) (first_waiter verdict (listed o s.activity (waiting l line)))) (sym r.2)
           ((elim r.0 as (λ w. s.place ≡ At l w → StandsAs verdict l (s ∷ line) (served (judged verdict s.activity w) s.activity (first_waiter verdict (waiting l line)))) [
             | Entry ↦ λ _. ih
-            | Condition c ↦ λ at. served_stands verdict l (s ∷ line) s.activity c (verdict s.activity c) (first_waiter verdict (waiting l line)) (place-head s line ∙ ap (λ (p : Place). Some p) at) refl ih
+            | Condition c ↦ λ at. served_stands verdict l (s ∷ line) s.activity c (verdict s.activity c) (first_waiter verdict (waiting l line)) (place-head s line ∙ ap (λ (p : RunState). Some p) at) refl ih
           ]) r.1)
     ]
 
@@ -169,7 +169,7 @@ entrant_stands verdict l (s ∷ line) d =
       | inl e ↦ subst (λ o. StandsAs verdict l (s ∷ line) (first_entrant (listed o s.activity (waiting l line)))) (sym e) ih
       | inr r ↦ subst (λ o. StandsAs verdict l (s ∷ line) (first_entrant (listed o s.activity (waiting l line)))) (sym r.2)
           ((elim r.0 as (λ w. s.place ≡ At l w → StandsAs verdict l (s ∷ line) (entering w s.activity (first_entrant (waiting l line)))) [
-            | Entry ↦ λ at. place-head s line ∙ ap (λ (p : Place). Some p) at
+            | Entry ↦ λ at. place-head s line ∙ ap (λ (p : RunState). Some p) at
             | Condition c ↦ λ _. ih
           ]) r.1)
     ]
@@ -226,7 +226,7 @@ first_same judge judge' l (s ∷ line) d same =
       | inr r ↦ subst (λ o. first_waiter judge (listed o s.activity (waiting l line)) ≡ first_waiter judge' (listed o s.activity (waiting l line))) (sym r.2)
           ((elim r.0 as (λ w. s.place ≡ At l w → served (judged judge s.activity w) s.activity (first_waiter judge (waiting l line)) ≡ served (judged judge' s.activity w) s.activity (first_waiter judge' (waiting l line))) [
             | Entry ↦ λ _. ih
-            | Condition c ↦ λ at. served_same _ _ _ _ _ (same s.activity c (place-head s line ∙ ap (λ (p : Place). Some p) at)) ih
+            | Condition c ↦ λ at. served_same _ _ _ _ _ (same s.activity c (place-head s line ∙ ap (λ (p : RunState). Some p) at)) ih
           ]) r.1)
     ]
 

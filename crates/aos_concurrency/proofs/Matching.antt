@@ -10,16 +10,16 @@ use Rattle.aos_base.specs.declared.kernel.Event.{Event}
 use Rattle.aos_base.specs.declared.kernel.Event.TheVariants as event
 use Rattle.aos_base.specs.declared.kernel.Outcome.TheVariants as outcome_is
 use Rattle.aos_base.specs.Lock.{Wants, Entry, Condition, Heir, Nobody, Entrant, Waiter, Trapping, heir, enters}
-use Rattle.aos_base.specs.Book.{Place, On, Ready, At, Next, Runs, WillTrap, Unwinds, Gone, Book, put, place_of, is_at_lock, waiting, tell, stands, ready, next_is, owned_by, counted, trapped, ended, restarted, born, on_worker, first_ready, is_full, outcome}
+use Rattle.aos_base.specs.Book.{RunState, On, Ready, At, Next, Runs, WillTrap, Unwinds, Gone, Book, put, place_of, is_at_lock, waiting, tell, stands, ready, next_is, owned_by, counted, trapped, ended, restarted, born, on_worker, first_ready, is_full, outcome}
 use Rattle.aos_base.specs.Machine.{Choice, Step, Tick, Turn, Machine, State, start_of, on_book, go_past, pass, release, trap, enter, await, start, serve, turned, finish, turn_by, dispatch, step_of, tick_of, happens_in, if_going, happens, execution}
 use Rattle.aos_base.specs.Observation.{status_of, waits_if, spent_if, wait_row, waits_below, observation}
-use Rattle.aos_concurrency.specs.Spot.{Spot, spot, before, GoesPast, MayTrap, AtPlace, AtWork}
+use Rattle.aos_concurrency.specs.LocalState.{LocalState, local_state, before, GoesPast, MayTrap, AtRunState, AtWork}
 use Rattle.aos_concurrency.specs.Orderly.{Agrees, Orderly}
 use Rattle.aos_concurrency.specs.Admits.{Admits, AlwaysAdmits}
 use Rattle.aos_concurrency.specs.Simulates.{SameAnew, Simulates, Matches}
 use Rattle.aos_concurrency.proofs.Tables.{number, by_case, put_same, put_other, put_back}
 use Rattle.aos_concurrency.proofs.Lines.{StandsAs, heir_stands, heir_same, found_on, found_ready}
-use Rattle.aos_concurrency.proofs.Spots.{spot-stands, spot-next, spot-ended, spot-anew, spot-born, spot-past, spot-trap, spot-turned, spot-heir, spot-trapping, orderly-stands, orderly-next, orderly-ended, orderly-anew, orderly-born, orderly-past, orderly-trap, orderly-turned, orderly-heir, orderly-trapping, live_there, runs_there, not_started, awake_agrees}
+use Rattle.aos_concurrency.proofs.LocalStates.{local_state-stands, local_state-next, local_state-ended, local_state-anew, local_state-born, local_state-past, local_state-trap, local_state-turned, local_state-heir, local_state-trapping, orderly-stands, orderly-next, orderly-ended, orderly-anew, orderly-born, orderly-past, orderly-trap, orderly-turned, orderly-heir, orderly-trapping, live_there, runs_there, not_started, awake_agrees}
 use Rattle.aos_concurrency.proofs.Works.{at_rest, work_elsewhere, runs_at, admitted_at, work_along, work_map}
 use Rattle.aos_concurrency.proofs.Begin.{each_start, orderly_start}
 
@@ -29,10 +29,10 @@ one s f b = record { store = s; frames = f; book = b }
 
 module _ {S F T G : Type 0} (Stores : S → T → Type 0) (Frames : S → T → Did → F → G → Type 0) (Admitted : LockName → F → Type 0) (m : Machine S F) (n : Machine T G) (sim : Simulates Stores Frames Admitted m n) where
   -- an activity of one machine's, and its frames in the other's
-  abbrev Same : S → T → Spot F → G → Type 0
+  abbrev Same : S → T → LocalState F → G → Type 0
   Same s t x g = AtWork (λ l. Admitted l x.frames) (λ w. Frames s t w x.frames g) x.next x.place
 
-  each_same : (s : S) (t : T) (x y : ℕ → Spot F) (g h : ℕ → G) (a : ℕ) (v : Spot F) (k : G) → ((z : ℕ) → y z ≡ put nat_eq x a v z) → ((z : ℕ) → h z ≡ put nat_eq g a k z) → Same s t v k → ((z : ℕ) → z ≢ a → Same s t (x z) (g z)) → (z : ℕ) → Same s t (y z) (h z)
+  each_same : (s : S) (t : T) (x y : ℕ → LocalState F) (g h : ℕ → G) (a : ℕ) (v : LocalState F) (k : G) → ((z : ℕ) → y z ≡ put nat_eq x a v z) → ((z : ℕ) → h z ≡ put nat_eq g a k z) → Same s t v k → ((z : ℕ) → z ≢ a → Same s t (x z) (g z)) → (z : ℕ) → Same s t (y z) (h z)
   each_same s t x y g h a v k ey eh here other z =
       subst (λ u. Same s t u (h z)) (sym (ey z)) (subst (λ u. Same s t (put nat_eq x a v z) u) (sym (eh z))
       (by_case number (λ q. Same s t (if q then v else x z) (if q then k else g z)) z a (λ _. here) (λ ne. other z ne)))
@@ -41,13 +41,13 @@ module _ {S F T G : Type 0} (Stores : S → T → Type 0) (Frames : S → T → 
   record Pair (s : S) (t : T) (f : ℕ → F) (g : ℕ → G) (b : Book) : Type 0 where
     stores : Stores s t
     orderly : Orderly (one s f b)
-    frames : (a : ℕ) → Same s t (spot (one s f b) a) (g a)
+    frames : (a : ℕ) → Same s t (local_state (one s f b) a) (g a)
 
   -- the same, while a turn has left this work to the kernel
   record Turning (w : Did) (a : ℕ) (s : S) (t : T) (f : ℕ → F) (g : ℕ → G) (b : Book) : Type 0 where
     stores : Stores s t
     orderly : Orderly (one s f b)
-    others : (x : ℕ) → x ≢ a → Same s t (spot (one s f b) x) (g x)
+    others : (x : ℕ) → x ≢ a → Same s t (local_state (one s f b) x) (g x)
     mine : Frames s t w (f a) (g a)
     worker : ℕ
     on : place_of b.line a ≡ Some (On worker)
@@ -72,7 +72,7 @@ module _ {S F T G : Type 0} (Stores : S → T → Type 0) (Frames : S → T → 
         book = refl;
         stores = p.stores;
         orderly = orderly-heir m b l k w e (one s f c) at p.orderly;
-        frames = each_same s t (spot (one s f c)) _ g _ b (record (spot (one s f c) b) { place = Some r; frames = m.past (f b) }) (n.past (g b)) (spot-heir m b l e (one s f c)) (λ z. refl)
+        frames = each_same s t (local_state (one s f c)) _ g _ b (record (local_state (one s f c) b) { place = Some r; frames = m.past (f b) }) (n.past (g b)) (local_state-heir m b l e (one s f c)) (λ z. refl)
             (at_rest (λ l. Admitted l (m.past (f b))) (λ w. Frames s t w (m.past (f b)) (n.past (g b))) (c.activity b).next r refl runs
             (sim.past s t (before (At k w)) (f b) (g b) goes p.stores (runs_at (λ l. Admitted l (f b)) (λ w. Frames s t w (f b) (g b)) _ _ (At k w) runs at (p.frames b))))
             (λ z _. p.frames z);
@@ -94,7 +94,7 @@ module _ {S F T G : Type 0} (Stores : S → T → Type 0) (Frames : S → T → 
         book = refl;
         stores = p.stores;
         orderly = orderly-trapping m b k l l w e (one s f c) stand.1 p.orderly;
-        frames = each_same s t (spot (one s f c)) _ g _ b (record (spot (one s f c) b) { place = Some r; next = WillTrap k }) (g b) (spot-trapping m b k l e (one s f c)) (put_back number g b)
+        frames = each_same s t (local_state (one s f c)) _ g _ b (record (local_state (one s f c) b) { place = Some r; next = WillTrap k }) (g b) (local_state-trapping m b k l e (one s f c)) (put_back number g b)
             (Await l stand.0, (tt, runs_at (λ l. Admitted l (f b)) (λ w. Frames s t w (f b) (g b)) _ _ (At l w) runs stand.1 (p.frames b)))
             (λ z _. p.frames z);
       }
@@ -123,7 +123,7 @@ module _ {S F T G : Type 0} (Stores : S → T → Type 0) (Frames : S → T → 
         book = λ i. trapped a k d (sim.position s t w (f a) (g a) may h.stores h.mine i) (sim.regions s t w (f a) (g a) may h.stores h.mine i) (some_same s t _ _ (sim.anew s t w (f a) (g a) may h.stores h.mine) i) c;
         stores = h.stores;
         orderly = orderly-trap m a k d (On h.worker) (one s f c) h.on refl h.orderly;
-        frames = each_same s t (spot (one s f c)) _ g _ a (record (spot (one s f c) a) { next = Unwinds (m.regions (f a)) }) (g a) (spot-trap m a k d (one s f c)) (put_back number g a) (w, (may, h.mine)) h.others;
+        frames = each_same s t (local_state (one s f c)) _ g _ a (record (local_state (one s f c) a) { next = Unwinds (m.regions (f a)) }) (g a) (local_state-trap m a k d (one s f c)) (put_back number g a) (w, (may, h.mine)) h.others;
       }
 
   ended_same : (w : Did) (a : ℕ) (s : S) (t : T) (f : ℕ → F) (g : ℕ → G) (c : Book) → Turning w a s t f g c → Matches Stores Frames Admitted (on_book (ended a) (one s f c)) (on_book (ended a) (one t g c))
@@ -133,7 +133,7 @@ module _ {S F T G : Type 0} (Stores : S → T → Type 0) (Frames : S → T → 
         book = refl;
         stores = h.stores;
         orderly = orderly-ended a (On h.worker) (one s f c) h.on h.orderly;
-        frames = each_same s t (spot (one s f c)) _ g _ a (record (spot (one s f c) a) { place = None; next = Gone }) (g a) (spot-ended a (one s f c)) (put_back number g a) tt h.others;
+        frames = each_same s t (local_state (one s f c)) _ g _ a (record (local_state (one s f c) a) { place = None; next = Gone }) (g a) (local_state-ended a (one s f c)) (put_back number g a) tt h.others;
       }
 
   live_here : (w : Did) (a : ℕ) (s : S) (t : T) (f : ℕ → F) (g : ℕ → G) (c : Book) → Turning w a s t f g c → (c.activity a).next ≢ Gone
@@ -145,12 +145,12 @@ module _ {S F T G : Type 0} (Stores : S → T → Type 0) (Frames : S → T → 
   past_pair w a s t f g c goes runs h = record {
     stores = h.stores;
     orderly = orderly-past m a c.owner c.events (one s f c) h.orderly;
-    frames = each_same s t (spot (one s f c)) _ g _ a (record (spot (one s f c) a) { frames = m.past (f a) }) (n.past (g a)) (spot-past m a c.owner c.events (one s f c)) (λ z. refl)
+    frames = each_same s t (local_state (one s f c)) _ g _ a (record (local_state (one s f c) a) { frames = m.past (f a) }) (n.past (g a)) (local_state-past m a c.owner c.events (one s f c)) (λ z. refl)
         (work_along (λ l. Admitted l (m.past (f a))) (λ w. Frames s t w (m.past (f a)) (n.past (g a))) _ _ _ _ (sym runs) (sym h.on) (sim.past s t w (f a) (g a) goes h.stores h.mine)) h.others;
   }
 
   -- to a lock's list, before the work of that place
-  joins : (w : Did) (a : ℕ) (l : LockName) (wants : Wants) (e : List Event) (s : S) (t : T) (f : ℕ → F) (g : ℕ → G) (c : Book) → (c.activity a).next ≡ Runs → Turning w a s t f g c → AtPlace (λ k. Admitted k (f a)) (λ w. Frames s t w (f a) (g a)) (At l wants)
+  joins : (w : Did) (a : ℕ) (l : LockName) (wants : Wants) (e : List Event) (s : S) (t : T) (f : ℕ → F) (g : ℕ → G) (c : Book) → (c.activity a).next ≡ Runs → Turning w a s t f g c → AtRunState (λ k. Admitted k (f a)) (λ w. Frames s t w (f a) (g a)) (At l wants)
       → Pair s t f g (stands a (At l wants) (record c { events = e }))
   unfolding stands
   joins w a l wants e s t f g c runs h there =
@@ -158,7 +158,7 @@ module _ {S F T G : Type 0} (Stores : S → T → Type 0) (Frames : S → T → 
       record {
         stores = h.stores;
         orderly = orderly-stands a r (On h.worker) e (one s f c) h.on (subst (λ k. Agrees k (Some r)) (sym runs) tt) h.orderly;
-        frames = each_same s t (spot (one s f c)) _ g _ a (record (spot (one s f c) a) { place = Some r }) (g a) (spot-stands a r e (one s f c)) (put_back number g a)
+        frames = each_same s t (local_state (one s f c)) _ g _ a (record (local_state (one s f c) a) { place = Some r }) (g a) (local_state-stands a r e (one s f c)) (put_back number g a)
             (work_along (λ l. Admitted l (f a)) (λ w. Frames s t w (f a) (g a)) _ _ _ _ (sym runs) refl there) h.others;
       }
 
@@ -183,25 +183,25 @@ module _ {S F T G : Type 0} (Stores : S → T → Type 0) (Frames : S → T → 
   unfolding born
   born_turning a o p s t f g c h =
       let k = c.started in
-      let v : Spot F = record { place = Some (Ready p); next = Runs; frames = m.body s o } in
+      let v : LocalState F = record { place = Some (Ready p); next = Runs; frames = m.body s o } in
       let ne : a ≢ k = not_started (one s f c) h.orderly a (live_here (Start o) a s t f g c h) in
-      let e = spot-born p (m.body s o) (one s f c) in
+      let e = local_state-born p (m.body s o) (one s f c) in
       record {
         stores = h.stores;
         orderly = orderly-born p (m.body s o) (one s f c) h.orderly;
         others = λ x na. subst (λ u. Same s t u (put nat_eq g k (n.body t o) x)) (sym (e x))
-            (by_case number (λ q. Same s t (if q then v else spot (one s f c) x) (if q then n.body t o else g x)) x k (λ _. sim.body s t o (f a) (g a) h.stores h.mine) (λ _. h.others x na));
+            (by_case number (λ q. Same s t (if q then v else local_state (one s f c) x) (if q then n.body t o else g x)) x k (λ _. sim.body s t o (f a) (g a) h.stores h.mine) (λ _. h.others x na));
         mine = subst (λ x. Frames s t (Start o) x (put nat_eq g k (n.body t o) a)) (sym (put_other number f k _ a ne)) (subst (Frames s t (Start o) (f a)) (sym (put_other number g k _ a ne)) h.mine);
         worker = h.worker;
-        on = ap (λ (y : Spot F). y.place) (e a ∙ put_other number (spot (one s f c)) k v a ne) ∙ h.on;
+        on = ap (λ (y : LocalState F). y.place) (e a ∙ put_other number (local_state (one s f c)) k v a ne) ∙ h.on;
       }
 
   born_runs : (a o p : ℕ) (s : S) (t : T) (f : ℕ → F) (g : ℕ → G) (c : Book) → (c.activity a).next ≡ Runs → Turning (Start o) a s t f g c → ((born p c).activity a).next ≡ Runs
   unfolding born
   born_runs a o p s t f g c runs h =
-      let v : Spot F = record { place = Some (Ready p); next = Runs; frames = m.body s o } in
+      let v : LocalState F = record { place = Some (Ready p); next = Runs; frames = m.body s o } in
       let ne : a ≢ c.started = not_started (one s f c) h.orderly a (live_here (Start o) a s t f g c h) in
-      ap (λ (y : Spot F). y.next) (spot-born p (m.body s o) (one s f c) a ∙ put_other number (spot (one s f c)) c.started v a ne) ∙ runs
+      ap (λ (y : LocalState F). y.next) (local_state-born p (m.body s o) (one s f c) a ∙ put_other number (local_state (one s f c)) c.started v a ne) ∙ runs
 
   passes : (a : ℕ) (s : S) (t : T) (f : ℕ → F) (g : ℕ → G) (c : Book) → Pair s t (put nat_eq f a (m.past (f a))) (put nat_eq g a (n.past (g a))) c → Matches Stores Frames Admitted (go_past m a (one s f c)) (go_past n a (one t g c))
   unfolding go_past
@@ -219,7 +219,7 @@ module _ {S F T G : Type 0} (Stores : S → T → Type 0) (Frames : S → T → 
     book = refl;
     stores = h.stores;
     orderly = h.orderly;
-    frames = each_same s t (spot (one s f c)) _ g _ a (spot (one s f c) a) (g a) (put_back number (spot (one s f c)) a) (put_back number g a)
+    frames = each_same s t (local_state (one s f c)) _ g _ a (local_state (one s f c) a) (g a) (put_back number (local_state (one s f c)) a) (put_back number g a)
         (work_along (λ l. Admitted l (f a)) (λ w. Frames s t w (f a) (g a)) _ _ _ _ (sym runs) (sym h.on) h.mine) h.others;
   }
   serve_same a Ended s t f g c asked runs h = ended_same Ended a s t f g c h
@@ -237,12 +237,12 @@ module _ {S F T G : Type 0} (Stores : S → T → Type 0) (Frames : S → T → 
       let x = m.turn s (f a) in
       let y = n.turn t (g a) in
       let same = sim.turn s t (f a) (g a) p.stores rest in
-      let u = record (spot (one s f c) a) { frames = x.frames } in
-      let e = spot-turned m a x (one s f c) in
+      let u = record (local_state (one s f c) a) { frames = x.frames } in
+      let e = local_state-turned m a x (one s f c) in
       record {
         stores = same.stores;
         orderly = orderly-turned m a x (On v) (one s f c) on p.orderly;
-        others = λ z ne. subst (λ q. Same x.store y.store q (put nat_eq g a y.frames z)) (sym (e z ∙ put_other number (spot (one s f c)) a u z ne)) (subst (λ q. Same x.store y.store (spot (one s f c) z) q) (sym (put_other number g a y.frames z ne))
+        others = λ z ne. subst (λ q. Same x.store y.store q (put nat_eq g a y.frames z)) (sym (e z ∙ put_other number (local_state (one s f c)) a u z ne)) (subst (λ q. Same x.store y.store (local_state (one s f c) z) q) (sym (put_other number g a y.frames z ne))
             (work_map (λ l. Admitted l (f z)) (λ w. Frames s t w (f z) (g z)) (λ w. Frames x.store y.store w (f z) (g z)) (λ w h. sim.kept s t (f a) (g a) p.stores rest w (f z) (g z) h) _ _ (p.frames z)));
         mine = subst (λ q. Frames x.store y.store x.left q (put nat_eq g a y.frames a)) (sym (put_same number f a x.frames)) (subst (Frames x.store y.store x.left x.frames) (sym (put_same number g a y.frames)) same.frames);
         worker = v;
@@ -252,7 +252,7 @@ module _ {S F T G : Type 0} (Stores : S → T → Type 0) (Frames : S → T → 
   counted_runs : (a : ℕ) (x : Turn S F) (s : S) (f : ℕ → F) (c : Book) → (c.activity a).next ≡ Runs → ((counted a x.output x.begun c).activity a).next ≡ Runs
   unfolding turned counted
   counted_runs a x s f c runs =
-      ap (λ (y : Spot F). y.next) (spot-turned m a x (one s f c) a ∙ put_same number (spot (one s f c)) a (record (spot (one s f c) a) { frames = x.frames })) ∙ runs
+      ap (λ (y : LocalState F). y.next) (local_state-turned m a x (one s f c) a ∙ put_same number (local_state (one s f c)) a (record (local_state (one s f c) a) { frames = x.frames })) ∙ runs
 
   -- the whole turn of one that runs
   run_same : (a : ℕ) (s : S) (t : T) (f : ℕ → F) (g : ℕ → G) (c : Book) → Admits m Admitted (one s f c) → Pair s t f g c → (v : ℕ) → place_of c.line a ≡ Some (On v) → (c.activity a).next ≡ Runs → Frames s t Went (f a) (g a)
@@ -280,7 +280,7 @@ module _ {S F T G : Type 0} (Stores : S → T → Type 0) (Frames : S → T → 
         book = refl;
         stores = h.stores;
         orderly = orderly-anew a f' (On h.worker) (one s f c) h.on h.orderly;
-        frames = each_same s t (spot (one s f c)) _ g _ a (record (spot (one s f c) a) { next = Runs; frames = f' }) g' (spot-anew a f' (one s f c)) (λ z. refl)
+        frames = each_same s t (local_state (one s f c)) _ g _ a (record (local_state (one s f c) a) { next = Runs; frames = f' }) g' (local_state-anew a f' (one s f c)) (λ z. refl)
             (work_along (λ l. Admitted l f') (λ w. Frames s t w f' g') Runs Runs _ _ refl (sym h.on) same) h.others;
       }
 
@@ -294,7 +294,7 @@ module _ {S F T G : Type 0} (Stores : S → T → Type 0) (Frames : S → T → 
       record {
         stores = p.stores;
         orderly = orderly-next a (Unwinds locks) (On v) (one s f c) on refl (λ e. absurd (cc e)) p.orderly;
-        frames = each_same s t (spot (one s f c)) _ g _ a (record (spot (one s f c) a) { next = Unwinds locks }) (g a) (spot-next a (Unwinds locks) (one s f c)) (put_back number g a)
+        frames = each_same s t (local_state (one s f c)) _ g _ a (record (local_state (one s f c) a) { next = Unwinds locks }) (g a) (local_state-next a (Unwinds locks) (one s f c)) (put_back number g a)
             (work_along (λ l. Admitted l (f a)) (λ w. Frames s t w (f a) (g a)) _ (Unwinds (l ∷ locks)) _ _ is on (p.frames a)) (λ z _. p.frames z);
       }
 
@@ -309,13 +309,13 @@ module _ {S F T G : Type 0} (Stores : S → T → Type 0) (Frames : S → T → 
       finish_same h.0 a _ (m.anew (f a)) (n.anew (g a)) s t f g c (turning_at h.0 a s t f g c p v on h.1.1) (sim.anew s t h.0 (f a) (g a) h.1.0 p.stores h.1.1)
   turn_same a Gone s t f g c admits p v on is = same_book s t f g c p
 
-  moved_same : (a : ℕ) (x y : Place) (s : S) (t : T) (f : ℕ → F) (g : ℕ → G) (c : Book) → Pair s t f g c → place_of c.line a ≡ Some x → is_at_lock x ≡ false → is_at_lock y ≡ false → Matches Stores Frames Admitted (on_book (stands a y) (one s f c)) (on_book (stands a y) (one t g c))
+  moved_same : (a : ℕ) (x y : RunState) (s : S) (t : T) (f : ℕ → F) (g : ℕ → G) (c : Book) → Pair s t f g c → place_of c.line a ≡ Some x → is_at_lock x ≡ false → is_at_lock y ≡ false → Matches Stores Frames Admitted (on_book (stands a y) (one s f c)) (on_book (stands a y) (one t g c))
   unfolding stands
   moved_same a x y s t f g c p at hx hy = record {
     book = refl;
     stores = p.stores;
     orderly = orderly-stands a y x c.events (one s f c) at (awake_agrees (c.activity a).next y (live_there (one s f c) p.orderly a x at) hy) p.orderly;
-    frames = each_same s t (spot (one s f c)) _ g _ a (record (spot (one s f c) a) { place = Some y }) (g a) (spot-stands a y c.events (one s f c)) (put_back number g a)
+    frames = each_same s t (local_state (one s f c)) _ g _ a (record (local_state (one s f c) a) { place = Some y }) (g a) (local_state-stands a y c.events (one s f c)) (put_back number g a)
         (work_elsewhere (λ l. Admitted l (f a)) (λ w. Frames s t w (f a) (g a)) (c.activity a).next x y hx hy (work_along (λ l. Admitted l (f a)) (λ w. Frames s t w (f a) (g a)) _ (c.activity a).next _ _ refl at (p.frames a))) (λ z _. p.frames z);
   }
 
@@ -368,7 +368,7 @@ module _ {S F T G : Type 0} (Stores : S → T → Type 0) (Frames : S → T → 
   may_wait l Entry = tt
   may_wait l (Condition d) = tt
 
-  wait_row_same : (s : S) (t : T) (f : ℕ → F) (g : ℕ → G) (b : Book) → Pair s t f g b → (a : ℕ) (p : Option Place) → place_of b.line a ≡ p → wait_row m a p (f a) ≡ wait_row n a p (g a)
+  wait_row_same : (s : S) (t : T) (f : ℕ → F) (g : ℕ → G) (b : Book) → Pair s t f g b → (a : ℕ) (p : Option RunState) → place_of b.line a ≡ p → wait_row m a p (f a) ≡ wait_row n a p (g a)
   wait_row_same s t f g b h a None at = refl
   wait_row_same s t f g b h a (Some (On v)) at = refl
   wait_row_same s t f g b h a (Some (Ready v)) at = refl

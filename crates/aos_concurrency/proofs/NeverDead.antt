@@ -6,9 +6,9 @@ use Rattle.aos_base.specs.declared.kernel.Did.{Did}
 use Rattle.aos_base.specs.declared.kernel.Did.TheVariants.{Went, Ended, Enter, Leave, Await, Start, Trapped}
 use Rattle.aos_base.specs.declared.kernel.Outcome.TheVariants as outcome_is
 use Rattle.aos_base.specs.Lock.{Heir, Nobody, Entrant, Waiter, Trapping, heir}
-use Rattle.aos_base.specs.Book.{Place, On, Ready, Stand, Next, Runs, WillTrap, Unwinds, Gone, waiting, is_at_lock, all_at_locks, leave_line, move, place_of, stands, ready, next_is, owned_by, counted, trapped, ended, restarted, born, on_worker, first_ready, is_full, may_restart, outcome, outcome_of}
+use Rattle.aos_base.specs.Book.{RunState, On, Ready, Stand, Next, Runs, WillTrap, Unwinds, Gone, waiting, is_at_lock, all_at_locks, leave_line, move, place_of, stands, ready, next_is, owned_by, counted, trapped, ended, restarted, born, on_worker, first_ready, is_full, may_restart, outcome, outcome_of}
 use Rattle.aos_base.specs.Machine.{Choice, Step, Tick, Machine, State, start_of, go_past, pass, release, trap, start, serve, turned, finish, turn_by, dispatch, step_of, tick_of, happens_in, if_going, happens, execution}
-use Rattle.aos_concurrency.specs.Spot.{NoOne}
+use Rattle.aos_concurrency.specs.LocalState.{NoOne}
 use Rattle.aos_concurrency.specs.Admits.{Admits}
 use Rattle.aos_concurrency.specs.Waits.{MayWait, NeverWaits}
 use Rattle.aos_concurrency.specs.Sound.{Fitting}
@@ -33,7 +33,7 @@ one_joins : (line : List Stand) (s : Stand) → is_at_lock s.place ≡ false →
 one_joins [] s e h = (e, tt)
 one_joins (t ∷ line) s e h = (h.0, one_joins line s e h.1)
 
-one_moves : (a : ℕ) (p : Place) (line : List Stand) → is_at_lock p ≡ false → NobodyWaits line → NobodyWaits (move a p line)
+one_moves : (a : ℕ) (p : RunState) (line : List Stand) → is_at_lock p ≡ false → NobodyWaits line → NobodyWaits (move a p line)
 one_moves a p line e h = one_joins (leave_line a line) (record { activity = a; place = p }) e (one_leaves a line h)
 
 not_dead : (line : List Stand) (spent : Option ℕ) → NobodyWaits line → outcome_of line spent ≢ outcome_is.Dead

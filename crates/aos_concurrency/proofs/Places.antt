@@ -11,7 +11,7 @@ use Rattle.aos_base.specs.declared.kernel.Event.{Event}
 use Rattle.aos_base.specs.declared.kernel.Event.TheVariants as event
 use Rattle.aos_base.specs.declared.kernel.Outcome.TheVariants as outcome_is
 use Rattle.aos_base.specs.Lock.{Entry, Condition, Heir, Nobody, Entrant, Waiter, Trapping, heir}
-use Rattle.aos_base.specs.Book.{Place, Stand, On, Ready, At, Next, Runs, WillTrap, Unwinds, Gone, place_of, leave_line, move, first_at, is_on, waiting, tell, stands, ready, next_is, owned_by, counted, trapped, ended, restarted, born, on_worker, first_ready, is_full, outcome}
+use Rattle.aos_base.specs.Book.{RunState, Stand, On, Ready, At, Next, Runs, WillTrap, Unwinds, Gone, place_of, leave_line, move, first_at, is_on, waiting, tell, stands, ready, next_is, owned_by, counted, trapped, ended, restarted, born, on_worker, first_ready, is_full, outcome}
 use Rattle.aos_base.specs.Machine.{Choice, Step, Tick, Turn, Machine, State, on_book, with_frames, go_past, pass, release, trap, enter, await, start, serve, turned, finish, turn_by, dispatch, step_of, tick_of, happens_in, if_going, happens, execution}
 use Rattle.aos_concurrency.specs.Private.{of_worker, NoneOf}
 use Rattle.aos_concurrency.proofs.Tables.{number, by_case}
@@ -38,7 +38,7 @@ on_leave w a (s ∷ line) =
       | false ↦ omega (arith, ih)
     ]
 
-on_move : (w a : ℕ) (p : Place) (line : List Stand) → on w (move a p line) ≤ on w line + one_if (is_on w p)
+on_move : (w a : ℕ) (p : RunState) (line : List Stand) → on w (move a p line) ≤ on w line + one_if (is_on w p)
 on_move w a p line = let e = on_append w (leave_line a line) (record { activity = a; place = p }) in let l = on_leave w a line in omega arith
 
 -- nobody stands on a worker that has none
@@ -69,7 +69,7 @@ on_some w (s ∷ line) h =
 
 -- Where one at most does, two activities that stand on it are one
 
-stands_on : (w : ℕ) (p : Place) → p ≡ On w → one_if (is_on w p) ≡ 1
+stands_on : (w : ℕ) (p : RunState) → p ≡ On w → one_if (is_on w p) ≡ 1
 stands_on w p is = ap (λ q. one_if (is_on w q)) is ∙ by_case number (λ q. one_if q ≡ 1) w w (λ _. refl) (λ ne. absurd (ne refl))
 
 counts_one : (w a : ℕ) (line : List Stand) → place_of line a ≡ Some (On w) → 1 ≤ on w line
@@ -130,7 +130,7 @@ module _ {S F : Type 0} (m : Machine S F) (w n : ℕ) where
   unfolding go_past
   past_most b st h = h
 
-  stands_most : (b : ℕ) (p : Place) (e : List Event) (st : State S F) → is_on w p ≡ false → Most st → Most (on_book (λ k. stands b p (record k { events = e })) st)
+  stands_most : (b : ℕ) (p : RunState) (e : List Event) (st : State S F) → is_on w p ≡ false → Most st → Most (on_book (λ k. stands b p (record k { events = e })) st)
   unfolding stands
   stands_most b p e st off h = let t = on_move w b p st.book.line in let o : one_if (is_on w p) ≡ 0 = ap one_if off in omega arith
 

@@ -11,7 +11,7 @@ use Rattle.aos_base.specs.declared.kernel.Did.TheVariants.{Went, Ended, Enter, L
 use Rattle.aos_base.specs.declared.kernel.Event.TheVariants as event
 use Rattle.aos_base.specs.declared.kernel.Outcome.TheVariants as outcome_is
 use Rattle.aos_base.specs.Lock.{Entry, Condition, Heir, Nobody, Entrant, Waiter, Trapping, heir}
-use Rattle.aos_base.specs.Book.{Place, At, Next, Runs, WillTrap, Unwinds, Gone, Book, TrapRow, waiting, tell, stands, ready, next_is, owned_by, counted, trapped, ended, restarted, born, on_worker, first_ready, is_full, may_restart, outcome}
+use Rattle.aos_base.specs.Book.{RunState, At, Next, Runs, WillTrap, Unwinds, Gone, Book, TrapRow, waiting, tell, stands, ready, next_is, owned_by, counted, trapped, ended, restarted, born, on_worker, first_ready, is_full, may_restart, outcome}
 use Rattle.aos_base.specs.Machine.{Choice, Step, Tick, Turn, Machine, State, on_book, go_past, pass, release, trap, enter, await, start, serve, turned, finish, turn_by, dispatch, step_of, tick_of, happens_in, if_going, happens, execution}
 use Rattle.aos_concurrency.specs.Traps.{turn_of, is_trap, AddsNoTrap, Adds, RecordsTraps, event_of, AreTold, Fault, of_number, is_owner, fault_in, fault_at, row_if, row_of, row_in, row_by}
 
@@ -60,7 +60,7 @@ module _ {S F : Type 0} (m : Machine S F) where
   unfolding ended next_is
   an_end a st = record { told = event.End a ∷ []; events = refl; none = refl; traps = refl }
 
-  a_wait : (a : ℕ) (p : Place) (l : LockName) (waiter : Bool) (st : State S F) → AddsNoTrap st.book (on_book (λ k. stands a p (tell (event.Wait l a waiter) k)) st).book
+  a_wait : (a : ℕ) (p : RunState) (l : LockName) (waiter : Bool) (st : State S F) → AddsNoTrap st.book (on_book (λ k. stands a p (tell (event.Wait l a waiter) k)) st).book
   unfolding stands
   a_wait a p l waiter st = record { told = event.Wait l a waiter ∷ []; events = refl; none = refl; traps = refl }
 

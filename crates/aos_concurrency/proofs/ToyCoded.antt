@@ -8,7 +8,7 @@ use Rattle.aos_base.specs.declared.kernel.Did.{Did}
 use Rattle.aos_base.specs.declared.kernel.Did.TheVariants.{Went}
 use Rattle.aos_base.specs.Machine.{Choice, Turn}
 use Rattle.aos_base.specs.Observation.{observation}
-use Rattle.aos_concurrency.specs.Spot.{Anyone}
+use Rattle.aos_concurrency.specs.LocalState.{Anyone}
 use Rattle.aos_concurrency.specs.Simulates.{SameTurn, Simulates, Matches}
 use Rattle.aos_concurrency.specs.Toy.{Command, Skip, Say, Raise, Take, Give, Until, Fork, Fail, Shared, Program, Frames, nothing_raised, whole_of, at_left, judges, first, toy, toy_turn, toy_past, toy_start, toy_run, Coded, code_of, coded, coded_turn, coded_start, coded_run, regions_past, raised}
 use Rattle.aos_concurrency.proofs.Matching.{execution_matches, start_matches, observation_matches, events_match}

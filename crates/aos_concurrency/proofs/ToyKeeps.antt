@@ -6,7 +6,7 @@ use Rattle.aos_base.specs.declared.kernel.Did.{Did}
 use Rattle.aos_base.specs.declared.kernel.Did.TheVariants.{Went, Ended, Enter, Leave, Await, Start, Trapped}
 use Rattle.aos_base.specs.Book.{put}
 use Rattle.aos_base.specs.Machine.{Choice}
-use Rattle.aos_concurrency.specs.Spot.{GoesPast}
+use Rattle.aos_concurrency.specs.LocalState.{GoesPast}
 use Rattle.aos_concurrency.specs.Regions.{Outside, Passes, KeepsFits, KeepsRegions}
 use Rattle.aos_concurrency.specs.Sound.{Sound}
 use Rattle.aos_concurrency.specs.Mutual.{Mutual}

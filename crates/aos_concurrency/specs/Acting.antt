@@ -5,7 +5,7 @@ use Rattle.aos_base.specs.declared.kernel.Did.{Did}
 use Rattle.aos_base.specs.declared.kernel.Did.TheVariants.{Went, Start}
 use Rattle.aos_base.specs.Book.{Next, Runs, WillTrap, Unwinds, Gone, put}
 use Rattle.aos_base.specs.Machine.{Machine, State}
-use Rattle.aos_concurrency.specs.Spot.{spot, GoesPast, MayTrap}
+use Rattle.aos_concurrency.specs.LocalState.{local_state, GoesPast, MayTrap}
 
 module _ {S F : Type 0} (m : Machine S F) where
   abbrev pub acts : Next → F → Option F
@@ -16,7 +16,7 @@ module _ {S F : Type 0} (m : Machine S F) where
 
   -- the frames with which each activity goes on: its own or, from a trap on, those with which it may begin anew
   abbrev pub acting : State S F → ℕ → Option F
-  acting st a = acts (spot st a).next (spot st a).frames
+  acting st a = acts (local_state st a).next (local_state st a).frames
 
 module _ {S F : Type 0} (m : Machine S F) (Admitted : LockName → F → Type 0) (Fits : S → Did → F → Type 0) where
   -- The five ways in which the store and the frames of those that act change, with `own` the frames of the activity a.

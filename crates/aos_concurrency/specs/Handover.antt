@@ -5,7 +5,7 @@ use Rattle.aos_base.specs.declared.kernel.Verdict.TheVariants.{Holds}
 use Rattle.aos_base.specs.declared.kernel.Did.{Did}
 use Rattle.aos_base.specs.declared.kernel.Did.TheVariants.{Went, Await}
 use Rattle.aos_base.specs.Lock.{Condition}
-use Rattle.aos_base.specs.Book.{Place, At, Runs, is_at_lock, place_of}
+use Rattle.aos_base.specs.Book.{RunState, At, Runs, is_at_lock, place_of}
 use Rattle.aos_base.specs.Machine.{Choice, Machine, State, happens, execution}
 use Rattle.aos_concurrency.specs.Regions.{times, Outside}
 use Rattle.aos_concurrency.specs.Traps.{turn_of}
@@ -35,7 +35,7 @@ module _ {S F : Type 0} (m : Machine S F) where
   -- before the entry the activity waits for the condition c of the lock l; after it, it has been given the lock, and goes on
   pub record IsGiven (st : State S F) (entry : Choice) (a : ℕ) (l : LockName) (c : ℕ) : Type 0 where
     pub waited : place_of st.book.line a ≡ Some (At l (Condition c))
-    pub place : Place
+    pub place : RunState
     pub stands : place_of (happens m entry st).book.line a ≡ Some place
     pub awake : is_at_lock place ≡ false
     pub runs : ((happens m entry st).book.activity a).next ≡ Runs

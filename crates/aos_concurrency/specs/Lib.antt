@@ -1,4 +1,4 @@
-pub mod Spot
+pub mod LocalState
 pub mod Orderly
 pub mod Regions
 pub mod Admits

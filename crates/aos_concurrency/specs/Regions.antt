@@ -6,7 +6,7 @@ use Rattle.aos_base.specs.declared.kernel.Did.TheVariants.{Went, Ended, Enter, L
 use Rattle.aos_base.specs.Lock.{is_lock}
 use Rattle.aos_base.specs.Book.{Next, Runs, WillTrap, Unwinds, Gone}
 use Rattle.aos_base.specs.Machine.{Machine}
-use Rattle.aos_concurrency.specs.Spot.{GoesPast, MayTrap}
+use Rattle.aos_concurrency.specs.LocalState.{GoesPast, MayTrap}
 
 -- how often a lock stands in a list
 abbrev pub times : LockName → List LockName → ℕ

@@ -4,7 +4,7 @@ use Rattle.aos_base.specs.declared.kernel.LockName.{LockName}
 use Rattle.aos_base.specs.declared.kernel.Did.{Did}
 use Rattle.aos_base.specs.declared.kernel.Did.TheVariants.{Went, Await, Start}
 use Rattle.aos_base.specs.Machine.{Turn, Machine, State}
-use Rattle.aos_concurrency.specs.Spot.{spot, GoesPast, MayTrap, AtWork}
+use Rattle.aos_concurrency.specs.LocalState.{local_state, GoesPast, MayTrap, AtWork}
 use Rattle.aos_concurrency.specs.Orderly.{Orderly}
 
 module _ {S F T G : Type 0} (Stores : S → T → Type 0) (Frames : S → T → Did → F → G → Type 0) where
@@ -56,4 +56,4 @@ module _ {S F T G : Type 0} (Stores : S → T → Type 0) (Frames : S → T → 
     pub stores : Stores st.store tu.store
     pub orderly : Orderly st
     pub frames : (a : ℕ)
-        → AtWork (λ l. Admitted l (st.frames a)) (λ w. Frames st.store tu.store w (st.frames a) (tu.frames a)) (spot st a).next (spot st a).place
+        → AtWork (λ l. Admitted l (st.frames a)) (λ w. Frames st.store tu.store w (st.frames a) (tu.frames a)) (local_state st a).next (local_state st a).place

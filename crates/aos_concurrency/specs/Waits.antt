@@ -2,7 +2,7 @@
 use Rattle.aos_base.specs.declared.kernel.Did.{Did}
 use Rattle.aos_base.specs.declared.kernel.Did.TheVariants.{Went, Ended, Enter, Leave, Await, Start, Trapped}
 use Rattle.aos_base.specs.Machine.{Machine}
-use Rattle.aos_concurrency.specs.Spot.{NoOne}
+use Rattle.aos_concurrency.specs.LocalState.{NoOne}
 use Rattle.aos_concurrency.specs.Regions.{KeepsFits}
 
 -- work at which an activity may come to wait for a lock

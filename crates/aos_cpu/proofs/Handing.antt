@@ -5,7 +5,7 @@ use Rattle.std.specs.Option.{option_map, option_and_then}
 use Rattle.std.proofs.lemmas.List.{drop_more, drop_all, length-append, length-replicate}
 use Rattle.std.proofs.Math.Seq.{take-append_seam, drop-append_seam}
 use Rattle.std.proofs.lemmas.Bool.Decides.{leb_tells}
-use Rattle.aos_base.specs.declared.place.Root.TheVariants.{Frame as FrameRoot}
+use Rattle.aos_base.specs.declared.root.Root.TheVariants.{Frame as FrameRoot}
 use Rattle.aos_base.specs.Rooted.{Rooted}
 use Rattle.aos_code.specs.declared.instr.Cell.{Cell}
 use Rattle.aos_code.specs.declared.instr.Cell.TheVariants.{Num, Place}

@@ -6,8 +6,8 @@ use Rattle.std.proofs.lemmas.Bool.Decides.{leb_tells, eqb_tells}
 use Rattle.std.proofs.lemmas.List.{append-nil, length-map, length-replicate}
 use Rattle.std.proofs.lemmas.Option.{slice_get-get_or}
 use Rattle.aos_base.specs.declared.text.Pos.{Pos}
-use Rattle.aos_base.specs.declared.place.Root.{Root}
-use Rattle.aos_base.specs.declared.place.Root.TheVariants.{Frame as FrameRoot, Module as ModuleRoot, Object as ObjectRoot}
+use Rattle.aos_base.specs.declared.root.Root.{Root}
+use Rattle.aos_base.specs.declared.root.Root.TheVariants.{Frame as FrameRoot, Module as ModuleRoot, Object as ObjectRoot}
 use Rattle.aos_base.specs.declared.kernel.Did.{Did}
 use Rattle.aos_base.specs.declared.kernel.Did.TheVariants.{Went, Ended as NoFrame, Enter, Leave, Await, Start, Trapped}
 use Rattle.aos_base.specs.Question.{Reads, Stores}
@@ -35,10 +35,10 @@ use Rattle.aos_store.proofs.Lists.{there_is}
 use Rattle.aos_store.proofs.Rooms.{roomy_set}
 use Rattle.aos_silent.specs.declared.act.Act.{Act as KeptAct}
 use Rattle.aos_silent.specs.declared.act.Act.TheVariants.{Goes as GoesOn, Sees as Asks, Begins as BeginsAt, Fails as FailsWith, Decides as DecidesWith}
-use Rattle.aos_silent.specs.declared.act.Spot.{Spot}
+use Rattle.aos_silent.specs.declared.act.Address.{Address}
 use Rattle.aos_silent.specs.declared.act.Question.{Question}
 use Rattle.aos_silent.specs.declared.silent.Stop.TheVariants.{Work as AtWork}
-use Rattle.aos_silent.specs.Acts.{spot_in, kind_in, addr_in, question_in, operands_of, WhereStays}
+use Rattle.aos_silent.specs.Acts.{address_in, kind_in, addr_in, question_in, operands_of, WhereStays}
 use Rattle.aos_silent.specs.Known.{Knows}
 use Rattle.aos_silent.specs.Steps.{IsStepOf, after}
 use Rattle.aos_silent.specs.Silent.{Seen, here_at, silent_at, seen_at, seen_with}
@@ -117,26 +117,26 @@ in_frames (ObjectRoot o) c f rest mem there e =
 
 -- What reads and stores ask for.
 
-read_asks : (kind : Kind) (s : Stack) (p : Spot) → spot_in (slice_get s 0) ≡ Some p → on_place (λ a t s'. Sees (Reads kind a) s') s ≡ Sees (Reads kind (addr_in p)) (drop 1 s)
+read_asks : (kind : Kind) (s : Stack) (p : Address) → address_in (slice_get s 0) ≡ Some p → on_place (λ a t s'. Sees (Reads kind a) s') s ≡ Sees (Reads kind (addr_in p)) (drop 1 s)
 read_asks kind [] p e = absurd (cc e)
 read_asks kind (NumCell z ∷ s) p e = absurd (cc e)
 read_asks kind (Ref o ∷ s) p e = absurd (cc e)
 read_asks kind (CallCell q o ∷ s) p e = absurd (cc e)
-read_asks kind (Place r c t ∷ s) p e = ap (λ (q : Spot). Sees (Reads kind (addr_in q)) s) (some_same _ p e)
+read_asks kind (Place r c t ∷ s) p e = ap (λ (q : Address). Sees (Reads kind (addr_in q)) s) (some_same _ p e)
 
-stores_at : (v : Cell) (s : Stack) (p : Spot) → spot_in (slice_get s 0) ≡ Some p → on_place (λ a t s'. Sees (Stores a v) s') s ≡ Sees (Stores (addr_in p) v) (drop 1 s)
+stores_at : (v : Cell) (s : Stack) (p : Address) → address_in (slice_get s 0) ≡ Some p → on_place (λ a t s'. Sees (Stores a v) s') s ≡ Sees (Stores (addr_in p) v) (drop 1 s)
 stores_at v [] p e = absurd (cc e)
 stores_at v (NumCell z ∷ s) p e = absurd (cc e)
 stores_at v (Ref o ∷ s) p e = absurd (cc e)
 stores_at v (CallCell q o ∷ s) p e = absurd (cc e)
-stores_at v (Place r c t ∷ s) p e = ap (λ (q : Spot). Sees (Stores (addr_in q) v) s) (some_same _ p e)
+stores_at v (Place r c t ∷ s) p e = ap (λ (q : Address). Sees (Stores (addr_in q) v) s) (some_same _ p e)
 
-store_by : (w v : Cell) (s : Stack) (p : Spot) (b : Bool) → (if b then Some w else None) ≡ Some v → spot_in (slice_get s 0) ≡ Some p →
+store_by : (w v : Cell) (s : Stack) (p : Address) (b : Bool) → (if b then Some w else None) ≡ Some v → address_in (slice_get s 0) ≡ Some p →
     (if b then on_place (λ a t s'. Sees (Stores a w) s') s else Stops lost) ≡ Sees (Stores (addr_in p) v) (drop 1 s)
 store_by w v s p true e f = stores_at w s p f ∙ ap (λ x. Sees (Stores (addr_in p) x) (drop 1 s)) (some_same w v e)
 store_by w v s p false e f = absurd (cc e)
 
-store_asks : (kind : Kind) (s : Stack) (v : Cell) (p : Spot) → kind_in kind (slice_get s 0) ≡ Some v → spot_in (slice_get s 1) ≡ Some p → stores kind s ≡ Sees (Stores (addr_in p) v) (drop 2 s)
+store_asks : (kind : Kind) (s : Stack) (v : Cell) (p : Address) → kind_in kind (slice_get s 0) ≡ Some v → address_in (slice_get s 1) ≡ Some p → stores kind s ≡ Sees (Stores (addr_in p) v) (drop 2 s)
 store_asks kind [] v p e f = absurd (cc e)
 store_asks kind (w ∷ s) v p e f = store_by w v s p (is_of kind w) e f
 
@@ -240,7 +240,7 @@ module _ (image : Image) (here : ℕ) (f : Frame) where
   abbrev own_code : List Instr
   own_code = code_of image f.procedure
 
-  pub read_top : (mem : Memory) (kind : Kind) (p : Spot) (v : Cell) → slice_get own_code f.next ≡ Some (Load kind) → spot_in (slice_get f.stack 0) ≡ Some p →
+  pub read_top : (mem : Memory) (kind : Kind) (p : Address) (v : Cell) → slice_get own_code f.next ≡ Some (Load kind) → address_in (slice_get f.stack 0) ≡ Some p →
       ((rest : List Frame) → length rest ≡ here → load p.root p.cell (rooted (f ∷ rest) mem) ≡ Some v) → is_of kind v ≡ true →
       HasTurnedTop image here false mem mem f (record f { next = f.next + 1; stack = v ∷ drop 1 f.stack })
   read_top mem kind p v is place holds of =
@@ -252,8 +252,8 @@ module _ (image : Image) (here : ℕ) (f : Frame) where
       ap (λ o. reads following kind o (asker f.next f.keeps (drop 1 f.stack) f rest mem)) (holds rest len)
       ∙ ap (λ b. if b then goes_on following (behind following f.next f.keeps (v ∷ drop 1 f.stack) f ∷ rest) mem else leaves following (Trapped 16 0) (f ∷ rest) mem) of)
 
-  pub store_top : (mem now : Memory) (kind : Kind) (p : Spot) (v : Cell) (h : Frame) → slice_get own_code f.next ≡ Some (Store kind) → kind_in kind (slice_get f.stack 0) ≡ Some v →
-      spot_in (slice_get f.stack 1) ≡ Some p → IsSet here p.root p.cell v mem now f h →
+  pub store_top : (mem now : Memory) (kind : Kind) (p : Address) (v : Cell) (h : Frame) → slice_get own_code f.next ≡ Some (Store kind) → kind_in kind (slice_get f.stack 0) ≡ Some v →
+      address_in (slice_get f.stack 1) ≡ Some p → IsSet here p.root p.cell v mem now f h →
       HasTurnedTop image here false mem now f (record h { next = f.next + 1; stack = drop 2 f.stack })
   store_top mem now kind p v h is value place set =
       let next = walk image.shapes.items image.types.items (made_in image mem) f.procedure (here_at here f) f.cells own_code (drop (f.next + 1) own_code) in

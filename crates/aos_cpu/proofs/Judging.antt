@@ -15,7 +15,7 @@ use Rattle.aos_code.specs.Silent.{Keeps, Stack, is_of}
 use Rattle.aos_code.specs.Machine.{goes_on_with, goes_on_by, text_at}
 use Rattle.aos_store.specs.declared.frames.Frame.{Frame as KeptFrame}
 use Rattle.aos_store.specs.Store.{frame_in}
-use Rattle.aos_silent.specs.declared.act.Spot.{Spot}
+use Rattle.aos_silent.specs.declared.act.Address.{Address}
 use Rattle.aos_silent.specs.declared.act.Question.{Question as KeptQuestion}
 use Rattle.aos_silent.specs.declared.act.Question.TheVariants.{Reads as AsksRead, Stores as AsksStore, Copies as AsksCopy, PutsText as AsksPutText, ComparesTexts as AsksCompare, Calls as AsksCall, Ends as AsksEnd, Makes as AsksNew, Starts as AsksStart, Enters as AsksEnter, Leaves as AsksLeave, Awaits as AsksAwait, PutsInt as AsksInt, PutsChar as AsksChar, PutsString as AsksString, PutsNothing as AsksNothing, PutsLn as AsksLn}
 use Rattle.aos_silent.specs.Acts.{addr_in}
@@ -48,25 +48,25 @@ compared_on r None b z next e = absurd (cc e)
 
 -- what is judged of each question
 module _ (x : Rooted (List Cell)) (at : ℕ) (f : KeptFrame) (old : List KeptFrame) where
-  pub reads_none : (kind : Kind) (p : Spot) → load p.root p.cell x ≡ None → IsJudged x (AsksRead kind p) at f old old (Some (Traps 16))
+  pub reads_none : (kind : Kind) (p : Address) → load p.root p.cell x ≡ None → IsJudged x (AsksRead kind p) at f old old (Some (Traps 16))
   reads_none kind p e = (λ next. read_none kind (load p.root p.cell x) (λ v. next (at + 1) (frame_in f).keeps (v ∷ drop 1 (frame_in f).stack)) e, refl)
 
-  pub reads_other : (kind : Kind) (p : Spot) (v : Cell) → load p.root p.cell x ≡ Some v → is_of kind v ≡ false → IsJudged x (AsksRead kind p) at f old old (Some (Traps 16))
+  pub reads_other : (kind : Kind) (p : Address) (v : Cell) → load p.root p.cell x ≡ Some v → is_of kind v ≡ false → IsJudged x (AsksRead kind p) at f old old (Some (Traps 16))
   reads_other kind p v e other = (λ next. read_other kind (load p.root p.cell x) v (λ w. next (at + 1) (frame_in f).keeps (w ∷ drop 1 (frame_in f).stack)) e other, refl)
 
-  pub reads_on : (kind : Kind) (p : Spot) (v : Cell) (new : List KeptFrame) → load p.root p.cell x ≡ Some v → is_of kind v ≡ true → HasGoneOn f at 1 v old new → IsJudged x (AsksRead kind p) at f old new None
+  pub reads_on : (kind : Kind) (p : Address) (v : Cell) (new : List KeptFrame) → load p.root p.cell x ≡ Some v → is_of kind v ≡ true → HasGoneOn f at 1 v old new → IsJudged x (AsksRead kind p) at f old new None
   reads_on kind p v new e is gone = (v, 1, gone, λ next. read_on kind (load p.root p.cell x) v (λ w. next (at + 1) (frame_in f).keeps (w ∷ drop 1 (frame_in f).stack)) e is)
 
-  pub compares_none : (r : Relation) (a : Spot) (n : ℤ) (b : Spot) (m : ℤ) → ordered (text_at [] (addr_in a) (Num n) x) (text_at [] (addr_in b) (Num m) x) ≡ None → IsJudged x (AsksCompare r a n b m) at f old old (Some (Traps 16))
+  pub compares_none : (r : Relation) (a : Address) (n : ℤ) (b : Address) (m : ℤ) → ordered (text_at [] (addr_in a) (Num n) x) (text_at [] (addr_in b) (Num m) x) ≡ None → IsJudged x (AsksCompare r a n b m) at f old old (Some (Traps 16))
   compares_none r a n b m e =
       (λ next. compared_none r (text_at [] (addr_in a) (Num n) x) (text_at [] (addr_in b) (Num m) x) (λ v. next (at + 1) (frame_in f).keeps (v ∷ drop 4 (frame_in f).stack)) e, refl)
 
-  pub compares_on : (r : Relation) (a : Spot) (n : ℤ) (b : Spot) (m : ℤ) (z : ℤ) (new : List KeptFrame) → ordered (text_at [] (addr_in a) (Num n) x) (text_at [] (addr_in b) (Num m) x) ≡ Some z →
+  pub compares_on : (r : Relation) (a : Address) (n : ℤ) (b : Address) (m : ℤ) (z : ℤ) (new : List KeptFrame) → ordered (text_at [] (addr_in a) (Num n) x) (text_at [] (addr_in b) (Num m) x) ≡ Some z →
       HasGoneOn f at 4 (Num (flag (holds r z (pos 0)))) old new → IsJudged x (AsksCompare r a n b m) at f old new None
   compares_on r a n b m z new e gone =
       (Num (flag (holds r z (pos 0))), 4, gone, λ next. compared_on r (text_at [] (addr_in a) (Num n) x) (text_at [] (addr_in b) (Num m) x) z (λ v. next (at + 1) (frame_in f).keeps (v ∷ drop 4 (frame_in f).stack)) e)
 
-  pub asks_other : (q : KeptQuestion) → ((kind : Kind) (p : Spot) → q ≢ AsksRead kind p) → ((r : Relation) (a : Spot) (n : ℤ) (b : Spot) (m : ℤ) → q ≢ AsksCompare r a n b m) → IsJudged x q at f old old (Some Fails)
+  pub asks_other : (q : KeptQuestion) → ((kind : Kind) (p : Address) → q ≢ AsksRead kind p) → ((r : Relation) (a : Address) (n : ℤ) (b : Address) (m : ℤ) → q ≢ AsksCompare r a n b m) → IsJudged x q at f old old (Some Fails)
   asks_other (AsksRead kind p) not_read not_compare = absurd (not_read kind p refl)
   asks_other (AsksCompare r a n b m) not_read not_compare = absurd (not_compare r a n b m refl)
   asks_other (AsksStore p v) not_read not_compare = (λ next. refl, refl)

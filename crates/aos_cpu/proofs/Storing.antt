@@ -4,7 +4,7 @@ use Rattle.std.specs.Prelude.{Some, slice_get, Bool, true, nat_lt, is_some, ifâ—
 use Rattle.std.specs.Option.{option_map, option_and_then}
 use Rattle.std.proofs.lemmas.List.{length-take-le, take_more}
 use Rattle.std.proofs.lemmas.Bool.Decides.{leb_tells}
-use Rattle.aos_base.specs.declared.place.Root.{Root}
+use Rattle.aos_base.specs.declared.root.Root.{Root}
 use Rattle.aos_base.specs.Rooted.{at_root, load, spliced}
 use Rattle.aos_code.specs.declared.instr.Cell.{Cell}
 use Rattle.aos_code.specs.Memory.{Memory}

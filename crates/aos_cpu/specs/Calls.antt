@@ -1,6 +1,6 @@
 -- What the parameters of a call get, one after the other.
 use Rattle.std.specs.Prelude.{◌≡◌, ℕ, suc, ◌+◌, ◌^◌, pos, List, [], ◌∷◌, ◌++◌, length, map, take, drop, reverse, Bool, true, false, nat_lt, if◌then◌else◌, Option, Some, None, option_map, option_and_then}
-use Rattle.aos_base.specs.declared.place.Root.TheVariants.{Frame as FrameRoot}
+use Rattle.aos_base.specs.declared.root.Root.TheVariants.{Frame as FrameRoot}
 use Rattle.aos_base.specs.declared.kernel.Did.{Did}
 use Rattle.aos_base.specs.Rooted.{Rooted}
 use Rattle.aos_code.specs.declared.instr.Cell.{Cell}

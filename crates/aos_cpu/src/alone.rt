@@ -91,8 +91,8 @@ fn is_own(image: &Image, question: Question, operands: &[Cell]) -> bool
     ensures { result ≡ is_own_question image.now.shapes.items (question_in question (reverse operands.now)) }
 {
     match question {
-        Question::Reads(_, spot) => is_of_frame(spot.root),
-        Question::Stores(spot, _) => is_of_frame(spot.root),
+        Question::Reads(_, address) => is_of_frame(address.root),
+        Question::Stores(address, _) => is_of_frame(address.root),
         Question::Copies(_, from, to) => is_of_frame(from.root) && is_of_frame(to.root),
         Question::PutsText(_, from, _, to, _) => is_of_frame(from.root) && is_of_frame(to.root),
         Question::ComparesTexts(_, left, _, right, _) => is_of_frame(left.root)

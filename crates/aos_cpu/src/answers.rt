@@ -20,7 +20,7 @@ use crate::makes::make;
 use crate::texts::{compare_texts, put_string, put_text};
 use aos_base::{Did, LockName, NoMemory};
 use aos_code::{Cell, Image, Kind};
-use aos_silent::{Question, Spot, give, is_of, replace, take};
+use aos_silent::{Address, Question, give, is_of, replace, take};
 use aos_store::{Frame, Frames, Store, copy_at, load_at, store_at};
 use itoa::Buffer;
 use std::alloc::Global;
@@ -129,17 +129,17 @@ pub fn read(
     frames: &mut Frames,
     store: &Store,
     kind: Kind,
-    spot: Spot,
+    address: Address,
     at: usize,
 ) -> Result<Did, NoMemory>
     requires { at + 1 < 2 ^ 64 }
-    ensures ok { (out : List ℕ) → IfOk result (λ did. IsAnswered (Reads kind (addr_in spot)) at 1 frames.old frames.new (memory_in store.now) (memory_in store.now) did out out) }
+    ensures ok { (out : List ℕ) → IfOk result (λ did. IsAnswered (Reads kind (addr_in address)) at 1 frames.old frames.new (memory_in store.now) (memory_in store.now) did out out) }
     ensures left { (out : List ℕ) → IfOk result (λ did. WhereLeft did (Same frames.old frames.new (memory_in store.now) (memory_in store.now) out out)) }
     ensures err { (out : List ℕ) → OnErr result (Same frames.old frames.new (memory_in store.now) (memory_in store.now) out out) }
     ensures counts { SameCounts frames.old frames.new }
     ensures room { KeepsRoom frames.old frames.new }
 {
-    match load_at(frames, store, spot.root, spot.cell as usize) {
+    match load_at(frames, store, address.root, address.cell as usize) {
         None => Ok(Did::Trapped(16, 0)),
         Some(value) => {
             if !is_of(kind, value) {
@@ -179,14 +179,14 @@ pub fn put_ln(frames: &mut Frames, output: &mut Vec<u8>, at: usize) -> Result<Di
 }
 
 /// A value is stored.
-pub fn write(frames: &mut Frames, store: &mut Store, spot: Spot, value: Cell, at: usize) -> Did
+pub fn write(frames: &mut Frames, store: &mut Store, address: Address, value: Cell, at: usize) -> Did
     requires { at + 1 < 2 ^ 64 }
-    ensures answered { (out : List ℕ) → IsAnswered (Stores (addr_in spot) value) at 2 frames.old frames.new (memory_in store.old) (memory_in store.new) result out out }
+    ensures answered { (out : List ℕ) → IsAnswered (Stores (addr_in address) value) at 2 frames.old frames.new (memory_in store.old) (memory_in store.new) result out out }
     ensures left { (out : List ℕ) → WhereLeft result (Same frames.old frames.new (memory_in store.old) (memory_in store.new) out out) }
     ensures counts { SameCounts frames.old frames.new }
     ensures room { KeepsRoom frames.old frames.new }
 {
-    if !store_at(frames, store, spot.root, spot.cell as usize, value) {
+    if !store_at(frames, store, address.root, address.cell as usize, value) {
         return Did::Trapped(16, 0);
     }
     go_behind(frames, at, 2);
@@ -198,8 +198,8 @@ pub fn copy(
     frames: &mut Frames,
     store: &mut Store,
     count: u32,
-    from: Spot,
-    to: Spot,
+    from: Address,
+    to: Address,
     at: usize,
 ) -> Did
     requires { at + 1 < 2 ^ 64 }
@@ -331,8 +331,8 @@ pub fn answer(
     ensures room { AreRoomy image.now frames.old → AreRoomy image.now frames.new }
 {
     match question {
-        Question::Reads(kind, spot) => read(frames, store, kind, spot, at),
-        Question::Stores(spot, value) => Ok(write(frames, store, spot, value, at)),
+        Question::Reads(kind, address) => read(frames, store, kind, address, at),
+        Question::Stores(address, value) => Ok(write(frames, store, address, value, at)),
         Question::Copies(count, from, to) => Ok(copy(frames, store, count, from, to, at)),
         Question::PutsText(strict, from, len, to, room) => {
             put_text(alloc, frames, store, strict, from, len, to, room, at)
@@ -353,7 +353,7 @@ pub fn answer(
         Question::Awaits(condition) => Ok(Did::Await(top_lock(image, frames), condition)),
         Question::PutsInt(value, places) => put_int(frames, output, value, places, at),
         Question::PutsChar(code) => put_char(frames, output, code, at),
-        Question::PutsString(spot, len) => put_string(frames, store, output, spot, len, at),
+        Question::PutsString(address, len) => put_string(frames, store, output, address, len, at),
         Question::PutsNothing => Ok(put_nothing(frames, at)),
         Question::PutsLn => put_ln(frames, output, at),
     }

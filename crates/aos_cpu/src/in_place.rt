@@ -22,10 +22,10 @@ use aos_code::{Cell, Image, Instr, Kind};
 use aos_silent::act::Act;
 use aos_silent::instruction::do_one;
 use aos_silent::objects::tell_cell;
-use aos_silent::operands::{is_of, numbers, of_kind, spot};
+use aos_silent::operands::{address, is_of, numbers, of_kind};
 use aos_silent::step::give_value;
 use aos_silent::values::{jump, jump_on_false};
-use aos_silent::{Question, Spot, code_of, keeps_of, replace, take};
+use aos_silent::{Address, Question, code_of, keeps_of, replace, take};
 use aos_store::{Change, Frame, Frames, Store};
 
 /// What an instruction has done to the topmost frame: silent work; a turn, in which no statement has begun, or one has; or nothing,
@@ -90,7 +90,7 @@ fn give_top(code: &[Instr], at: usize, frame: &mut Frame, value: Cell) -> Done
 }
 
 /// What the cell at a place holds that isn't in a frame below, where so many are.
-fn load_near(frame: &Frame, store: &Store, here: u32, at: Spot) -> Option<Cell>
+fn load_near(frame: &Frame, store: &Store, here: u32, at: Address) -> Option<Cell>
     ensures { IfSome result (λ v. (rest : List FrameOf) → length rest ≡ here → load at.root at.cell (rooted (frame_in frame.now ∷ rest) (memory_in store.now)) ≡ Some v) }
 {
     match at.root {
@@ -107,7 +107,7 @@ fn load_near(frame: &Frame, store: &Store, here: u32, at: Spot) -> Option<Cell>
 }
 
 /// Sets the cell at a place that isn't in a frame below, where there is such a cell, and says whether there is.
-fn store_near(frame: &mut Frame, store: &mut Store, here: u32, at: Spot, value: Cell) -> bool
+fn store_near(frame: &mut Frame, store: &mut Store, here: u32, at: Address, value: Cell) -> bool
     ensures set { HasSet here result at.root at.cell value (memory_in store.old) (memory_in store.new) (frame_in frame.old) (frame_in frame.new) }
     ensures room { HasMoreRoom frame.old frame.new }
 {
@@ -132,7 +132,7 @@ fn load_top(at: usize, kind: Kind, here: u32, frame: &mut Frame, store: &Store) 
     ensures ahead { IsAhead result at frame.new.next }
     ensures room { HasMoreRoom frame.old frame.new }
 {
-    let Some(place) = spot(&frame.operands, 0) else {
+    let Some(place) = address(&frame.operands, 0) else {
         return Done::Nothing;
     };
     let Some(value) = load_near(frame, store, here, place) else {
@@ -157,7 +157,7 @@ fn store_top(at: usize, kind: Kind, here: u32, frame: &mut Frame, store: &mut St
     let Some(value) = of_kind(&frame.operands, 0, kind) else {
         return Done::Nothing;
     };
-    let Some(place) = spot(&frame.operands, 1) else {
+    let Some(place) = address(&frame.operands, 1) else {
         return Done::Nothing;
     };
     if !store_near(frame, store, here, place, value) {

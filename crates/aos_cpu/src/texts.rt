@@ -14,7 +14,7 @@ ghost use Rattle.aos_cpu.specs.Turns.{Same, WhereLeft};
 use crate::answers::{go_behind, put_behind};
 use aos_base::{Did, NoMemory, Relation, Root, related, truth};
 use aos_code::Cell;
-use aos_silent::Spot;
+use aos_silent::Address;
 use aos_store::{Frames, Object, Store, len_at, store_at};
 use std::alloc::Global;
 
@@ -89,16 +89,16 @@ pub fn front(cells: &[Cell], from: usize, count: usize) -> Option<&[Cell]>
 pub fn array_at<'a>(
     frames: &'a Frames,
     store: &'a Store,
-    spot: Spot,
+    address: Address,
     number: i64,
 ) -> Option<&'a [Cell]>
-    ensures { option_copied result ≡ option_and_then (λ m. cells_of_place m (addr_in spot) (rooted_in frames.now store.now)) (length_in [] (Num number)) }
+    ensures { option_copied result ≡ option_and_then (λ m. cells_of_place m (addr_in address) (rooted_in frames.now store.now)) (length_in [] (Num number)) }
 {
     match length_of(number) {
         None => None,
-        Some(count) => match cells_below(frames, store, spot.root) {
+        Some(count) => match cells_below(frames, store, address.root) {
             None => None,
-            Some(cells) => front(cells, spot.cell as usize, count),
+            Some(cells) => front(cells, address.cell as usize, count),
         },
     }
 }
@@ -155,15 +155,15 @@ fn add_text(cells: &[Cell], bytes: &mut Vec<u8>) -> Result<bool, NoMemory>
 fn add_text_at(
     frames: &Frames,
     store: &Store,
-    spot: Spot,
+    address: Address,
     number: i64,
     bytes: &mut Vec<u8>,
 ) -> Result<bool, NoMemory>
-    ensures text { IfOk result (λ there. there ≡ is_some (text_at [] (addr_in spot) (Num number) (rooted_in frames.now store.now))) }
-    ensures bytes { IfOk result (λ _. bytes.new.items ≡ bytes.old.items ++ unwrap_or (text_at [] (addr_in spot) (Num number) (rooted_in frames.now store.now)) []) }
+    ensures text { IfOk result (λ there. there ≡ is_some (text_at [] (addr_in address) (Num number) (rooted_in frames.now store.now))) }
+    ensures bytes { IfOk result (λ _. bytes.new.items ≡ bytes.old.items ++ unwrap_or (text_at [] (addr_in address) (Num number) (rooted_in frames.now store.now)) []) }
     ensures err { OnErr result (bytes.new.items ≡ bytes.old.items) }
 {
-    match array_at(frames, store, spot, number) {
+    match array_at(frames, store, address, number) {
         None => Ok(false),
         Some(cells) => add_text(cells, bytes),
     }
@@ -174,18 +174,18 @@ pub fn put_string(
     frames: &mut Frames,
     store: &Store,
     output: &mut Vec<u8>,
-    spot: Spot,
+    address: Address,
     number: i64,
     at: usize,
 ) -> Result<Did, NoMemory>
     requires { at + 1 < 2 ^ 64 }
-    ensures ok { IfOk result (λ did. IsAnswered (PutsString (addr_in spot) (Num number)) at 2 frames.old frames.new (memory_in store.now) (memory_in store.now) did output.old.items output.new.items) }
+    ensures ok { IfOk result (λ did. IsAnswered (PutsString (addr_in address) (Num number)) at 2 frames.old frames.new (memory_in store.now) (memory_in store.now) did output.old.items output.new.items) }
     ensures left { IfOk result (λ did. WhereLeft did (Same frames.old frames.new (memory_in store.now) (memory_in store.now) output.old.items output.new.items)) }
     ensures err { OnErr result (Same frames.old frames.new (memory_in store.now) (memory_in store.now) output.old.items output.new.items) }
     ensures counts { SameCounts frames.old frames.new }
     ensures room { KeepsRoom frames.old frames.new }
 {
-    if !add_text_at(frames, store, spot, number, output)? {
+    if !add_text_at(frames, store, address, number, output)? {
         return Ok(Did::Trapped(16, 0));
     }
     go_behind(frames, at, 2);
@@ -267,7 +267,7 @@ fn compare_arrays(first: &[Cell], second: &[Cell]) -> Option<i64>
 }
 
 /// How the texts at two places compare, where there are both.
-pub fn compare_at(frames: &Frames, store: &Store, a: Spot, n: i64, b: Spot, m: i64) -> Option<i64>
+pub fn compare_at(frames: &Frames, store: &Store, a: Address, n: i64, b: Address, m: i64) -> Option<i64>
     ensures { result ≡ ordered (text_at [] (addr_in a) (Num n) (rooted_in frames.now store.now)) (text_at [] (addr_in b) (Num m) (rooted_in frames.now store.now)) }
 {
     match array_at(frames, store, a, n) {
@@ -284,9 +284,9 @@ pub fn compare_texts(
     frames: &mut Frames,
     store: &Store,
     relation: Relation,
-    a: Spot,
+    a: Address,
     n: i64,
-    b: Spot,
+    b: Address,
     m: i64,
     at: usize,
 ) -> Result<Did, NoMemory>
@@ -340,20 +340,20 @@ fn store_characters(frames: &mut Frames, store: &mut Store, root: Root, cell: u3
 }
 
 /// Characters are stored at a place, where there are so many cells, and this is told.
-fn store_text(frames: &mut Frames, store: &mut Store, spot: Spot, bytes: &[u8]) -> bool
-    ensures there { result ≡ has_all (length bytes.now) spot.cell (at_root spot.root (rooted_in frames.old store.old)) }
-    ensures frames { frames_in frames.new ≡ (if result then with_frames spot.root (spliced spot.cell (character_cells [] bytes.now)) frames.old else frames_in frames.old) }
+fn store_text(frames: &mut Frames, store: &mut Store, address: Address, bytes: &[u8]) -> bool
+    ensures there { result ≡ has_all (length bytes.now) address.cell (at_root address.root (rooted_in frames.old store.old)) }
+    ensures frames { frames_in frames.new ≡ (if result then with_frames address.root (spliced address.cell (character_cells [] bytes.now)) frames.old else frames_in frames.old) }
     ensures counts { SameCounts frames.old frames.new }
     ensures room { KeepsRoom frames.old frames.new }
-    ensures memory { memory_in store.new ≡ (if result then memory_with spot.root (spliced spot.cell (character_cells [] bytes.now)) (memory_in store.old) else memory_in store.old) }
+    ensures memory { memory_in store.new ≡ (if result then memory_with address.root (spliced address.cell (character_cells [] bytes.now)) (memory_in store.old) else memory_in store.old) }
 {
-    match len_at(frames, store, spot.root) {
+    match len_at(frames, store, address.root) {
         None => false,
         Some(len) => {
-            if len.saturating_sub(spot.cell as usize) < bytes.len() {
+            if len.saturating_sub(address.cell as usize) < bytes.len() {
                 return false;
             }
-            store_characters(frames, store, spot.root, spot.cell, bytes);
+            store_characters(frames, store, address.root, address.cell, bytes);
             true
         }
     }
@@ -365,7 +365,7 @@ fn read_fitted(
     store: &Store,
     bytes: &mut Vec<u8>,
     strict: bool,
-    from: Spot,
+    from: Address,
     number: i64,
     room: i64,
 ) -> Result<u8, NoMemory>
@@ -393,9 +393,9 @@ pub fn put_text(
     frames: &mut Frames,
     store: &mut Store,
     strict: bool,
-    from: Spot,
+    from: Address,
     number: i64,
-    to: Spot,
+    to: Address,
     room: i64,
     at: usize,
 ) -> Result<Did, NoMemory>

@@ -15,7 +15,7 @@ use Rattle.aos_symbols.specs.declared.env.Lookup.TheVariants.{Unknown as NoName,
 use Rattle.aos_symbols.specs.declared.env.Env.{Env}
 use Rattle.aos_symbols.specs.Judged.{Judged, kept, bind}
 use Rattle.aos_symbols.specs.Env as env
-use Rattle.aos_known.specs.Known.{Spot, is, object_number, read_from}
+use Rattle.aos_known.specs.Known.{Entity, is, object_number, read_from}
 use Rattle.aos_designators.specs.declared.designators.Head.{Head}
 use Rattle.aos_designators.specs.declared.methods.Heading.{Heading}
 use Rattle.aos_designators.specs.declared.methods.Heading.TheVariants as heading
@@ -31,10 +31,10 @@ pub record Bound : Type 0 where
 -- what a designator is so far: a name, which a bracket may call, a variable or a value, or what waits for its bracket
 pub data Part : Type 0 where
   Begun : Head → Part
-  Meant : Spot → Part
+  Meant : Entity → Part
   Waits : Bound → Part
 
-abbrev pub as_part : Judged Spot → Judged Part
+abbrev pub as_part : Judged Entity → Judged Part
 as_part j = bind j (λ a. kept (Meant a))
 
 -- Methods. One is called on an object, of which a type is known, and dispatched by the object's own type.
@@ -90,7 +90,7 @@ abbrev pub upper_here : Env → Head → Option Bound
 upper_here e h = option_and_then (λ t. upper_of e h t) e.self_type
 
 abbrev pub raised_to : Option Bound → Pos → Pos → Judged Part
-raised_to None first p = as_part (desig.spotted first (desig.refused_variable 46 p))
+raised_to None first p = as_part (desig.denoted first (desig.refused_variable 46 p))
 raised_to (Some b) first p = kept (Waits b)
 
 abbrev pub raised : Env → Head → Pos → Judged Part
@@ -103,38 +103,38 @@ value_called (Dispatched x t k) = Some (MethodOf x t k)
 value_called (Upper t k) = None
 value_called (Through x t) = None
 
-abbrev pub unbound : Env → Bound → Judged Spot
+abbrev pub unbound : Env → Bound → Judged Entity
 unbound e b = by b.heading (value_called b.callee)
   where
-    by : Heading → Option Typed → Judged Spot
-    by (heading.Declared m k) (Some x) = desig.procedure_spot e m k x b.first b.first
-    by h x = desig.spotted b.first (desig.refused_value 36 b.first)
+    by : Heading → Option Typed → Judged Entity
+    by (heading.Declared m k) (Some x) = desig.procedure_entity e m k x b.first b.first
+    by h x = desig.denoted b.first (desig.refused_value 36 b.first)
 
 -- as a variable or a value
-abbrev pub named_or_bound : Env → Head → Option Bound → Judged Spot
+abbrev pub named_or_bound : Env → Head → Option Bound → Judged Entity
 named_or_bound e h None = desig.named e h
 named_or_bound e h (Some b) = unbound e b
 
-abbrev pub spot_of_part : Env → Part → Judged Spot
-spot_of_part e (Begun h) = named_or_bound e h (own_method e h)
-spot_of_part e (Meant a) = kept a
-spot_of_part e (Waits b) = unbound e b
+abbrev pub entity_of_part : Env → Part → Judged Entity
+entity_of_part e (Begun h) = named_or_bound e h (own_method e h)
+entity_of_part e (Meant a) = kept a
+entity_of_part e (Waits b) = unbound e b
 
 -- the same, before a selector at a place, which procedures haven't
-abbrev pub selected_name : Env → Pos → Head → Judged Spot
-selected_name e p h = if is_callable h.found then desig.spotted h.first (desig.refused_variable 42 p) else desig.named e h
+abbrev pub selected_name : Env → Pos → Head → Judged Entity
+selected_name e p h = if is_callable h.found then desig.denoted h.first (desig.refused_variable 42 p) else desig.named e h
 
-abbrev pub selected : Env → Pos → Part → Judged Spot
+abbrev pub selected : Env → Pos → Part → Judged Entity
 selected e p (Begun h) = selected_name e p h
 selected e p (Meant a) = kept a
-selected e p (Waits b) = desig.spotted b.first (desig.refused_variable 42 p)
+selected e p (Waits b) = desig.denoted b.first (desig.refused_variable 42 p)
 
 -- a point behind a variable or a value, in a designator that begins here: a method of an object, or a field
-abbrev pub method_found : (first : Pos) → Spot → Name → TypeId → Method → Judged Part
+abbrev pub method_found : (first : Pos) → Entity → Name → TypeId → Method → Judged Part
 method_found first a n t m =
     if m.is_own || is_some m.mark
     then kept (Waits (dispatched first (read_from a.known.of a.held) t m))
-    else as_part (desig.spotted n.pos (desig.refused_variable 15 n.pos))
+    else as_part (desig.denoted n.pos (desig.refused_variable 15 n.pos))
 
 abbrev pub method_in : Env → TypeId → Name → Option Method
 method_in e t n = if desig.is_object_type e t then env.method e t n else None
@@ -142,39 +142,39 @@ method_in e t n = if desig.is_object_type e t then env.method e t n else None
 abbrev pub method_of : Env → Option TypeId → Name → Option Method
 method_of e of n = option_and_then (λ t. method_in e t n) of
 
-abbrev pub pointed_as : Env → (first : Pos) → Spot → Pos → Name → Option TypeId → Option Method → Judged Part
+abbrev pub pointed_as : Env → (first : Pos) → Entity → Pos → Name → Option TypeId → Option Method → Judged Part
 pointed_as e first a p n (Some t) (Some m) = method_found first a n t m
 pointed_as e first a p n _ _ = as_part (desig.field e a p n)
 
-abbrev pub pointed_spot : Env → (first : Pos) → Spot → Pos → Name → Judged Part
-pointed_spot e first a p n = pointed_as e first a p n a.known.of (method_of e a.known.of n)
+abbrev pub pointed_entity : Env → (first : Pos) → Entity → Pos → Name → Judged Part
+pointed_entity e first a p n = pointed_as e first a p n a.known.of (method_of e a.known.of n)
 
 abbrev pub pointed_name : Env → (first : Pos) → Head → Pos → Name → Judged Part
-pointed_name e first h p n = bind (selected_name e p h) (λ a. pointed_spot e first a p n)
+pointed_name e first h p n = bind (selected_name e p h) (λ a. pointed_entity e first a p n)
 
 -- a point behind what there is so far: a name of a module, a field, or a method
 abbrev pub pointed : Env → (first : Pos) → Part → Pos → Name → Judged Part
 pointed e first (Begun h) p n =
     if desig.is_module h.found then kept (Begun (desig.member_behind e h n))
     else pointed_name e first h p n
-pointed e first (Meant a) p n = pointed_spot e first a p n
+pointed e first (Meant a) p n = pointed_entity e first a p n
 pointed e first (Waits b) p n = as_part (selected e p (Waits b))
 
 -- `^` behind it
-abbrev pub followed_spot : Env → Part → Pos → Judged Part
-followed_spot e a p = as_part (bind (selected e p a) (λ b. desig.followed e b p))
+abbrev pub followed_entity : Env → Part → Pos → Judged Part
+followed_entity e a p = as_part (bind (selected e p a) (λ b. desig.followed e b p))
 
 abbrev pub followed_part : Env → Part → Pos → Judged Part
-followed_part e (Begun h) p = if is_method h.found then raised e h p else followed_spot e (Begun h) p
-followed_part e (Meant a) p = followed_spot e (Meant a) p
-followed_part e (Waits b) p = followed_spot e (Waits b) p
+followed_part e (Begun h) p = if is_method h.found then raised e h p else followed_entity e (Begun h) p
+followed_part e (Meant a) p = followed_entity e (Meant a) p
+followed_part e (Waits b) p = followed_entity e (Waits b) p
 
 -- Before a bracket a plain name that stands for a method is that, and a value of a procedure type is what it stands for.
-abbrev pub through : (first : Pos) → Spot → TypeId → Bound
+abbrev pub through : (first : Pos) → Entity → TypeId → Bound
 through first a t =
     record { callee = Through (read_from a.known.of a.held) (object_number t); heading = heading.OfType t; first = first }
 
-abbrev pub bound_value : Env → (first : Pos) → Spot → Option Bound
+abbrev pub bound_value : Env → (first : Pos) → Entity → Option Bound
 bound_value e first a = by a.known.of
   where
     by : Option TypeId → Option Bound

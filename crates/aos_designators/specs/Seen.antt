@@ -1,6 +1,6 @@
 -- What the code's methods and parts of designators are seen as.
 use Rattle.aos_typed.specs.Seen.{seen_callee}
-use Rattle.aos_known.specs.Seen.{seen_spot}
+use Rattle.aos_known.specs.Seen.{seen_entity}
 use Rattle.aos_designators.specs.declared.methods.Bound.{Bound as CodeBound}
 use Rattle.aos_designators.specs.declared.methods.Part.{Part as CodePart}
 use Rattle.aos_designators.specs.declared.methods.Part.TheVariants as code_part
@@ -11,5 +11,5 @@ seen_bound b = record { callee = seen_callee b.callee; heading = b.heading; firs
 
 abbrev pub seen_part : CodePart → Part
 seen_part (code_part.Begun h) = Begun h
-seen_part (code_part.Meant a) = Meant (seen_spot a)
+seen_part (code_part.Meant a) = Meant (seen_entity a)
 seen_part (code_part.Waits b) = Waits (seen_bound b)

@@ -4,15 +4,15 @@ ghost use Rattle.std.specs.Prelude.{◌≡◌, OnOk, IfOk};
 ghost use Rattle.aos_typed.specs.Seen.{seen_expr};
 ghost use Rattle.aos_symbols.specs.Breaches.{breach_unless, first_after};
 ghost use Rattle.aos_known.specs.Known as known;
-ghost use Rattle.aos_known.specs.Seen.{seen_answer, seen_spot};
+ghost use Rattle.aos_known.specs.Seen.{seen_answer, seen_entity};
 ghost use Rattle.aos_designators.specs.Designators as judge;
 
-use crate::references::guarded_spot;
+use crate::references::guarded_entity;
 use crate::variables::{is_of_module, place_of_variable};
 use aos_base::Pos;
 use aos_known::{
-    Answer, Class, Held, Known, Spot, answered, constant_answer, is_built, known_as, nothing,
-    read_from, refused, refused_value, refused_variable, spot_of, unknown,
+    Answer, Class, Held, Known, Entity, answered, constant_answer, is_built, known_as, nothing,
+    read_from, refused, refused_value, refused_variable, entity_of, unknown,
 };
 use aos_made::Typed;
 use aos_symbols::{
@@ -148,10 +148,10 @@ fn variable(
     symbol: Symbol,
     number: u32,
     at: Pos,
-) -> Result<Spot, AllocError>
-    ensures { IfOk result (λ r. seen_spot r ≡ judge.variable env.now symbol number at) }
+) -> Result<Entity, AllocError>
+    ensures { IfOk result (λ r. seen_entity r ≡ judge.variable env.now symbol number at) }
 {
-    Ok(Spot {
+    Ok(Entity {
         known: Known {
             of: env.variable_type(symbol.at, number),
             class: access(symbol.at.home == env.number, symbol.mark),
@@ -162,22 +162,22 @@ fn variable(
 }
 
 /// A designator whose name stands at a place, and which breaks a rule here.
-pub fn refused_at(found: &mut Option<Breach>, rule: u16, at: Pos, here: Pos) -> Spot
+pub fn refused_at(found: &mut Option<Breach>, rule: u16, at: Pos, here: Pos) -> Entity
     ensures noted { found.new ≡
-        first_after found.old (judge.spotted at (judge.refused rule here)).breaches }
-    ensures answer { seen_spot result ≡ (judge.spotted at (judge.refused rule here)).answer }
+        first_after found.old (judge.denoted at (judge.refused rule here)).breaches }
+    ensures answer { seen_entity result ≡ (judge.denoted at (judge.refused rule here)).answer }
 {
-    spot_of(at, refused(found, rule, here))
+    entity_of(at, refused(found, rule, here))
 }
 
 /// The same of what is no constant.
-pub fn refused_variable_at(found: &mut Option<Breach>, rule: u16, at: Pos, here: Pos) -> Spot
+pub fn refused_variable_at(found: &mut Option<Breach>, rule: u16, at: Pos, here: Pos) -> Entity
     ensures noted { found.new ≡
-        first_after found.old (judge.spotted at (judge.refused_variable rule here)).breaches }
-    ensures answer { seen_spot result ≡
-        (judge.spotted at (judge.refused_variable rule here)).answer }
+        first_after found.old (judge.denoted at (judge.refused_variable rule here)).breaches }
+    ensures answer { seen_entity result ≡
+        (judge.denoted at (judge.refused_variable rule here)).answer }
 {
-    spot_of(at, refused_variable(found, rule, here))
+    entity_of(at, refused_variable(found, rule, here))
 }
 
 fn is_narrowed(symbol: Symbol, number: u32, variable: Narrowed) -> bool
@@ -194,14 +194,14 @@ fn narrowed_by(
     env: &Env<'_>,
     symbol: Symbol,
     number: u32,
-    whole: Spot,
+    whole: Entity,
     variable: Narrowed,
-) -> Result<Spot, AllocError>
-    ensures { IfOk result (λ r. seen_spot r ≡
-        judge.narrowed_by env.now symbol number (seen_spot whole) variable) }
+) -> Result<Entity, AllocError>
+    ensures { IfOk result (λ r. seen_entity r ≡
+        judge.narrowed_by env.now symbol number (seen_entity whole) variable) }
 {
     if is_narrowed(symbol, number, variable) {
-        guarded_spot(alloc, env, variable.of, whole)
+        guarded_entity(alloc, env, variable.of, whole)
     } else {
         Ok(whole)
     }
@@ -214,10 +214,10 @@ fn narrowed(
     env: &Env<'_>,
     symbol: Symbol,
     number: u32,
-    whole: Spot,
-) -> Result<Spot, AllocError>
-    ensures { IfOk result (λ r. seen_spot r ≡
-        judge.narrowed env.now symbol number (seen_spot whole)) }
+    whole: Entity,
+) -> Result<Entity, AllocError>
+    ensures { IfOk result (λ r. seen_entity r ≡
+        judge.narrowed env.now symbol number (seen_entity whole)) }
 {
     let mut guarded = whole;
     for variable in env.narrowed.as_slice() {
@@ -227,31 +227,31 @@ fn narrowed(
 }
 
 /// The same of what is some value.
-pub fn refused_value_at(found: &mut Option<Breach>, rule: u16, first: Pos, at: Pos) -> Spot
+pub fn refused_value_at(found: &mut Option<Breach>, rule: u16, first: Pos, at: Pos) -> Entity
     ensures noted { found.new ≡
-        first_after found.old (judge.spotted at (judge.refused_value rule first)).breaches }
-    ensures answer { seen_spot result ≡
-        (judge.spotted at (judge.refused_value rule first)).answer }
+        first_after found.old (judge.denoted at (judge.refused_value rule first)).breaches }
+    ensures answer { seen_entity result ≡
+        (judge.denoted at (judge.refused_value rule first)).answer }
 {
-    spot_of(at, refused_value(found, rule, first))
+    entity_of(at, refused_value(found, rule, first))
 }
 
 /// A variable, as the WITHs around it narrow it.
-pub fn variable_spot(
+pub fn variable_entity(
     alloc: Global,
     env: &Env<'_>,
     symbol: Symbol,
     number: u32,
     at: Pos,
-) -> Result<Spot, AllocError>
-    ensures { IfOk result (λ r. seen_spot r ≡ judge.variable_spot env.now symbol number at) }
+) -> Result<Entity, AllocError>
+    ensures { IfOk result (λ r. seen_entity r ≡ judge.variable_entity env.now symbol number at) }
 {
     let whole = variable(alloc, env, symbol, number, at)?;
     narrowed(alloc, env, symbol, number, whole)
 }
 
 /// A procedure as a value, whose signature has these numbers. Where its heading isn't met yet a constant is needed.
-pub fn procedure_spot(
+pub fn procedure_entity(
     found: &mut Option<Breach>,
     env: &Env<'_>,
     home: u32,
@@ -259,17 +259,17 @@ pub fn procedure_spot(
     value: Typed,
     first: Pos,
     at: Pos,
-) -> Result<Spot, AllocError>
+) -> Result<Entity, AllocError>
     ensures noted { OnOk result (found.new ≡ first_after found.old
-        (judge.procedure_spot env.now home number (seen_expr value) first at).breaches) }
-    ensures answer { IfOk result (λ r. seen_spot r ≡
-        (judge.procedure_spot env.now home number (seen_expr value) first at).answer) }
+        (judge.procedure_entity env.now home number (seen_expr value) first at).breaches) }
+    ensures answer { IfOk result (λ r. seen_entity r ≡
+        (judge.procedure_entity env.now home number (seen_expr value) first at).answer) }
 {
     if env.signature(home, number).is_none() {
         return Ok(refused_value_at(found, NOT_CONSTANT, first, at));
     }
     let of = env.procedure()?;
-    Ok(Spot {
+    Ok(Entity {
         known: known_as(Class::Procedure(home, number), Some(of)),
         held: Held::Value(value),
         at,
@@ -283,10 +283,10 @@ fn procedure_meant(
     symbol: Symbol,
     number: u32,
     head: Head,
-) -> Result<Spot, AllocError>
+) -> Result<Entity, AllocError>
     ensures noted { OnOk result (found.new ≡
         first_after found.old (judge.procedure_meant env.now symbol number head).breaches) }
-    ensures answer { IfOk result (λ r. seen_spot r ≡
+    ensures answer { IfOk result (λ r. seen_entity r ≡
         (judge.procedure_meant env.now symbol number head).answer) }
 {
     if !is_of_module(symbol) {
@@ -294,7 +294,7 @@ fn procedure_meant(
     }
     let home = symbol.at.home;
     let value = Typed::procedure(home, number);
-    procedure_spot(found, env, home, number, value, head.first, head.name.pos)
+    procedure_entity(found, env, home, number, value, head.first, head.name.pos)
 }
 
 /// What a name stands for that is no call.
@@ -305,18 +305,18 @@ fn meant(
     symbol: Symbol,
     means: Meaning,
     head: Head,
-) -> Result<Spot, AllocError>
+) -> Result<Entity, AllocError>
     ensures noted { OnOk result (found.new ≡
         first_after found.old (judge.meant env.now symbol means head).breaches) }
-    ensures answer { IfOk result (λ r. seen_spot r ≡ (judge.meant env.now symbol means head).answer) }
+    ensures answer { IfOk result (λ r. seen_entity r ≡ (judge.meant env.now symbol means head).answer) }
 {
     let at = head.name.pos;
     match means {
-        Meaning::Variable(number) => variable_spot(alloc, env, symbol, number, at),
+        Meaning::Variable(number) => variable_entity(alloc, env, symbol, number, at),
         Meaning::Procedure(number) => procedure_meant(found, env, symbol, number, head),
         Meaning::Constant(number) => {
             let value = env.constant(symbol.at, number, head.first);
-            Ok(spot_of(at, constant_of(found, value, at)))
+            Ok(entity_of(at, constant_of(found, value, at)))
         }
         Meaning::Itself => Ok(itself(found, env, at)),
         _ => Ok(meant_otherwise(found, means, head)),
@@ -324,12 +324,12 @@ fn meant(
 }
 
 /// SELF, which is a value in the methods and the body of an object type.
-fn itself(found: &mut Option<Breach>, env: &Env<'_>, at: Pos) -> Spot
+fn itself(found: &mut Option<Breach>, env: &Env<'_>, at: Pos) -> Entity
     ensures noted { found.new ≡ first_after found.old (judge.itself env.now at).breaches }
-    ensures answer { seen_spot result ≡ (judge.itself env.now at).answer }
+    ensures answer { seen_entity result ≡ (judge.itself env.now at).answer }
 {
     match env.self_type {
-        Some(of) => Spot {
+        Some(of) => Entity {
             known: known_as(Class::Computed, Some(of)),
             held: Held::Value(Typed::itself()),
             at,
@@ -339,14 +339,14 @@ fn itself(found: &mut Option<Breach>, env: &Env<'_>, at: Pos) -> Spot
 }
 
 /// What a name stands for that is neither a call nor a variable nor a constant of the text.
-fn meant_otherwise(found: &mut Option<Breach>, means: Meaning, head: Head) -> Spot
+fn meant_otherwise(found: &mut Option<Breach>, means: Meaning, head: Head) -> Entity
     ensures noted { found.new ≡
         first_after found.old (judge.meant_otherwise means head).breaches }
-    ensures answer { seen_spot result ≡ (judge.meant_otherwise means head).answer }
+    ensures answer { seen_entity result ≡ (judge.meant_otherwise means head).answer }
 {
     let at = head.name.pos;
     match means {
-        Meaning::Truth(value) => spot_of(at, constant_answer(Literal::Bool(value))),
+        Meaning::Truth(value) => entity_of(at, constant_answer(Literal::Bool(value))),
         Meaning::Type(_) => refused_at(found, OTHER_KIND, at, at),
         Meaning::Module(_) => refused_at(found, OTHER_KIND, at, at),
         Meaning::Out => refused_at(found, OTHER_KIND, at, at),
@@ -363,10 +363,10 @@ pub fn named(
     found: &mut Option<Breach>,
     env: &Env<'_>,
     head: Head,
-) -> Result<Spot, AllocError>
+) -> Result<Entity, AllocError>
     ensures noted { OnOk result (found.new ≡
         first_after found.old (judge.named env.now head).breaches) }
-    ensures answer { IfOk result (λ r. seen_spot r ≡ (judge.named env.now head).answer) }
+    ensures answer { IfOk result (λ r. seen_entity r ≡ (judge.named env.now head).answer) }
 {
     match head.found {
         Lookup::Unknown => Ok(refused_at(found, UNKNOWN, head.name.pos, head.name.pos)),
@@ -387,15 +387,15 @@ fn refuse_others(found: &mut Option<Breach>, env: &Env<'_>, of: Option<TypeId>, 
 }
 
 /// The value of a designator; a variable of a type that isn't built yet can't be read.
-pub fn read(found: &mut Option<Breach>, env: &Env<'_>, spot: Spot) -> Answer
+pub fn read(found: &mut Option<Breach>, env: &Env<'_>, entity: Entity) -> Answer
     ensures noted { found.new ≡
-        first_after found.old (judge.read env.now (seen_spot spot)).breaches }
-    ensures answer { seen_answer result ≡ (judge.read env.now (seen_spot spot)).answer }
+        first_after found.old (judge.read env.now (seen_entity entity)).breaches }
+    ensures answer { seen_answer result ≡ (judge.read env.now (seen_entity entity)).answer }
 {
-    refuse_others(found, env, spot.known.of, spot.at);
+    refuse_others(found, env, entity.known.of, entity.at);
     Answer {
-        known: spot.known,
-        typed: read_from(spot.known.of, spot.held),
+        known: entity.known,
+        typed: read_from(entity.known.of, entity.held),
     }
 }
 
@@ -415,10 +415,10 @@ pub fn refuse_written(found: &mut Option<Breach>, class: Class, first: Pos)
 
 /// A designator that is assigned, which begins here: it must be a variable that may be written, of a type that is built.
 #[tactic(auto, using(aos_symbols::proofs::Keeping::after_more))]
-pub fn refuse_assigned(found: &mut Option<Breach>, env: &Env<'_>, first: Pos, spot: &Spot)
+pub fn refuse_assigned(found: &mut Option<Breach>, env: &Env<'_>, first: Pos, entity: &Entity)
     ensures { found.new ≡
-        first_after found.old (judge.assigned env.now first (seen_spot spot.now)).breaches }
+        first_after found.old (judge.assigned env.now first (seen_entity entity.now)).breaches }
 {
-    refuse_written(found, spot.known.class, first);
-    refuse_others(found, env, spot.known.of, spot.at);
+    refuse_written(found, entity.known.class, first);
+    refuse_others(found, env, entity.known.of, entity.at);
 }

@@ -3,19 +3,19 @@
 ghost use Rattle.std.specs.Prelude.{◌≡◌, OnOk, IfOk, option_and_then, option_map};
 ghost use Rattle.aos_typed.specs.Seen.{seen_callee, seen_expr};
 ghost use Rattle.aos_symbols.specs.Breaches.{first_after};
-ghost use Rattle.aos_known.specs.Seen.{seen_spot};
+ghost use Rattle.aos_known.specs.Seen.{seen_entity};
 ghost use Rattle.aos_designators.specs.Designators as designators;
 ghost use Rattle.aos_designators.specs.Methods as judge;
 ghost use Rattle.aos_designators.specs.Seen.{seen_bound, seen_part};
 
 use crate::designators::{
-    Head, is_module, member_behind, named, procedure_spot, refused_value_at, refused_variable_at,
-    variable_spot,
+    Head, is_module, member_behind, named, procedure_entity, refused_value_at, refused_variable_at,
+    variable_entity,
 };
 use crate::selectors::{field, followed};
 use crate::variables::is_of_module;
 use aos_base::Pos;
-use aos_known::{Spot, is_object_type, is_procedural, object_number, read_from};
+use aos_known::{Entity, is_object_type, is_procedural, object_number, read_from};
 use aos_made::{MadeCallee, Typed};
 use aos_symbols::{
     Breach, Env, Lookup, Meaning, Method, NOT_EXPORTED, WRONG_CALL, WRONG_SELECTOR, WRONG_SELF,
@@ -46,7 +46,7 @@ pub struct Bound {
 #[derive(Drop)]
 pub enum Part {
     Begun(Head),
-    Meant(Spot),
+    Meant(Entity),
     Waits(Bound),
 }
 
@@ -124,8 +124,8 @@ fn own_method(alloc: Global, env: &Env<'_>, head: Head) -> Result<Option<Bound>,
 }
 
 /// What a value of a procedure type stands for, in a designator that begins here.
-fn through(alloc: Global, first: Pos, value: Spot, of: TypeId) -> Result<Bound, AllocError>
-    ensures { IfOk result (λ r. seen_bound r ≡ judge.through first (seen_spot value) of) }
+fn through(alloc: Global, first: Pos, value: Entity, of: TypeId) -> Result<Bound, AllocError>
+    ensures { IfOk result (λ r. seen_bound r ≡ judge.through first (seen_entity value) of) }
 {
     let value = read_from(value.known.of, value.held);
     Ok(Bound {
@@ -136,10 +136,10 @@ fn through(alloc: Global, first: Pos, value: Spot, of: TypeId) -> Result<Bound, 
 }
 
 /// A variable or a value before a bracket: one of a procedure type is what it stands for.
-fn bound_spot(alloc: Global, env: &Env<'_>, first: Pos, value: Spot) -> Result<Part, AllocError>
+fn bound_entity(alloc: Global, env: &Env<'_>, first: Pos, value: Entity) -> Result<Part, AllocError>
     ensures { IfOk result (λ r. seen_part r ≡
-        judge.bound_or (judge.Meant (seen_spot value))
-        (judge.bound_value env.now first (seen_spot value))) }
+        judge.bound_or (judge.Meant (seen_entity value))
+        (judge.bound_value env.now first (seen_entity value))) }
 {
     match value.known.of {
         Some(of) if is_procedural(env, of) => {
@@ -161,7 +161,7 @@ fn variable_bound(alloc: Global, env: &Env<'_>, head: Head) -> Result<Option<Bou
     let Meaning::Variable(number) = symbol.means else {
         return Ok(None);
     };
-    let value = variable_spot(alloc, env, symbol, number, head.name.pos)?;
+    let value = variable_entity(alloc, env, symbol, number, head.name.pos)?;
     match value.known.of {
         Some(of) if is_procedural(env, of) => { Ok(Some(through(alloc, head.first, value, of)?)) },
         _ => Ok(None),
@@ -188,7 +188,7 @@ pub fn bound_part(alloc: Global, env: &Env<'_>, first: Pos, part: Part) -> Resul
             Some(bound) => Ok(Part::Waits(bound)),
             None => Ok(Part::Begun(head)),
         },
-        Part::Meant(value) => bound_spot(alloc, env, first, value),
+        Part::Meant(value) => bound_entity(alloc, env, first, value),
         Part::Waits(bound) => Ok(Part::Waits(bound)),
     }
 }
@@ -269,32 +269,32 @@ fn unbound(
     found: &mut Option<Breach>,
     env: &Env<'_>,
     bound: Bound,
-) -> Result<Spot, AllocError>
+) -> Result<Entity, AllocError>
     ensures noted { OnOk result (found.new ≡ first_after found.old
         (judge.unbound env.now (seen_bound bound)).breaches) }
-    ensures answer { IfOk result (λ r. seen_spot r ≡
+    ensures answer { IfOk result (λ r. seen_entity r ≡
         (judge.unbound env.now (seen_bound bound)).answer) }
 {
     let first = bound.first;
     match (bound.heading, value_called(alloc, bound.callee.take())?) {
         (Heading::Declared(home, number), Some(value)) => {
-            procedure_spot(found, env, home, number, value, first, first)
+            procedure_entity(found, env, home, number, value, first, first)
         },
         _ => Ok(refused_value_at(found, WRONG_CALL, first, first)),
     }
 }
 
 /// What a name is, as a variable or a value: that of a method is a procedure.
-fn named_spot(
+fn named_entity(
     alloc: Global,
     found: &mut Option<Breach>,
     env: &Env<'_>,
     head: Head,
-) -> Result<Spot, AllocError>
+) -> Result<Entity, AllocError>
     ensures noted { OnOk result (found.new ≡ first_after found.old
-        (judge.spot_of_part env.now (judge.Begun head)).breaches) }
-    ensures answer { IfOk result (λ r. seen_spot r ≡
-        (judge.spot_of_part env.now (judge.Begun head)).answer) }
+        (judge.entity_of_part env.now (judge.Begun head)).breaches) }
+    ensures answer { IfOk result (λ r. seen_entity r ≡
+        (judge.entity_of_part env.now (judge.Begun head)).answer) }
 {
     match own_method(alloc, env, head)? {
         Some(bound) => unbound(alloc, found, env, bound),
@@ -303,20 +303,20 @@ fn named_spot(
 }
 
 /// What a designator is, as a variable or a value: a method that isn't called is a procedure as a value.
-pub fn spot_of_part(
+pub fn entity_of_part(
     alloc: Global,
     found: &mut Option<Breach>,
     env: &Env<'_>,
     part: Part,
-) -> Result<Spot, AllocError>
+) -> Result<Entity, AllocError>
     ensures noted { OnOk result (found.new ≡ first_after found.old
-        (judge.spot_of_part env.now (seen_part part)).breaches) }
-    ensures answer { IfOk result (λ r. seen_spot r ≡
-        (judge.spot_of_part env.now (seen_part part)).answer) }
+        (judge.entity_of_part env.now (seen_part part)).breaches) }
+    ensures answer { IfOk result (λ r. seen_entity r ≡
+        (judge.entity_of_part env.now (seen_part part)).answer) }
 {
     match part {
-        Part::Begun(head) => named_spot(alloc, found, env, head),
-        Part::Meant(spot) => Ok(spot),
+        Part::Begun(head) => named_entity(alloc, found, env, head),
+        Part::Meant(entity) => Ok(entity),
         Part::Waits(bound) => unbound(alloc, found, env, bound),
     }
 }
@@ -328,10 +328,10 @@ fn selected_name(
     env: &Env<'_>,
     at: Pos,
     head: Head,
-) -> Result<Spot, AllocError>
+) -> Result<Entity, AllocError>
     ensures noted { OnOk result (found.new ≡ first_after found.old
         (judge.selected_name env.now at head).breaches) }
-    ensures answer { IfOk result (λ r. seen_spot r ≡
+    ensures answer { IfOk result (λ r. seen_entity r ≡
         (judge.selected_name env.now at head).answer) }
 {
     if is_callable(head.found) {
@@ -348,15 +348,15 @@ pub fn selected(
     env: &Env<'_>,
     at: Pos,
     part: Part,
-) -> Result<Spot, AllocError>
+) -> Result<Entity, AllocError>
     ensures noted { OnOk result (found.new ≡ first_after found.old
         (judge.selected env.now at (seen_part part)).breaches) }
-    ensures answer { IfOk result (λ r. seen_spot r ≡
+    ensures answer { IfOk result (λ r. seen_entity r ≡
         (judge.selected env.now at (seen_part part)).answer) }
 {
     match part {
         Part::Begun(head) => selected_name(alloc, found, env, at, head),
-        Part::Meant(spot) => Ok(spot),
+        Part::Meant(entity) => Ok(entity),
         Part::Waits(bound) => Ok(refused_variable_at(found, WRONG_SELECTOR, bound.first, at)),
     }
 }
@@ -366,15 +366,15 @@ fn found_method(
     alloc: Global,
     found: &mut Option<Breach>,
     first: Pos,
-    whole: Spot,
+    whole: Entity,
     name: Name,
     of: TypeId,
     method: Method,
 ) -> Result<Part, AllocError>
     ensures noted { OnOk result (found.new ≡ first_after found.old
-        (judge.method_found first (seen_spot whole) name of method).breaches) }
+        (judge.method_found first (seen_entity whole) name of method).breaches) }
     ensures answer { IfOk result (λ r. seen_part r ≡
-        (judge.method_found first (seen_spot whole) name of method).answer) }
+        (judge.method_found first (seen_entity whole) name of method).answer) }
 {
     if method.is_own || method.mark.is_some() {
         let object = read_from(whole.known.of, whole.held);
@@ -406,19 +406,19 @@ fn method_of(env: &Env<'_>, of: Option<TypeId>, name: Name) -> Result<Option<Met
 }
 
 /// A method or a field of a variable or a value, behind a point that stands here.
-fn pointed_spot(
+fn pointed_entity(
     alloc: Global,
     found: &mut Option<Breach>,
     env: &Env<'_>,
     first: Pos,
-    whole: Spot,
+    whole: Entity,
     at: Pos,
     name: Name,
 ) -> Result<Part, AllocError>
     ensures noted { OnOk result (found.new ≡ first_after found.old
-        (judge.pointed_spot env.now first (seen_spot whole) at name).breaches) }
+        (judge.pointed_entity env.now first (seen_entity whole) at name).breaches) }
     ensures answer { IfOk result (λ r. seen_part r ≡
-        (judge.pointed_spot env.now first (seen_spot whole) at name).answer) }
+        (judge.pointed_entity env.now first (seen_entity whole) at name).answer) }
 {
     let of = whole.known.of;
     match (of, method_of(env, of, name)?) {
@@ -444,7 +444,7 @@ fn pointed_name(
         (judge.pointed_name env.now first head at name).answer) }
 {
     let whole = selected_name(alloc, found, env, at, head)?;
-    pointed_spot(alloc, found, env, first, whole, at, name)
+    pointed_entity(alloc, found, env, first, whole, at, name)
 }
 
 /// A point behind what a designator is so far: a name of a module, a field, or a method.
@@ -470,7 +470,7 @@ pub fn pointed(
                 pointed_name(alloc, found, env, first, head, at, name)
             }
         },
-        Part::Meant(whole) => pointed_spot(alloc, found, env, first, whole, at, name),
+        Part::Meant(whole) => pointed_entity(alloc, found, env, first, whole, at, name),
         Part::Waits(bound) => {
             Ok(Part::Meant(refused_variable_at(found, WRONG_SELECTOR, bound.first, at)))
         },
@@ -479,7 +479,7 @@ pub fn pointed(
 
 /// `^`, which stands here, behind a variable or a value.
 #[tactic(auto, using(aos_symbols::proofs::Keeping::after_more))]
-fn followed_spot(
+fn followed_entity(
     alloc: Global,
     found: &mut Option<Breach>,
     env: &Env<'_>,
@@ -487,9 +487,9 @@ fn followed_spot(
     at: Pos,
 ) -> Result<Part, AllocError>
     ensures noted { OnOk result (found.new ≡ first_after found.old
-        (judge.followed_spot env.now (seen_part part) at).breaches) }
+        (judge.followed_entity env.now (seen_part part) at).breaches) }
     ensures answer { IfOk result (λ r. seen_part r ≡
-        (judge.followed_spot env.now (seen_part part) at).answer) }
+        (judge.followed_entity env.now (seen_part part) at).answer) }
 {
     let whole = selected(alloc, found, env, at, part)?;
     Ok(Part::Meant(followed(alloc, found, env, whole, at)?))
@@ -513,10 +513,10 @@ pub fn followed_part(
             if is_method(head.found) {
                 raised(found, env, head, at)
             } else {
-                followed_spot(alloc, found, env, Part::Begun(head), at)
+                followed_entity(alloc, found, env, Part::Begun(head), at)
             }
         },
-        Part::Meant(spot) => followed_spot(alloc, found, env, Part::Meant(spot), at),
-        Part::Waits(bound) => followed_spot(alloc, found, env, Part::Waits(bound), at),
+        Part::Meant(entity) => followed_entity(alloc, found, env, Part::Meant(entity), at),
+        Part::Waits(bound) => followed_entity(alloc, found, env, Part::Waits(bound), at),
     }
 }

@@ -5,13 +5,13 @@ ghost use Rattle.aos_typed.specs.Program.{Guarded};
 ghost use Rattle.aos_typed.specs.Seen.{seen_expr, seen_place};
 ghost use Rattle.aos_symbols.specs.Breaches.{first_after};
 ghost use Rattle.aos_known.specs.Known as known;
-ghost use Rattle.aos_known.specs.Seen.{seen_held, seen_spot};
+ghost use Rattle.aos_known.specs.Seen.{seen_held, seen_entity};
 ghost use Rattle.aos_designators.specs.Designators as judge;
 
 use crate::designators::{refused_at, refused_variable_at};
 use aos_base::Pos;
 use aos_known::{
-    Class, Held, Spot, holds_passed, is_opened, is_record_type, known_as, made_number, may_test,
+    Class, Held, Entity, holds_passed, is_opened, is_record_type, known_as, made_number, may_test,
     object_number, open_dimensions, read_from, target_of, type_as, value_class,
 };
 use aos_made::{MadePlace, MadeRows, Typed};
@@ -48,16 +48,16 @@ fn followed_place(
 }
 
 /// What a pointer leads to, which is a variable of this type.
-pub fn followed_spot(
+pub fn followed_entity(
     alloc: Global,
     env: &Env<'_>,
     of: TypeId,
-    pointer: Spot,
-) -> Result<Spot, AllocError>
-    ensures { IfOk result (λ r. seen_spot r ≡ judge.followed_spot env.now of (seen_spot pointer)) }
+    pointer: Entity,
+) -> Result<Entity, AllocError>
+    ensures { IfOk result (λ r. seen_entity r ≡ judge.followed_entity env.now of (seen_entity pointer)) }
 {
     let value = read_from(pointer.known.of, pointer.held);
-    Ok(Spot {
+    Ok(Entity {
         known: known_as(followed_class(pointer.known.class), Some(of)),
         held: Held::Stands(followed_place(alloc, env, of, value)?),
         at: pointer.at,
@@ -65,23 +65,23 @@ pub fn followed_spot(
 }
 
 /// A designator, or what it leads to, where it is a pointer.
-pub fn through(alloc: Global, env: &Env<'_>, whole: Spot) -> Result<Spot, AllocError>
-    ensures { IfOk result (λ r. seen_spot r ≡ judge.through env.now (seen_spot whole)) }
+pub fn through(alloc: Global, env: &Env<'_>, whole: Entity) -> Result<Entity, AllocError>
+    ensures { IfOk result (λ r. seen_entity r ≡ judge.through env.now (seen_entity whole)) }
 {
     let Some(of) = whole.known.of else {
         return Ok(whole);
     };
     match target_of(env, of) {
-        Some(to) => followed_spot(alloc, env, to, whole),
+        Some(to) => followed_entity(alloc, env, to, whole),
         None => Ok(whole),
     }
 }
 
 /// A part whose type isn't known.
-pub fn unknown_part(at: Pos, whole: Spot) -> Spot
-    ensures { seen_spot result ≡ judge.unknown_part at (seen_spot whole) }
+pub fn unknown_part(at: Pos, whole: Entity) -> Entity
+    ensures { seen_entity result ≡ judge.unknown_part at (seen_entity whole) }
 {
-    Spot {
+    Entity {
         known: known_as(whole.known.class, None),
         held: whole.held,
         at,
@@ -89,12 +89,12 @@ pub fn unknown_part(at: Pos, whole: Spot) -> Spot
 }
 
 /// An object that is guarded with a type; it is no variable.
-fn guarded_object(alloc: Global, env: &Env<'_>, t: TypeId, whole: Spot) -> Result<Spot, AllocError>
-    ensures { IfOk result (λ r. seen_spot r ≡ judge.guarded_object env.now t (seen_spot whole)) }
+fn guarded_object(alloc: Global, env: &Env<'_>, t: TypeId, whole: Entity) -> Result<Entity, AllocError>
+    ensures { IfOk result (λ r. seen_entity r ≡ judge.guarded_object env.now t (seen_entity whole)) }
 {
     let number = made_number(env, t)?;
     let object = read_from(whole.known.of, whole.held);
-    Ok(Spot {
+    Ok(Entity {
         known: known_as(value_class(whole.known.class), Some(t)),
         held: Held::Value(Typed::guard(alloc, object, number)?),
         at: whole.at,
@@ -115,10 +115,10 @@ fn guarded_held(alloc: Global, t: TypeId, whole: Held) -> Result<Held, AllocErro
 }
 
 /// A record that is guarded with a type.
-fn guarded_record(alloc: Global, t: TypeId, whole: Spot) -> Result<Spot, AllocError>
-    ensures { IfOk result (λ r. seen_spot r ≡ judge.guarded_record t (seen_spot whole)) }
+fn guarded_record(alloc: Global, t: TypeId, whole: Entity) -> Result<Entity, AllocError>
+    ensures { IfOk result (λ r. seen_entity r ≡ judge.guarded_record t (seen_entity whole)) }
 {
-    Ok(Spot {
+    Ok(Entity {
         known: known_as(whole.known.class, Some(t)),
         held: guarded_held(alloc, t, whole.held)?,
         at: whole.at,
@@ -126,13 +126,13 @@ fn guarded_record(alloc: Global, t: TypeId, whole: Spot) -> Result<Spot, AllocEr
 }
 
 /// A designator that is guarded with a type.
-pub fn guarded_spot(
+pub fn guarded_entity(
     alloc: Global,
     env: &Env<'_>,
     t: TypeId,
-    whole: Spot,
-) -> Result<Spot, AllocError>
-    ensures { IfOk result (λ r. seen_spot r ≡ judge.guarded_spot env.now t (seen_spot whole)) }
+    whole: Entity,
+) -> Result<Entity, AllocError>
+    ensures { IfOk result (λ r. seen_entity r ≡ judge.guarded_entity env.now t (seen_entity whole)) }
 {
     match whole.known.of {
         None => Ok(unknown_part(whole.at, whole)),
@@ -152,19 +152,19 @@ pub fn guard(
     found: &mut Option<Breach>,
     env: &Env<'_>,
     at: Pos,
-    whole: Spot,
+    whole: Entity,
     t: Option<TypeId>,
-) -> Result<Spot, AllocError>
+) -> Result<Entity, AllocError>
     ensures noted { OnOk result (found.new ≡ first_after found.old
-        (judge.guard env.now at (seen_spot whole) t).breaches) }
-    ensures answer { IfOk result (λ r. seen_spot r ≡
-        (judge.guard env.now at (seen_spot whole) t).answer) }
+        (judge.guard env.now at (seen_entity whole) t).breaches) }
+    ensures answer { IfOk result (λ r. seen_entity r ≡
+        (judge.guard env.now at (seen_entity whole) t).answer) }
 {
     if !may_test(env, holds_passed(&whole.held), whole.known.of, t) {
         return Ok(refused_variable_at(found, WRONG_TEST, whole.at, at));
     }
     match t {
-        Some(t) => guarded_spot(alloc, env, t, whole),
+        Some(t) => guarded_entity(alloc, env, t, whole),
         None => Ok(unknown_part(whole.at, whole)),
     }
 }
@@ -176,13 +176,13 @@ pub fn guarded(
     env: &Env<'_>,
     first: Pos,
     at: Pos,
-    whole: Spot,
+    whole: Entity,
     t: Option<Option<TypeId>>,
-) -> Result<Spot, AllocError>
+) -> Result<Entity, AllocError>
     ensures noted { OnOk result (found.new ≡ first_after found.old
-        (judge.guarded env.now first at (seen_spot whole) t).breaches) }
-    ensures answer { IfOk result (λ r. seen_spot r ≡
-        (judge.guarded env.now first at (seen_spot whole) t).answer) }
+        (judge.guarded env.now first at (seen_entity whole) t).breaches) }
+    ensures answer { IfOk result (λ r. seen_entity r ≡
+        (judge.guarded env.now first at (seen_entity whole) t).answer) }
 {
     if whole.known.of.is_none() {
         return Ok(unknown_part(whole.at, whole));

@@ -6,14 +6,14 @@ ghost use Rattle.aos_typed.specs.Program.{Field as FieldOf};
 ghost use Rattle.aos_typed.specs.Seen.{seen_expr};
 ghost use Rattle.aos_symbols.specs.Breaches.{first_after};
 ghost use Rattle.aos_known.specs.Known as known;
-ghost use Rattle.aos_known.specs.Seen.{seen_answer, seen_held, seen_spot};
+ghost use Rattle.aos_known.specs.Seen.{seen_answer, seen_held, seen_entity};
 ghost use Rattle.aos_designators.specs.Designators as judge;
 
 use crate::designators::refused_variable_at;
-use crate::references::{followed_class, followed_spot, through, unknown_part};
+use crate::references::{followed_class, followed_entity, through, unknown_part};
 use aos_base::Pos;
 use aos_known::{
-    Answer, Class, Held, Spot, is_basic, is_built, is_number, is_object_type, is_record_type,
+    Answer, Class, Held, Entity, is_basic, is_built, is_number, is_object_type, is_record_type,
     known_as, read_from, rows_of, target_of, type_as,
 };
 use aos_made::{MadePlace, MadeRows, Typed};
@@ -24,9 +24,9 @@ use aos_types::{TypeId, TypeRow};
 use std::alloc::{AllocError, Global};
 
 /// A selector that a type hasn't.
-pub fn lacking(found: &mut Option<Breach>, env: &Env<'_>, of: TypeId, at: Pos) -> Spot
+pub fn lacking(found: &mut Option<Breach>, env: &Env<'_>, of: TypeId, at: Pos) -> Entity
     ensures noted { found.new ≡ first_after found.old (judge.lacking env.now of at).breaches }
-    ensures answer { seen_spot result ≡ (judge.lacking env.now of at).answer }
+    ensures answer { seen_entity result ≡ (judge.lacking env.now of at).answer }
 {
     if is_built(env, of) {
         refused_variable_at(found, WRONG_SELECTOR, at, at)
@@ -77,14 +77,14 @@ fn object_field(
     of: TypeId,
     field: Field,
     at: Pos,
-    whole: Spot,
-) -> Result<Spot, AllocError>
-    ensures { IfOk result (λ r. seen_spot r ≡ judge.object_field of field at (seen_spot whole)) }
+    whole: Entity,
+) -> Result<Entity, AllocError>
+    ensures { IfOk result (λ r. seen_entity r ≡ judge.object_field of field at (seen_entity whole)) }
 {
     let class = part_class(may_write(field), followed_class(whole.known.class));
     let object = read_from(whole.known.of, whole.held);
     let object = MadePlace::deref(alloc, object, type_as(of))?;
-    Ok(Spot {
+    Ok(Entity {
         known: known_as(class, field.of),
         held: Held::Stands(MadePlace::field(alloc, object, type_as(of), field.number)?),
         at,
@@ -92,21 +92,21 @@ fn object_field(
 }
 
 /// A field of a variable that is of this type, or of an object.
-fn field_spot(
+fn field_entity(
     alloc: Global,
     env: &Env<'_>,
     of: TypeId,
     field: Field,
     at: Pos,
-    whole: Spot,
-) -> Result<Spot, AllocError>
-    ensures { IfOk result (λ r. seen_spot r ≡
-        judge.field_spot env.now of field at (seen_spot whole)) }
+    whole: Entity,
+) -> Result<Entity, AllocError>
+    ensures { IfOk result (λ r. seen_entity r ≡
+        judge.field_entity env.now of field at (seen_entity whole)) }
 {
     if is_object_type(env, of) {
         return object_field(alloc, of, field, at, whole);
     }
-    Ok(Spot {
+    Ok(Entity {
         known: known_as(part_class(may_write(field), whole.known.class), field.of),
         held: field_held(alloc, of, field.number, whole.held)?,
         at,
@@ -120,20 +120,20 @@ fn found_field(
     env: &Env<'_>,
     of: TypeId,
     field: Option<Field>,
-    whole: Spot,
+    whole: Entity,
     at: Pos,
     name: Name,
-) -> Result<Spot, AllocError>
+) -> Result<Entity, AllocError>
     ensures noted { OnOk result (found.new ≡ first_after found.old
-        (judge.field_found env.now (seen_spot whole) at name of field).breaches) }
-    ensures answer { IfOk result (λ r. seen_spot r ≡
-        (judge.field_found env.now (seen_spot whole) at name of field).answer) }
+        (judge.field_found env.now (seen_entity whole) at name of field).breaches) }
+    ensures answer { IfOk result (λ r. seen_entity r ≡
+        (judge.field_found env.now (seen_entity whole) at name of field).answer) }
 {
     match field {
         None => Ok(lacking(found, env, of, at)),
         Some(field) => {
             if field.is_own || field.mark.is_some() {
-                field_spot(alloc, env, of, field, name.pos, whole)
+                field_entity(alloc, env, of, field, name.pos, whole)
             } else {
                 Ok(refused_variable_at(found, NOT_EXPORTED, name.pos, name.pos))
             }
@@ -153,14 +153,14 @@ pub fn field(
     alloc: Global,
     found: &mut Option<Breach>,
     env: &Env<'_>,
-    whole: Spot,
+    whole: Entity,
     at: Pos,
     name: Name,
-) -> Result<Spot, AllocError>
+) -> Result<Entity, AllocError>
     ensures noted { OnOk result (found.new ≡ first_after found.old
-        (judge.field env.now (seen_spot whole) at name).breaches) }
-    ensures answer { IfOk result (λ r. seen_spot r ≡
-        (judge.field env.now (seen_spot whole) at name).answer) }
+        (judge.field env.now (seen_entity whole) at name).breaches) }
+    ensures answer { IfOk result (λ r. seen_entity r ≡
+        (judge.field env.now (seen_entity whole) at name).answer) }
 {
     let whole = through(alloc, env, whole)?;
     let Some(of) = whole.known.of else {
@@ -194,17 +194,17 @@ fn element_held(
 }
 
 /// An element of a variable that is an array of so many elements of this type.
-fn element_spot(
+fn element_entity(
     alloc: Global,
     elements: u32,
     of: TypeId,
     index: Answer,
-    whole: Spot,
-) -> Result<Spot, AllocError>
-    ensures { IfOk result (λ r. seen_spot r ≡
-        judge.element_spot elements of (seen_answer index) (seen_spot whole)) }
+    whole: Entity,
+) -> Result<Entity, AllocError>
+    ensures { IfOk result (λ r. seen_entity r ≡
+        judge.element_entity elements of (seen_answer index) (seen_entity whole)) }
 {
-    Ok(Spot {
+    Ok(Entity {
         known: known_as(part_class(true, whole.known.class), Some(of)),
         held: element_held(alloc, elements, of, index.typed, whole.held)?,
         at: whole.at,
@@ -218,16 +218,16 @@ fn found_element(
     elements: u32,
     of: TypeId,
     at: Pos,
-    whole: Spot,
+    whole: Entity,
     index: Answer,
-) -> Result<Spot, AllocError>
+) -> Result<Entity, AllocError>
     ensures noted { OnOk result (found.new ≡ first_after found.old
-        (judge.element_found elements of at (seen_spot whole) (seen_answer index)).breaches) }
-    ensures answer { IfOk result (λ r. seen_spot r ≡
-        (judge.element_found elements of at (seen_spot whole) (seen_answer index)).answer) }
+        (judge.element_found elements of at (seen_entity whole) (seen_answer index)).breaches) }
+    ensures answer { IfOk result (λ r. seen_entity r ≡
+        (judge.element_found elements of at (seen_entity whole) (seen_answer index)).answer) }
 {
     if is_number(index.known.of) {
-        element_spot(alloc, elements, of, index, whole)
+        element_entity(alloc, elements, of, index, whole)
     } else {
         Ok(refused_variable_at(found, WRONG_SELECTOR, at, at))
     }
@@ -249,17 +249,17 @@ fn row_held(alloc: Global, of: TypeId, index: Typed, whole: Held) -> Result<Held
 }
 
 /// An element, of a type, of a variable that is an open array; behind all dimensions its elements are of another type.
-fn row_spot(
+fn row_entity(
     alloc: Global,
     behind: TypeId,
     of: TypeId,
     index: Answer,
-    whole: Spot,
-) -> Result<Spot, AllocError>
-    ensures { IfOk result (λ r. seen_spot r ≡
-        judge.row_spot behind of (seen_answer index) (seen_spot whole)) }
+    whole: Entity,
+) -> Result<Entity, AllocError>
+    ensures { IfOk result (λ r. seen_entity r ≡
+        judge.row_entity behind of (seen_answer index) (seen_entity whole)) }
 {
-    Ok(Spot {
+    Ok(Entity {
         known: known_as(part_class(true, whole.known.class), Some(of)),
         held: row_held(alloc, behind, index.typed, whole.held)?,
         at: whole.at,
@@ -273,18 +273,18 @@ fn found_row(
     behind: TypeId,
     of: TypeId,
     at: Pos,
-    whole: Spot,
+    whole: Entity,
     index: Answer,
-) -> Result<Spot, AllocError>
+) -> Result<Entity, AllocError>
     ensures noted { OnOk result (found.new ≡ first_after found.old
-        (judge.row_found behind of at (seen_spot whole) (seen_answer index)).breaches) }
-    ensures answer { IfOk result (λ r. seen_spot r ≡
-        (judge.row_found behind of at (seen_spot whole) (seen_answer index)).answer) }
+        (judge.row_found behind of at (seen_entity whole) (seen_answer index)).breaches) }
+    ensures answer { IfOk result (λ r. seen_entity r ≡
+        (judge.row_found behind of at (seen_entity whole) (seen_answer index)).answer) }
 {
     if !is_number(index.known.of) {
         return Ok(refused_variable_at(found, WRONG_SELECTOR, at, at));
     }
-    row_spot(alloc, behind, of, index, whole)
+    row_entity(alloc, behind, of, index, whole)
 }
 
 /// An element of a variable, or of what a pointer leads to, in a bracket that stands here.
@@ -293,13 +293,13 @@ pub fn element(
     found: &mut Option<Breach>,
     env: &Env<'_>,
     at: Pos,
-    whole: Spot,
+    whole: Entity,
     index: Answer,
-) -> Result<Spot, AllocError>
+) -> Result<Entity, AllocError>
     ensures noted { OnOk result (found.new ≡ first_after found.old
-        (judge.element env.now at (seen_spot whole) (seen_answer index)).breaches) }
-    ensures answer { IfOk result (λ r. seen_spot r ≡
-        (judge.element env.now at (seen_spot whole) (seen_answer index)).answer) }
+        (judge.element env.now at (seen_entity whole) (seen_answer index)).breaches) }
+    ensures answer { IfOk result (λ r. seen_entity r ≡
+        (judge.element env.now at (seen_entity whole) (seen_answer index)).answer) }
 {
     let whole = through(alloc, env, whole)?;
     let Some(of) = whole.known.of else {
@@ -325,19 +325,19 @@ pub fn followed(
     alloc: Global,
     found: &mut Option<Breach>,
     env: &Env<'_>,
-    whole: Spot,
+    whole: Entity,
     at: Pos,
-) -> Result<Spot, AllocError>
+) -> Result<Entity, AllocError>
     ensures noted { OnOk result (found.new ≡
-        first_after found.old (judge.followed env.now (seen_spot whole) at).breaches) }
-    ensures answer { IfOk result (λ r. seen_spot r ≡
-        (judge.followed env.now (seen_spot whole) at).answer) }
+        first_after found.old (judge.followed env.now (seen_entity whole) at).breaches) }
+    ensures answer { IfOk result (λ r. seen_entity r ≡
+        (judge.followed env.now (seen_entity whole) at).answer) }
 {
     let Some(of) = whole.known.of else {
         return Ok(unknown_part(whole.at, whole));
     };
     match target_of(env, of) {
-        Some(to) => followed_spot(alloc, env, to, whole),
+        Some(to) => followed_entity(alloc, env, to, whole),
         None => Ok(lacking(found, env, of, at)),
     }
 }

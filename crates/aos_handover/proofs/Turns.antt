@@ -4,7 +4,7 @@ use Rattle.std.specs.Prelude.{map, if◌then◌else◌, unsigned_abs}
 use Rattle.aos_base.specs.declared.kernel.Did.TheVariants.{Start, Await, Trapped}
 use Rattle.aos_base.specs.declared.kernel.LockName.{LockName}
 use Rattle.aos_base.specs.declared.text.Pos.{Pos}
-use Rattle.aos_base.specs.declared.place.Root.{Root}
+use Rattle.aos_base.specs.declared.root.Root.{Root}
 use Rattle.aos_base.specs.Number.{array_lengths}
 use Rattle.aos_base.specs.Rooted.{Made, Rooted, by_number}
 use Rattle.aos_base.specs.Question.{Val, Asks, Traps, bind, feed, Manner, Reads, Stores, Copies, PutsText, ComparesTexts, Calls, Ends, Makes, Starts, Enters, Leaves, Awaits, PutsInt, PutsChar, PutsString, PutsLn, PutsNothing, Places, Lengths, Opens, Sizes, Tests}
@@ -15,7 +15,7 @@ use Rattle.aos_typed.specs.Program.{Program, Repeat}
 use Rattle.aos_typed.specs.Numbers.{id_of}
 use Rattle.aos_typed.specs.Routines.{Routine, routines}
 use Rattle.aos_typed.specs.Sort.{variable_shape}
-use Rattle.aos_typed.specs.Spot.{Spot}
+use Rattle.aos_typed.specs.Location.{Location}
 use Rattle.aos_typed.specs.Text.{text_in, fitted}
 use Rattle.aos_typed.specs.Value.{Value, Int, Flag, Char, Set, Object, Callable, Place, number_of, is_true}
 use Rattle.aos_typed.specs.Store.{Store, has_room, made_in}
@@ -62,13 +62,13 @@ module _ (p : Program) (following : List ℕ) (s : Store) (f : Frame) (fs : List
       makes_with_kind None are = stopped 15 0
       makes_with_kind (Some ns) are = makes_kind (has_room (made ns) (content ns) s) ns are refl
 
-    module _ (t : TType) (from to : Spot) (asks : IsAsking p g fs (Copies t from to)) where
+    module _ (t : TType) (from to : Location) (asks : IsAsking p g fs (Copies t from to)) where
       copies_kind : (new old : Option (Content Value)) → read from.root from.path (all_rooted (g ∷ fs) s) ≡ new → read to.root to.path (all_rooted (g ∷ fs) s) ≡ old → Is (copies following (copied (variable_shape p.types (id_of t)) new old) to (top g fs s))
       copies_kind (Some new) (Some old) e e' = stored (Copies t from to) asks to.root _ (OneWhole t from to new old e e')
       copies_kind (Some new) None e e' = told (Copies t from to) asks tt tt
       copies_kind None old e e' = told (Copies t from to) asks tt tt
 
-    module _ (strict : Bool) (from : Spot) (n : Value) (to : Spot) (room : Value) (asks : IsAsking p g fs (PutsText strict from n to room)) where
+    module _ (strict : Bool) (from : Location) (n : Value) (to : Location) (room : Value) (asks : IsAsking p g fs (PutsText strict from n to room)) where
       stores_text_kind : (text : Option (List ℕ)) (old : Option (Content Value)) → fitted strict (unsigned_abs (number_of room)) (text_in (read from.root from.path (all_rooted (g ∷ fs) s))) ≡ text → read to.root to.path (all_rooted (g ∷ fs) s) ≡ old →
           Is (stores_text following text old to (top g fs s))
       stores_text_kind None old fits e = stopped 15 0

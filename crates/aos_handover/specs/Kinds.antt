@@ -4,7 +4,7 @@ use Rattle.std.specs.Prelude.{◌≡◌, ◌⊎◌, ℕ, suc, List, [], ◌∷�
 use Rattle.aos_base.specs.declared.kernel.Did.{Did}
 use Rattle.aos_base.specs.declared.kernel.Did.TheVariants.{Went, Enter, Leave, Start, Await, Trapped}
 use Rattle.aos_base.specs.declared.kernel.LockName.{LockName}
-use Rattle.aos_base.specs.declared.place.Root.{Root}
+use Rattle.aos_base.specs.declared.root.Root.{Root}
 use Rattle.aos_base.specs.declared.text.Pos.{Pos}
 use Rattle.aos_base.specs.Number.{array_lengths}
 use Rattle.aos_base.specs.Question.{Val, Asks, feed, Manner, Reads, Stores, Copies, PutsText, ComparesTexts, Calls, Makes, Starts, Awaits, PutsInt, PutsChar, PutsString, PutsLn, PutsNothing, Places, Lengths, Opens, Sizes, Tests}
@@ -15,7 +15,7 @@ use Rattle.aos_typed.specs.Numbers.{id_of}
 use Rattle.aos_typed.specs.Program.{Program, Expr, Stat, Stats, Repeat}
 use Rattle.aos_typed.specs.Routines.{Routine, routines}
 use Rattle.aos_typed.specs.Sort.{variable_shape}
-use Rattle.aos_typed.specs.Spot.{Spot}
+use Rattle.aos_typed.specs.Location.{Location}
 use Rattle.aos_typed.specs.Text.{fitted, text_in, with_text}
 use Rattle.aos_typed.specs.declared.tree.TType.{TType}
 use Rattle.aos_typed.specs.Value.{Value, Object, number_of, is_true}
@@ -137,10 +137,10 @@ module _ (p : Program) where
 
   -- what a question stores below a root, where the variables below the roots are these: a scalar, a whole, or a text
   pub data IsStored (x : Rooted (Content Value)) : Question → Root → (Content Value → Content Value) → Type 0 where
-    OneScalar : (a : Spot) (v : Value) → IsStored x (Stores a v) a.root (placed a.path (Scalar v))
-    OneWhole : (t : TType) (from to : Spot) (new old : Content Value) → read from.root from.path x ≡ Some new → read to.root to.path x ≡ Some old
+    OneScalar : (a : Location) (v : Value) → IsStored x (Stores a v) a.root (placed a.path (Scalar v))
+    OneWhole : (t : TType) (from to : Location) (new old : Content Value) → read from.root from.path x ≡ Some new → read to.root to.path x ≡ Some old
         → IsStored x (Copies t from to) to.root (placed to.path (overlay (variable_shape p.types (id_of t)) new old))
-    OneText : (strict : Bool) (from : Spot) (n : Value) (to : Spot) (room : Value) (cs : List ℕ) (old : Content Value)
+    OneText : (strict : Bool) (from : Location) (n : Value) (to : Location) (room : Value) (cs : List ℕ) (old : Content Value)
         → fitted strict (unsigned_abs (number_of room)) (text_in (read from.root from.path x)) ≡ Some cs → read to.root to.path x ≡ Some old
         → IsStored x (PutsText strict from n to room) to.root (placed to.path (with_text cs old))
 

@@ -78,7 +78,7 @@ module _ (image : Image) (earlier : List Event) (d : Desk) (st : State Memory Fr
   one_more events e is = ap (λ x. x ++ e ∷ []) h.events ∙ append_assoc earlier d.events.items (e ∷ []) ∙ ap (λ x. earlier ++ x) (sym is)
 
   -- who has moved to a place that is no lock doesn't wait
-  pub waits_moved : (a : ℕ) (p : book.Place) → book.is_at_lock p ≡ false → EachWaits image d.activities.items (move a p st.book.line) st.frames
+  pub waits_moved : (a : ℕ) (p : book.RunState) → book.is_at_lock p ≡ false → EachWaits image d.activities.items (move a p st.book.line) st.frames
   waits_moved a p out =
       waits_after image d.activities.items d.activities.items st.book.line (move a p st.book.line) st.frames st.frames a (λ l wants at kept is. absurd (no_wait p _ (place-moved a p st.book.line) out l wants at)) (λ x ne. place-unmoved a x p st.book.line ne)
       (λ x kept ne is. is) (λ x ne. refl) h.waiting

@@ -44,7 +44,7 @@ orderly_run r = execution_orderly (machine r.image) (choices r.log) (first_state
 pub budget_run : (r : Run) → (state_of r).book.budget ≡ r.budget
 budget_run r = execution_budget (machine r.image) (choices r.log) (first_state r.image r.budget)
 
-is_worker : (w : ℕ) (p : book.Place) → is_on w p ≡ true → p ≡ On w
+is_worker : (w : ℕ) (p : book.RunState) → is_on w p ≡ true → p ≡ On w
 is_worker w (On v) e = by_case number (λ q. q ≡ true → On v ≡ On w) v w (λ f _. ap (λ k. On k) f) (λ _ z. absurd (cc z)) e
 is_worker w (book.Ready p) e = absurd (cc e)
 is_worker w (book.At l wants) e = absurd (cc e)

@@ -145,14 +145,14 @@ waits_after image items items' line line' frames frames' a here places kept_ther
     (λ x ne l wants at kept is. subst (λ f. IsWaiting image l wants kept f) (sym (same x ne)) (each x l wants (sym (places x ne) ∙ at) kept (kept_there x kept ne is)))
 
 -- one who stands elsewhere doesn't wait
-pub no_wait : (p : book.Place) (o : Option book.Place) → o ≡ Some p → book.is_at_lock p ≡ false → (l : LockName) (wants : Wants) → o ≡ Some (book.At l wants) → ⊥
+pub no_wait : (p : book.RunState) (o : Option book.RunState) → o ≡ Some p → book.is_at_lock p ≡ false → (l : LockName) (wants : Wants) → o ≡ Some (book.At l wants) → ⊥
 no_wait p o e out l wants at =
     let z : Some p ≡ Some (book.At l wants) = sym e ∙ at in
     let y : p ≡ book.At l wants = cc z in
     let t : false ≡ true = sym out ∙ ap book.is_at_lock y in
     absurd (cc t)
 
-pub nowhere_no_wait : (o : Option book.Place) → o ≡ None → (l : LockName) (wants : Wants) → o ≡ Some (book.At l wants) → ⊥
+pub nowhere_no_wait : (o : Option book.RunState) → o ≡ None → (l : LockName) (wants : Wants) → o ≡ Some (book.At l wants) → ⊥
 nowhere_no_wait o e l wants at = let z : None ≡ Some (book.At l wants) = sym e ∙ at in absurd (cc z)
 
 -- the others, where one has been set

@@ -30,7 +30,7 @@ pub data Held : Type 0 where
   Value : Expr → Held
 
 -- a designator, and where the name stands that is its own
-pub record Spot : Type 0 where
+pub record Entity : Type 0 where
   pub known : Known
   pub held : Held
   pub at : Pos
@@ -236,8 +236,8 @@ abbrev pub refused_variable : ℕ → Pos → Judged Answer
 refused_variable rule at = judged (breach rule at) some_variable
 
 -- a designator that is a value
-abbrev pub spot_of : Pos → Answer → Spot
-spot_of at a = record { known = a.known; held = Value a.typed; at = at }
+abbrev pub entity_of : Pos → Answer → Entity
+entity_of at a = record { known = a.known; held = Value a.typed; at = at }
 
 abbrev pub read_from : Option TypeId → Held → Expr
 read_from of (Stands p) = Read (type_of of) p

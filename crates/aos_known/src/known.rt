@@ -5,7 +5,7 @@ ghost use Rattle.aos_base.specs.Number.{if_within};
 ghost use Rattle.aos_typed.specs.Seen.{seen_expr};
 ghost use Rattle.aos_symbols.specs.Breaches.{first_after};
 ghost use Rattle.aos_known.specs.Known as known;
-ghost use Rattle.aos_known.specs.Seen.{seen_answer, seen_held, seen_spot};
+ghost use Rattle.aos_known.specs.Seen.{seen_answer, seen_held, seen_entity};
 
 use aos_base::{Pos, Width};
 use aos_made::{MadePlace, Typed};
@@ -52,7 +52,7 @@ pub enum Held {
 
 /// A designator, and where the name stands that is its own.
 #[derive(Drop)]
-pub struct Spot {
+pub struct Entity {
     pub known: Known,
     pub held: Held,
     pub at: Pos,
@@ -451,10 +451,10 @@ pub fn refused_variable(found: &mut Option<Breach>, rule: u16, at: Pos) -> Answe
 }
 
 /// A designator that is a value.
-pub fn spot_of(at: Pos, answer: Answer) -> Spot
-    ensures { seen_spot result ≡ known.spot_of at (seen_answer answer) }
+pub fn entity_of(at: Pos, answer: Answer) -> Entity
+    ensures { seen_entity result ≡ known.entity_of at (seen_answer answer) }
 {
-    Spot {
+    Entity {
         known: answer.known,
         held: Held::Value(answer.typed),
         at,

@@ -5,7 +5,7 @@ use Rattle.std.proofs.lemmas.Option.{slice_get_within}
 use Rattle.std.proofs.lemmas.Bool.{eqb-true}
 use Rattle.aos_base.specs.declared.kernel.LockName.{LockName}
 use Rattle.aos_base.specs.declared.kernel.LockName.TheVariants as lock
-use Rattle.aos_base.specs.declared.place.Root.{Root}
+use Rattle.aos_base.specs.declared.root.Root.{Root}
 use Rattle.aos_base.specs.Lock.{is_lock}
 use Rattle.aos_base.specs.Rooted.{Made, by_number}
 use Rattle.aos_concurrency.specs.Regions.{times}
@@ -16,7 +16,7 @@ use Rattle.aos_typed.specs.Numbers.{id_of}
 use Rattle.aos_typed.specs.Program.{Program}
 use Rattle.aos_typed.specs.Routines.{Routine, has_self}
 use Rattle.aos_typed.specs.Sort.{variable_shape}
-use Rattle.aos_typed.specs.Spot.{Spot}
+use Rattle.aos_typed.specs.Location.{Location}
 use Rattle.aos_typed.specs.Store.{Store, made_in, store_with, with_object}
 use Rattle.aos_typed.specs.Text.{with_text}
 use Rattle.aos_typed.specs.Value.{Value}
@@ -111,7 +111,7 @@ module _ (p : Program) where
     abbrev IsSpared : Use → Type 0
     IsSpared u = (v : Variable) → IsGuarded p v → Spares p v n serve.0.routine u
 
-    at_place : (g : Frame) → Stands p s f fs g → times l (locks_in (lock_of g) g.items ++ regions_of fs) ≡ 0 → (x : Bool) → (x ≡ true → has_mark g.items ≡ true) → (a : Spot) (new : Content Value)
+    at_place : (g : Frame) → Stands p s f fs g → times l (locks_in (lock_of g) g.items ++ regions_of fs) ≡ 0 → (x : Bool) → (x ≡ true → has_mark g.items ≡ true) → (a : Location) (new : Content Value)
         → IsWritten p typed (made_in s) n serve.0.routine (here_of f fs) serve.0.self x IsSpared (λ u h. h) a → ((o : ℕ) (m : Made) → made_in s o ≡ Some m → made_in (store_with a.root (placed a.path new) s) o ≡ Some m) → AgreeOn p l s (store_with a.root (placed a.path new) s)
     at_place g st none x marked a new may up' =
         record {

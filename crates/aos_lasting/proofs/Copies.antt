@@ -3,8 +3,8 @@
 use Rattle.std.proofs.Common.{◌≡◌, ℕ, zero, suc, List, [], ◌∷◌, ◌++◌, length, map, Bool, true, false, Option, Some, None, refl, sym, ap, ◌∙◌, subst, if◌then◌else◌}
 use Rattle.std.specs.Prelude.{drop, nat_eq, option_and_then, slice_get, take}
 use Rattle.std.proofs.lemmas.List.{length-map}
-use Rattle.aos_base.specs.declared.place.Root.{Root}
-use Rattle.aos_base.specs.declared.place.Root.TheVariants as root
+use Rattle.aos_base.specs.declared.root.Root.{Root}
+use Rattle.aos_base.specs.declared.root.Root.TheVariants as root
 use Rattle.aos_base.specs.Rooted.{Rooted, change_from_last, from_last}
 use Rattle.aos_types.specs.declared.row.Basic.{Basic}
 use Rattle.aos_types.specs.declared.row.Basic.TheVariants as basic
@@ -22,7 +22,7 @@ use Rattle.aos_typed.specs.Open.{open_dimensions, open_element}
 use Rattle.aos_typed.specs.Program.{Parameter, Procedure, Program}
 use Rattle.aos_typed.specs.Routines.{parameters_of}
 use Rattle.aos_typed.specs.Sort.{Sort, Plain, Variable, Alias, Elements, Length, variable_shape}
-use Rattle.aos_typed.specs.Spot.{Spot}
+use Rattle.aos_typed.specs.Location.{Location}
 use Rattle.aos_typed.specs.Store.{Store, scalar_in}
 use Rattle.aos_typed.specs.Text.{with_text}
 use Rattle.aos_typed.specs.Typing.{Is, IsBasic, IsPlain, IsPlainly}
@@ -34,7 +34,7 @@ use Rattle.aos_sim.proofs.Parts.{each_join, each_repeated, variable_plain}
 use Rattle.aos_handover.specs.Kinds.{IsStored, OneScalar, OneWhole, OneText}
 use Rattle.aos_naming.specs.Naming.{ContentIs}
 use Rattle.aos_naming.proofs.Values.{FoundIs, found_is}
-use Rattle.aos_lasting.specs.Spots.{HasCopy, InFrame, IsCopied}
+use Rattle.aos_lasting.specs.Locations.{HasCopy, InFrame, IsCopied}
 
 -- a value is no place
 abbrev pub IsNoPlace : Value → Type 0
@@ -50,7 +50,7 @@ IsNoPlace (Callable q o) = Unit {0}
 
 -- the places in contents stand in others too
 abbrev pub KeepsPlaces : Content Value → Content Value → Type 0
-KeepsPlaces c d = (way : List ℕ) (s : Spot) → found way c ≡ Some (Scalar (Place s)) → found way d ≡ Some (Scalar (Place s))
+KeepsPlaces c d = (way : List ℕ) (s : Location) → found way c ≡ Some (Scalar (Place s)) → found way d ≡ Some (Scalar (Place s))
 
 -- where none stood, other contents may stand
 pub places_kept : (path : List ℕ) (new c old : Content Value) → found path c ≡ Some old → ContentIs IsNoPlace old → KeepsPlaces c (placed path new c)
@@ -97,7 +97,7 @@ module _ (path : List ℕ) (new old : Content Value) (none : ContentIs IsNoPlace
 module _ (p : Program) where
   -- no value of a type is a place
   module _ (w : World Sort) where
-    no_basic : (b : Basic) (s : Spot) → IsBasic b (Place s) → ⊥
+    no_basic : (b : Basic) (s : Location) → IsBasic b (Place s) → ⊥
     no_basic basic.ShortInt s h = h
     no_basic basic.Integer s h = h
     no_basic basic.LongInt s h = h
@@ -108,7 +108,7 @@ module _ (p : Program) where
     no_basic basic.Nil s h = cc h
     no_basic (basic.Text n) s h = cc h
 
-    no_plain : (t : TypeId) (r : Option TypeRow) (s : Spot) → IsPlainly p w t r (Place s) → ⊥
+    no_plain : (t : TypeId) (r : Option TypeRow) (s : Location) → IsPlainly p w t r (Place s) → ⊥
     no_plain t None s h = cc h
     no_plain t (Some (row.Basic b)) s h = no_basic b s h
     no_plain t (Some (row.Array n of)) s h = cc h
@@ -170,7 +170,7 @@ module _ (p : Program) where
   -- The cell of each open array that is passed by value holds a place in a frame.
 
   abbrev pub HoldsPlace : List ℕ → Content Value → Type 0
-  HoldsPlace way c = (s : Spot) × (found way c ≡ Some (Scalar (Place s))) × InFrame s.root
+  HoldsPlace way c = (s : Location) × (found way c ≡ Some (Scalar (Place s))) × InFrame s.root
 
   abbrev pub HoldCopies : Option Procedure → Content Value → Type 0
   HoldCopies own c = (k : ℕ) → HasCopy p own k → HoldsPlace (k ∷ 0 ∷ []) c
@@ -179,7 +179,7 @@ module _ (p : Program) where
   copies_kept own c d keeps h k has = let x = h k has in (x.0, keeps (k ∷ 0 ∷ []) x.0 x.1, x.2)
 
   -- so what is known at once of such a cell is one
-  pub known_copied : (own : Option Procedure) (c : Content Value) → HoldCopies own c → (s : Spot) → IsCopied p own s.path (known c s)
+  pub known_copied : (own : Option Procedure) (c : Content Value) → HoldCopies own c → (s : Location) → IsCopied p own s.path (known c s)
   known_copied own c h s k has e =
       let x = h k has in
       let is : known c s ≡ Place x.0 = ap (λ way. scalar_in (found way c)) e ∙ ap scalar_in x.1 in

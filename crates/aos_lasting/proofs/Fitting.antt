@@ -3,11 +3,11 @@ use Rattle.std.proofs.Common.{◌≡◌, ℕ, zero, suc, List, [], ◌∷◌, �
 use Rattle.std.specs.Prelude.{is_some, option_and_then, option_map, slice_get}
 use Rattle.aos_base.specs.Question.{Awaits, Starts}
 use Rattle.aos_base.specs.Rooted.{Made, by_number}
-use Rattle.aos_base.specs.declared.place.Root.{Root}
+use Rattle.aos_base.specs.declared.root.Root.{Root}
 use Rattle.aos_base.specs.declared.kernel.Did.{Did}
 use Rattle.aos_base.specs.declared.kernel.Did.TheVariants.{Went, Ended, Enter, Leave, Start, Await, Trapped}
 use Rattle.aos_concurrency.specs.Regions.{KeepsFits, KeepsRegions, Outside}
-use Rattle.aos_concurrency.specs.Spot.{GoesPast}
+use Rattle.aos_concurrency.specs.LocalState.{GoesPast}
 use Rattle.aos_types.specs.Content.{Content, Empty, EachSort}
 use Rattle.aos_types.specs.Shape.{Shape}
 use Rattle.aos_types.specs.World.{read, shape_at}
@@ -39,7 +39,7 @@ use Rattle.aos_naming.proofs.Traced.{AsksFor, Traces, body_at, body_numbers, nex
 use Rattle.aos_preservation.proofs.Frames.{asked}
 use Rattle.aos_preservation.proofs.Keeps.{Both, Kept, kept_regions, opened_typed, self_made, names as named, typed as typed_program}
 use Rattle.aos_preservation.proofs.Stored.{Held, cells, read_is, shows, top_fits}
-use Rattle.aos_lasting.specs.Spots.{IsFree, IsTold}
+use Rattle.aos_lasting.specs.Locations.{IsFree, IsTold}
 use Rattle.aos_lasting.proofs.Copies.{IsNoPlace, no_copies, no_places}
 use Rattle.aos_lasting.proofs.Keeps.{step_serves}
 use Rattle.aos_lasting.proofs.Serve.{AllServe, AreAnswers, FrameServes, all_grow, answer_told}

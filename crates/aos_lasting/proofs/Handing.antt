@@ -37,7 +37,7 @@ use Rattle.aos_naming.proofs.Traced.{Traces, next_numbers, opened_are, opened_nu
 use Rattle.aos_preservation.proofs.Keeps.{first_kept, names, typed}
 use Rattle.aos_lasting.specs.Agree.{AgreeOn, IsLocalAt}
 use Rattle.aos_lasting.specs.Lasts.{Lasts}
-use Rattle.aos_lasting.specs.Spots.{IsFree}
+use Rattle.aos_lasting.specs.Locations.{IsFree}
 use Rattle.aos_lasting.proofs.Told.{free_simply}
 use Rattle.aos_lasting.proofs.Reading.{reads}
 use Rattle.aos_lasting.proofs.Transfer.{source_hands_over}

@@ -1,6 +1,6 @@
 -- Each kind of turn keeps what frames hold and were told true of their routines, and all that is stored free of places of guarded variables.
 use Rattle.std.proofs.Common.{◌≡◌, ℕ, suc, List, [], ◌∷◌, length, Option, Some, refl, sym, ap, ◌∙◌, subst}
-use Rattle.aos_base.specs.declared.place.Root.{Root}
+use Rattle.aos_base.specs.declared.root.Root.{Root}
 use Rattle.aos_base.specs.Question.{Manner, Reads, Stores, Copies, PutsText, ComparesTexts, Calls, Ends, Makes, Starts, Enters, Leaves, Awaits, PutsInt, PutsChar, PutsString, PutsNothing, PutsLn, Places, Lengths, Opens, Sizes, Tests}
 use Rattle.aos_base.specs.Rooted.{Made, Rooted, by_number}
 use Rattle.aos_types.specs.Content.{Content, EachSort, Scalar}
@@ -11,7 +11,7 @@ use Rattle.aos_typed.specs.Numbers.{id_of}
 use Rattle.aos_typed.specs.Program.{Procedure, Program}
 use Rattle.aos_typed.specs.Routines.{Routine, has_self, parameters_of, routines, self_type}
 use Rattle.aos_typed.specs.Sort.{Sort, Plain}
-use Rattle.aos_typed.specs.Spot.{Spot}
+use Rattle.aos_typed.specs.Location.{Location}
 use Rattle.aos_typed.specs.Store.{Store, made_in, store_with, value_at}
 use Rattle.aos_typed.specs.Typing.{Is, IsPlain}
 use Rattle.aos_typed.specs.Value.{Value}
@@ -26,7 +26,7 @@ use Rattle.aos_naming.proofs.Names.{HasNames}
 use Rattle.aos_naming.proofs.Steps.{given}
 use Rattle.aos_naming.proofs.Values.{first_is, found_same, object_added, overlay_is, placed_is, read_is, sort_begins, store_is, text_is, value_is, vars_with}
 use Rattle.aos_preservation.proofs.Steps.{self_called}
-use Rattle.aos_lasting.specs.Spots.{IsFree, IsTold}
+use Rattle.aos_lasting.specs.Locations.{IsFree, IsTold}
 use Rattle.aos_lasting.proofs.Copies.{FramesKeep, IsNoPlace, copies_kept, frames_kept, stored_put}
 use Rattle.aos_lasting.proofs.Serve.{AllServe, FrameServes, answered_serves, asked_law, called_copies, called_free, left_serves, result_told, stands_serves}
 use Rattle.aos_lasting.proofs.Serving.{is_serves, plain_serves}
@@ -133,12 +133,12 @@ module _ (p : Program) (typed : HasTypes p) (names : HasNames p) where
     stored_free g st _ asks _ _ (OneScalar a v) d c =
         let may = (asked_law p typed s f fs n are.0 k g st (Stores a v) asks).2.0 in placed_is C a.path (Scalar v) d may.1 c
     stored_free g st _ asks _ _ (OneWhole ty from to new old e e') d c =
-        let read_at = λ (a : Spot). read_is C a.root a.path (g ∷ fs) s (variables g st) store in
+        let read_at = λ (a : Location). read_is C a.root a.path (g ∷ fs) s (variables g st) store in
         placed_is C to.path _ d (overlay_is C _ new old (found_same C _ new e (read_at from)) (found_same C _ old e' (read_at to))) c
     stored_free g st _ asks _ _ (OneText strict from i to room cs old fits e) d c =
         placed_is C to.path _ d (text_is p C (free_simply p made) cs old (found_same C _ old e (read_is C to.root to.path (g ∷ fs) s (variables g st) store))) c
 
-    module _ (valid : (x : Frame) → Stands p s f fs x → (q : Question) → IsAsking p x fs q → Valid p (here_of f fs) now q) (typed_at : (ty : TType) (a : Spot) → HasScalar p now a (Plain (id_of ty)) → Is p now (Plain (id_of ty)) (value_at a (all_rooted (f ∷ fs) s)))
+    module _ (valid : (x : Frame) → Stands p s f fs x → (q : Question) → IsAsking p x fs q → Valid p (here_of f fs) now q) (typed_at : (ty : TType) (a : Location) → HasScalar p now a (Plain (id_of ty)) → Is p now (Plain (id_of ty)) (value_at a (all_rooted (f ∷ fs) s)))
         (plain_at : (r : Root) (path : List ℕ) (shape : Shape Sort) → shape_at now r path ≡ Some shape → EachSort IsPlain shape → (old : Content Value) × (read r path (all_rooted (f ∷ fs) s) ≡ Some old) × ContentIs IsNoPlace old) where
       told_true : (g : Frame) → Stands p s f fs g → (q : Question) → IsAsking p g fs q → MakesNone q → IsTold p made k.routine.own q (told_as (all_rooted (g ∷ fs) s) q)
       told_true g st (Reads ty a) asks none =

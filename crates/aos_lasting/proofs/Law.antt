@@ -8,8 +8,8 @@ use Rattle.std.proofs.lemmas.Option.{slice_get_within}
 use Rattle.aos_base.specs.declared.number.Width.TheVariants.{W64}
 use Rattle.aos_base.specs.declared.operator.Given.{Given}
 use Rattle.aos_base.specs.declared.operator.Given.TheVariants.{Number, Trap, Undefined}
-use Rattle.aos_base.specs.declared.place.Root.{Root}
-use Rattle.aos_base.specs.declared.place.Root.TheVariants as root
+use Rattle.aos_base.specs.declared.root.Root.{Root}
+use Rattle.aos_base.specs.declared.root.Root.TheVariants as root
 use Rattle.aos_base.specs.Operators.{natural, unary as unary_of, binary as binary_of}
 use Rattle.aos_base.specs.declared.operator.Binary.TheVariants as operator
 use Rattle.aos_base.specs.declared.operator.Unary.TheVariants.{Range}
@@ -33,7 +33,7 @@ use Rattle.aos_typed.specs.Numbers.{body_number, id_of, id_of_made, procedure_nu
 use Rattle.aos_typed.specs.Open.{open_dimensions}
 use Rattle.aos_typed.specs.Program.{Place, ModuleVar, Local, Passed, Field, Index, Of, Deref, Typed, Guarded, Rows, Known, Opened, Row, Spread, Longer, Arguments, NoMore, Scalar, Whole, Opening, Callee, Plain, Dispatched, Upper, Through, Expr, Lit, SelfRef, Read, Unary, Binary, And, Or, Element, Ord, Chr, CompareTexts, Len, LenBehind, Function, Same, Is, IsRecord, Guard, ProcedureOf, MethodOf, SameProcedure, Had, Parameter, Procedure, Program}
 use Rattle.aos_typed.specs.Routines.{Routine, has_self, parameters_at, parameters_of, routine_of, routines, self_type}
-use Rattle.aos_typed.specs.Spot.{Spot, Declared}
+use Rattle.aos_typed.specs.Location.{Location, Declared}
 use Rattle.aos_typed.specs.Value.{number_of, Value, Int, Flag, Char, Set, Object, Callable, Place as PlaceValue, Sort, Integer, Boolean, Character, Elements, literal_value, value_as, given, is_true, unary_sort, binary_sort}
 use Rattle.aos_typed.specs.WellTyped.{Includes, IsArrayOf, IsCalled, IsConstantText, IsFilled, IsGiven, IsNamed, IsObjectAt, IsOf, IsParameter, IsPlaceOf, AreArguments, AreRows, is_basic, is_procedural, is_reference, procedure_in as procedure_of, taken, target}
 use Rattle.aos_typed.specs.Meaning.{field_of as field_in, Here, Question, Doing, Found, found, place_in, object_in, instance_in, procedure_in, on_instance, element_of, row_at, dereferenced, sizes_from, lengths_from, is_instance, guarded, has_type, sent, dispatched, bound, bound_to, applied, calls, place_of, rows_of, arguments_of, receiver_of, value_of, called, by_number as by_object}
@@ -55,7 +55,7 @@ use Rattle.aos_naming.specs.Naming.{AllAre}
 use Rattle.aos_naming.proofs.Items.{part}
 use Rattle.aos_naming.proofs.Telling.{self_or}
 use Rattle.aos_naming.proofs.Values.{all_more}
-use Rattle.aos_lasting.specs.Spots.{Begins, HasCopy, StartsWith, IsAt, IsFree, IsFreeAt, IsMadeFor, IsTold, AreFreeFor, Serves, StandsFor, field_of}
+use Rattle.aos_lasting.specs.Locations.{Begins, HasCopy, StartsWith, IsAt, IsFree, IsFreeAt, IsMadeFor, IsTold, AreFreeFor, Serves, StandsFor, field_of}
 use Rattle.aos_lasting.proofs.Fields.{declarer_on, object_extended, object_extends, whole_object}
 use Rattle.aos_lasting.proofs.Serving.{basic_serves, fits_serves, pattern_target, plain_serves, any_target}
 
@@ -80,7 +80,7 @@ module _ (p : Program) (made : ℕ → Option Made) (own : Option Procedure) (se
   free_part (root.Object o) path i h = (h.0, h.1, λ f k b g. h.2 f k (begins_part k i path b) g)
 
   -- a part of a place is of the same variable
-  pub part_at : (t : Target) (s : Spot) (i type : ℕ) (of : Declared) → IsAt p made own self s t → IsAt p made own self (record { root = s.root; path = s.path ++ i ∷ []; type = type; of = of }) t
+  pub part_at : (t : Target) (s : Location) (i type : ℕ) (of : Declared) → IsAt p made own self s t → IsAt p made own self (record { root = s.root; path = s.path ++ i ∷ []; type = type; of = of }) t
   part_at t s i ty d h = by t.of h
     where
       by : (v : Variable) → IsAt p made own self s (record { of = v; through_self = t.through_self }) → IsAt p made own self (record { root = s.root; path = s.path ++ i ∷ []; type = ty; of = d }) (record { of = v; through_self = t.through_self })
@@ -92,7 +92,7 @@ module _ (p : Program) (made : ℕ → Option Made) (own : Option Procedure) (se
       by variable.Heap h = free_part s.root s.path i h
 
   -- and so it is as a record of another type
-  at_typed : (t : Target) (s : Spot) (type : ℕ) → IsAt p made own self s t → IsAt p made own self (record s { type = type }) t
+  at_typed : (t : Target) (s : Location) (type : ℕ) → IsAt p made own self s t → IsAt p made own self (record s { type = type }) t
   at_typed t s ty h = by t.of h
     where
       by : (v : Variable) → IsAt p made own self s (record { of = v; through_self = t.through_self }) → IsAt p made own self (record s { type = ty }) (record { of = v; through_self = t.through_self })
@@ -107,7 +107,7 @@ module _ (p : Program) (made : ℕ → Option Made) (own : Option Procedure) (se
   begins_with k j path h b = subst (Begins j) h.1 b
 
   -- a place of a variable that isn't guarded is free
-  pub at_free : (t : Target) (s : Spot) → ((v : Variable) → IsGuarded p v → t.of ≡ v → ⊥) → IsAt p made own self s t → IsFreeAt p made s.root s.path
+  pub at_free : (t : Target) (s : Location) → ((v : Variable) → IsGuarded p v → t.of ≡ v → ⊥) → IsAt p made own self s t → IsFreeAt p made s.root s.path
   at_free t s never h = by t.of refl h
     where
       by : (v : Variable) → t.of ≡ v → IsAt p made own self s (record { of = v; through_self = t.through_self }) → IsFreeAt p made s.root s.path
@@ -161,7 +161,7 @@ module _ (p : Program) (typed : HasTypes p) (made : ℕ → Option Made) (n : �
   abbrev own : Option Procedure
   own = r.own
 
-  abbrev pub At : Spot → Target → Type 0
+  abbrev pub At : Location → Target → Type 0
   At s t = IsAt p made own here.self s t
 
   abbrev pub Are : TType → Value → Type 0
@@ -171,11 +171,11 @@ module _ (p : Program) (typed : HasTypes p) (made : ℕ → Option Made) (n : �
   AreSpared us = Each Ok us
 
   -- a place is written that a text may write so
-  abbrev pub IsWritten : Spot → Type 0
+  abbrev pub IsWritten : Location → Type 0
   IsWritten s = (t : Target) × At s t × Ok (used.Writes t x)
 
   -- or read
-  abbrev pub IsRead : Spot → Type 0
+  abbrev pub IsRead : Location → Type 0
   IsRead s = (t : Target) × At s t × Ok (used.Reads t)
 
   abbrev pub IsHanded : ℕ → List Value → Type 0
@@ -270,7 +270,7 @@ module _ (p : Program) (typed : HasTypes p) (made : ℕ → Option Made) (n : �
 
   -- Objects that are followed.
 
-  record IsOpened (t : TType) (v : Value) (s : Spot) : Type 0 where
+  record IsOpened (t : TType) (v : Value) (s : Location) : Type 0 where
     number : ℕ
     is : object_in v ≡ suc number
     of : Made
@@ -286,8 +286,8 @@ module _ (p : Program) (typed : HasTypes p) (made : ℕ → Option Made) (n : �
       by (inl nil) = let no : 0 ≡ suc k = sym nil ∙ e in absurd (cc no)
       by (inr x) = x
 
-  opened_spot : (t : TType) (v : Value) (k : ℕ) (e : object_in v ≡ suc k) → IsMadeFor p made t (object_in v) → (y : Value) → IsTold p made own (Opens v) y → (ty : ℕ) → IsOpened t v (record (place_in y) { type = ty })
-  opened_spot t v k e x y told ty =
+  opened_location : (t : TType) (v : Value) (k : ℕ) (e : object_in v ≡ suc k) → IsMadeFor p made t (object_in v) → (y : Value) → IsTold p made own (Opens v) y → (ty : ℕ) → IsOpened t v (record (place_in y) { type = ty })
+  opened_location t v k e x y told ty =
       let place = ap place_in told.2 in
       record {
         number = k;
@@ -295,8 +295,8 @@ module _ (p : Program) (typed : HasTypes p) (made : ℕ → Option Made) (n : �
         of = x.0;
         there = ap made (sym e) ∙ x.1;
         leads = x.2;
-        at = ap (λ (z : Spot). z.root) place ∙ ap (λ o. root.Object o) e;
-        path = ap (λ (z : Spot). z.path) place;
+        at = ap (λ (z : Location). z.root) place ∙ ap (λ o. root.Object o) e;
+        path = ap (λ (z : Location). z.path) place;
       }
 
   opened_law : (t : TType) (v : Value) → is_reference p.types t ≡ true → Are t v → Law (IsOpened t v) (dereferenced v)
@@ -304,7 +304,7 @@ module _ (p : Program) (typed : HasTypes p) (made : ℕ → Option Made) (n : �
     where
       by : (o : ℕ) → object_in v ≡ o → Law (IsOpened t v) (by_object o (Traps 1 0) (bind (ask (Opens v)) (λ y. Val (place_in y))))
       by zero e = tt
-      by (suc k) e = let y = pointed t v ref s k e in ((y.0, y.1), λ z told. opened_spot t v k e y z told (place_in z).type)
+      by (suc k) e = let y = pointed t v ref s k e in ((y.0, y.1), λ z told. opened_location t v k e y z told (place_in z).type)
 
   -- what leads somewhere is a reference
   leads_reference : (t : TType) (b : TypeId) → target p.types t ≡ Some b → is_reference p.types t ≡ true
@@ -316,13 +316,13 @@ module _ (p : Program) (typed : HasTypes p) (made : ℕ → Option Made) (n : �
   leads_reference (type.Named k) b e = ap is_some e
 
   -- what a pointer leads to that is no object is of no variable
-  heap_free : (t : TType) (b : TypeId) (v : Value) (s : Spot) → target p.types t ≡ Some b → (is_object (row_of p.types b) ≡ true → ⊥) → IsOpened t v s → IsFreeAt p made s.root s.path
+  heap_free : (t : TType) (b : TypeId) (v : Value) (s : Location) → target p.types t ≡ Some b → (is_object (row_of p.types b) ≡ true → ⊥) → IsOpened t v s → IsFreeAt p made s.root s.path
   heap_free t b v s to none h =
       subst (λ z. IsFreeAt p made z s.path) (sym h.at)
       (h.of, h.there, λ f k g. absurd (none (object_extended p.types typed.ranked typed.bases typed.record_bases (id_of_made h.of.type) b (h.leads b to) f)))
 
   -- a field of an object
-  object_field : (t : TType) (v : Value) (s : Spot) (k : ℕ) (f : TypeId) (through : Bool) → is_object (row_of p.types (id_of t)) ≡ true → slice_get (field_types p.types (id_of t)) k ≡ Some f → (through ≡ true → object_in v ≡ here.self) → IsOpened t v s → (of : _) →
+  object_field : (t : TType) (v : Value) (s : Location) (k : ℕ) (f : TypeId) (through : Bool) → is_object (row_of p.types (id_of t)) ≡ true → slice_get (field_types p.types (id_of t)) k ≡ Some f → (through ≡ true → object_in v ≡ here.self) → IsOpened t v s → (of : _) →
       At (record { root = s.root; path = s.path ++ k ∷ []; type = 0; of = of }) (record { of = variable.Field (declarer p.types (id_of t) k).0 k; through_self = through })
   object_field t v s k f through object there own_is h of =
       let to = object_target p.types (id_of t) (row_of p.types (id_of t)) object in
@@ -339,7 +339,7 @@ module _ (p : Program) (typed : HasTypes p) (made : ℕ → Option Made) (n : �
 
   -- Pieces of designators.
 
-  element_law : (k : ℕ) (v : Value) (s : Spot) (t : Target) → At s t → Law (λ y. At y t) (element_of k v s)
+  element_law : (k : ℕ) (v : Value) (s : Location) (t : Target) → At s t → Law (λ y. At y t) (element_of k v s)
   element_law k v s t h = by (natural k (number_of v)) refl
     where
       by : (o : Option ℕ) → natural k (number_of v) ≡ o → Law (λ y. At y t) (element_of k v s)
@@ -350,7 +350,7 @@ module _ (p : Program) (typed : HasTypes p) (made : ℕ → Option Made) (n : �
   abbrev pub RowsAt : Target → ℕ → Found → Type 0
   RowsAt t k y = At y.place t × (length y.lengths ≡ k) × AllAre (IsFree p made) y.lengths
 
-  row_law : (s : Spot) (ls : List Value) (v : Value) (t : Target) (k : ℕ) → At s t → length ls ≡ suc k → AllAre (IsFree p made) ls → Law (RowsAt t k) (row_at (record { place = s; lengths = ls }) v)
+  row_law : (s : Location) (ls : List Value) (v : Value) (t : Target) (k : ℕ) → At s t → length ls ≡ suc k → AllAre (IsFree p made) ls → Law (RowsAt t k) (row_at (record { place = s; lengths = ls }) v)
   row_law s [] v t k h e f = absurd (cc e)
   row_law s (l ∷ ls) v t k h e f =
       law_bind (λ y. At y t) (RowsAt t k) (element_of (unsigned_abs (number_of l)) v s) _ (element_law (unsigned_abs (number_of l)) v s t h) (λ y a. (a, cc e, f.1))
@@ -529,7 +529,7 @@ module _ (p : Program) (typed : HasTypes p) (made : ℕ → Option Made) (n : �
   later_flags num i a ps f j b e = let z : suc i + j ≡ i + suc j = omega arith in ap (is_variable p num) z ∙ f (suc j) b e
 
   -- what is handed over for a VAR parameter isn't guarded
-  varied_free : (num i : ℕ) (a : Parameter) (t : Target) (s : Spot) → is_variable p num i ≡ a.by_reference → AreSpared (varies (is_variable p num i) t) → At s t → a.by_reference ≡ true → IsFreeAt p made s.root s.path
+  varied_free : (num i : ℕ) (a : Parameter) (t : Target) (s : Location) → is_variable p num i ≡ a.by_reference → AreSpared (varies (is_variable p num i) t) → At s t → a.by_reference ≡ true → IsFreeAt p made s.root s.path
   varied_free num i a t s flag us at ref =
       let spared = subst (λ b. AreSpared (varies b t)) (flag ∙ ref) us in at_free p made own here.self t s (λ v g e. spares (used.Varies t) spared.0 v g e) at
 
@@ -617,7 +617,7 @@ module _ (p : Program) (typed : HasTypes p) (made : ℕ → Option Made) (n : �
   weaken R (Asks q k) h = (h.0, λ v c. weaken R (k v) (h.1 v c))
 
   -- the variable of a field
-  field_target : (q : Place) (t : TType) (k : ℕ) (s : Spot) (b : Bool) → is_object (row_of p.types (id_of t)) ≡ b → (b ≡ false → At s (target_of p q)) → (b ≡ true → At s (record { of = variable.Field (declarer p.types (id_of t) k).0 k; through_self = is_own q })) → At s (target_of p (Field q t k))
+  field_target : (q : Place) (t : TType) (k : ℕ) (s : Location) (b : Bool) → is_object (row_of p.types (id_of t)) ≡ b → (b ≡ false → At s (target_of p q)) → (b ≡ true → At s (record { of = variable.Field (declarer p.types (id_of t) k).0 k; through_self = is_own q })) → At s (target_of p (Field q t k))
   field_target q t k s true e f g =
       subst (λ b. At s (if b then record { of = variable.Field (declarer p.types (id_of t) k).0 k; through_self = is_own q } else target_of p q)) (sym e) (g refl)
   field_target q t k s false e f g =
@@ -734,7 +734,7 @@ module _ (p : Program) (typed : HasTypes p) (made : ℕ → Option Made) (n : �
     place_law (Guarded q k) t h us =
         law_bind (λ s. At s (target_of p q)) (λ s. At s (target_of p q)) (place_of p here q) _ (place_law q h.0 h.1 us) (λ s a. by s a (has_type p.types s k))
       where
-        by : (s : Spot) → At s (target_of p q) → (b : Bool) → Law (λ s. At s (target_of p q)) (if b then Val s else Traps 3 0)
+        by : (s : Location) → At s (target_of p q) → (b : Bool) → Law (λ s. At s (target_of p q)) (if b then Val s else Traps 3 0)
         by s a true = a
         by s a false = tt
 
@@ -785,7 +785,7 @@ module _ (p : Program) (typed : HasTypes p) (made : ℕ → Option Made) (n : �
             let y = pointed h.1.0 v (leads_reference h.1.0 h.1.1 h.1.3) s i e' in (
               (y.0, y.1),
               λ z told. law_bind (SoMany j) (RowsAt (rows_target p (Spread e j)) k) (sizes_from v 0 j) _ (sizes_law v (y.0, y.1) 0 j)
-                  (λ ls f. (heap_free h.1.0 h.1.1 v (record (place_in z) { type = 0 }) h.1.3 (open_no_object (row_of p.types h.1.1) h.1.4) (opened_spot h.1.0 v i e' y z told 0), f.0 ∙ sym h.0, f.1)),
+                  (λ ls f. (heap_free h.1.0 h.1.1 v (record (place_in z) { type = 0 }) h.1.3 (open_no_object (row_of p.types h.1.1) h.1.4) (opened_location h.1.0 v i e' y z told 0), f.0 ∙ sym h.0, f.1)),
             )
     rows_law (Longer a ns) k t h us =
         law_bind (RowsAt (rows_target p a) h.0) (RowsAt (rows_target p a) k) (rows_of p here a) _ (rows_law a h.0 h.1 h.3 us)

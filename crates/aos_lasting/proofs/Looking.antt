@@ -6,8 +6,8 @@ use Rattle.aos_base.specs.Rooted.{Made, at_root}
 use Rattle.aos_base.specs.declared.kernel.LockName.{LockName}
 use Rattle.aos_base.specs.declared.kernel.LockName.TheVariants as lock
 use Rattle.aos_base.specs.declared.kernel.Verdict.{Verdict}
-use Rattle.aos_base.specs.declared.place.Root.{Root}
-use Rattle.aos_base.specs.declared.place.Root.TheVariants as root
+use Rattle.aos_base.specs.declared.root.Root.{Root}
+use Rattle.aos_base.specs.declared.root.Root.TheVariants as root
 use Rattle.aos_types.specs.Content.{Content, Fits, element, found}
 use Rattle.aos_types.specs.World.{World, read}
 use Rattle.aos_typed.specs.declared.tree.TType.{TType}
@@ -16,7 +16,7 @@ use Rattle.aos_typed.specs.Numbers.{id_of}
 use Rattle.aos_typed.specs.Program.{Program}
 use Rattle.aos_typed.specs.Routines.{Routine, has_self, self_type}
 use Rattle.aos_typed.specs.Sort.{Sort, Plain}
-use Rattle.aos_typed.specs.Spot.{Spot}
+use Rattle.aos_typed.specs.Location.{Location}
 use Rattle.aos_typed.specs.Store.{Store, made_in, scalar_in, value_at}
 use Rattle.aos_typed.specs.Typing.{Is}
 use Rattle.aos_typed.specs.Value.{Value}
@@ -35,7 +35,7 @@ use Rattle.aos_naming.proofs.Values.{known_is, length_is, value_is}
 use Rattle.aos_preservation.proofs.Quiet.{lengths_told, made_shaped, places_told, sizes_told, opens_told as opens_typed, tests_told as tests_typed}
 use Rattle.aos_preservation.proofs.Trees.{Typed}
 use Rattle.aos_lasting.specs.Agree.{AgreeOn, AreSame, IsSame}
-use Rattle.aos_lasting.specs.Spots.{HasFields, IsAt, IsFree, field_of}
+use Rattle.aos_lasting.specs.Locations.{HasFields, IsAt, IsFree, field_of}
 use Rattle.aos_lasting.proofs.Copies.{HoldCopies, known_copied}
 use Rattle.aos_lasting.proofs.Law.{IsRead, Law}
 use Rattle.aos_lasting.proofs.Serving.{is_serves}
@@ -68,7 +68,7 @@ looks_spare p d n r used.Binds h v g = tt
 looks_spare p d n r used.Makes h v g = tt
 
 module _ (p : Program) (typed : HasTypes p) (s t : Store) (f : Frame) (fs : List Frame) (fits : Fits (Is p (world_of p s.made (shapes_of (f ∷ fs)))) f.shape f.variables)
-    (typed_at : (ty : TType) (a : Spot) → HasScalar p (world_of p s.made (shapes_of (f ∷ fs))) a (Plain (id_of ty)) → Is p (world_of p s.made (shapes_of (f ∷ fs))) (Plain (id_of ty)) (value_at a (all_rooted (f ∷ fs) s)))
+    (typed_at : (ty : TType) (a : Location) → HasScalar p (world_of p s.made (shapes_of (f ∷ fs))) a (Plain (id_of ty)) → Is p (world_of p s.made (shapes_of (f ∷ fs))) (Plain (id_of ty)) (value_at a (all_rooted (f ∷ fs) s)))
     (variables : VariablesAre (IsFree p (made_in s)) (f ∷ fs)) (store : StoreIs (IsFree p (made_in s)) s) where
   abbrev now : World Sort
   now = world_of p s.made (shapes_of (f ∷ fs))
@@ -92,7 +92,7 @@ module _ (p : Program) (typed : HasTypes p) (s t : Store) (f : Frame) (fs : List
     abbrev LawAt : {A : Type 0} → (A → Type 0) → Doing A → Type 0
     LawAt R e = Law p typed made n r here is_self_of x (Lets p d.home d.own) (looks_spare p d n r) R e
 
-    abbrev IsSeen : Spot → Type 0
+    abbrev IsSeen : Location → Type 0
     IsSeen a = IsRead p typed made n r here is_self_of x (Lets p d.home d.own) (looks_spare p d n r) a
 
     same_module : (m k : ℕ) → MayRead p d.home d.own false (variable.Module m k) → IsSame s t (root.Module m) k
@@ -111,7 +111,7 @@ module _ (p : Program) (typed : HasTypes p) (s t : Store) (f : Frame) (fs : List
         let is : l ≡ lock.Object (suc o) = lock_is ∙ ap (own_lock f.home) (sym self) in subst (λ z. AreSame p z s t) is agree.guarded m there fields k g
 
     -- what is read is the same
-    same_read : (a : Spot) → IsSeen a → read a.root a.path (all_rooted (f ∷ fs) s) ≡ read a.root a.path (all_rooted (f ∷ fs) t)
+    same_read : (a : Location) → IsSeen a → read a.root a.path (all_rooted (f ∷ fs) s) ≡ read a.root a.path (all_rooted (f ∷ fs) t)
     same_read a seen = by (seen.0).of refl seen.1 seen.2
       where
         tg : Target

@@ -4,15 +4,15 @@ use Rattle.std.specs.Prelude.{option_and_then, slice_get}
 use Rattle.std.proofs.lemmas.Bool.{eq-eqb}
 use Rattle.aos_base.specs.declared.kernel.LockName.{LockName}
 use Rattle.aos_base.specs.declared.kernel.LockName.TheVariants as lock
-use Rattle.aos_base.specs.declared.place.Root.{Root}
-use Rattle.aos_base.specs.declared.place.Root.TheVariants as root
+use Rattle.aos_base.specs.declared.root.Root.{Root}
+use Rattle.aos_base.specs.declared.root.Root.TheVariants as root
 use Rattle.aos_base.specs.Lock.{is_lock}
 use Rattle.aos_base.specs.Rooted.{Made, change_at}
 use Rattle.aos_concurrency.specs.Regions.{times}
 use Rattle.aos_types.specs.Content.{Content, Scalar, Empty, Row, element, found, placed, with_element}
 use Rattle.aos_typed.specs.Program.{Program}
 use Rattle.aos_typed.specs.Routines.{Routine, has_self}
-use Rattle.aos_typed.specs.Spot.{Spot}
+use Rattle.aos_typed.specs.Location.{Location}
 use Rattle.aos_typed.specs.Store.{Store, made_in, store_with}
 use Rattle.aos_typed.specs.Value.{Value}
 use Rattle.aos_typed.specs.Meaning.{Item, Do, Rounds, Round, Until, Region, End, Gives}
@@ -25,7 +25,7 @@ use Rattle.aos_uses.specs.Guarded.{IsGuarded, IsQuiet, MayWrite, Spares, is_of_m
 use Rattle.aos_naming.specs.Items.{has_mark}
 use Rattle.aos_naming.proofs.Building.{SameTexts, NoFrames, OneMore}
 use Rattle.aos_lasting.specs.Agree.{AreSame, IsSame}
-use Rattle.aos_lasting.specs.Spots.{Begins, HasFields, IsAt, IsFreeAt, field_of}
+use Rattle.aos_lasting.specs.Locations.{Begins, HasFields, IsAt, IsFreeAt, field_of}
 
 -- Parts of contents.
 
@@ -83,7 +83,7 @@ regions_texts _ _ NoFrames = refl
 regions_texts _ _ (OneMore f c fs gs same) = ap (λ ls. locks_in (lock_of f) f.items ++ ls) (regions_texts fs gs same)
 
 -- A place that a text of the routine with this number may write, in a frame of it: x says whether a region is open.
-module _ (p : Program) (before : Store) (n : ℕ) (r : Routine) (f : Frame) (home : f.home ≡ r.home) (alone : has_self r.own ≡ false → f.object ≡ 0) (x : Bool) (t : Target) (s : Spot) (at : IsAt p (made_in before) r.own f.object s t) (spared : (v : Variable) → IsGuarded p v → Spares p v n r (used.Writes t x)) where
+module _ (p : Program) (before : Store) (n : ℕ) (r : Routine) (f : Frame) (home : f.home ≡ r.home) (alone : has_self r.own ≡ false → f.object ≡ 0) (x : Bool) (t : Target) (s : Location) (at : IsAt p (made_in before) r.own f.object s t) (spared : (v : Variable) → IsGuarded p v → Spares p v n r (used.Writes t x)) where
   abbrev made : ℕ → Option Made
   made = made_in before
 

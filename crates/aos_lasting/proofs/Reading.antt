@@ -30,7 +30,7 @@ use Rattle.aos_preservation.proofs.Frames.{asked_now}
 use Rattle.aos_preservation.proofs.Keeps.{Both, names, typed}
 use Rattle.aos_preservation.proofs.Stored.{read_is, top_fits}
 use Rattle.aos_lasting.specs.Agree.{AgreeOn, IsLocalAt}
-use Rattle.aos_lasting.specs.Spots.{IsFree, Serves}
+use Rattle.aos_lasting.specs.Locations.{IsFree, Serves}
 use Rattle.aos_lasting.proofs.Copies.{HoldCopies}
 use Rattle.aos_lasting.proofs.Fitting.{Fits as Fit}
 use Rattle.aos_lasting.proofs.Keeps.{serve_variables}

@@ -29,7 +29,7 @@ use Rattle.aos_naming.specs.Items.{has_mark, item_uses, ItemsFine}
 use Rattle.aos_naming.specs.Naming.{AllAre, ContentIs, IsOf, StoreIs, VariablesAre}
 use Rattle.aos_naming.proofs.Items.{had_fine, next_fine, part}
 use Rattle.aos_naming.proofs.Values.{HandedIs, Simply, content_is, cut_is, hand_is, lengths_row, locals_are, parts_more, parts_row}
-use Rattle.aos_lasting.specs.Spots.{AreFreeFor, AreTold, IsFree, IsTold, Serves}
+use Rattle.aos_lasting.specs.Locations.{AreFreeFor, AreTold, IsFree, IsTold, Serves}
 use Rattle.aos_lasting.proofs.Copies.{HoldCopies, handed_copies}
 use Rattle.aos_lasting.proofs.Law.{Law, value_law}
 use Rattle.aos_lasting.proofs.Statements.{AfterServes, ItemsServe, ResultServes, item_law, spared}

@@ -23,7 +23,7 @@ use Rattle.aos_sim.proofs.Does.{HasTypes}
 use Rattle.aos_sim.proofs.Methods.{formals_twice}
 use Rattle.aos_sim.proofs.References.{IsMadeAs, a_callable, from_pattern, has_pattern, nil_or, of_target, some_object}
 use Rattle.aos_sim.proofs.Variables.{basic_row}
-use Rattle.aos_lasting.specs.Spots.{IsFree, IsMadeFor, StandsFor, Serves}
+use Rattle.aos_lasting.specs.Locations.{IsFree, IsMadeFor, StandsFor, Serves}
 
 module _ (p : Program) (typed : HasTypes p) where
   -- a basic type leads to no object

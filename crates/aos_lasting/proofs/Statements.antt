@@ -29,14 +29,14 @@ use Rattle.aos_uses.specs.declared.uses.Variable.{Variable}
 use Rattle.aos_uses.specs.Guarded.{Spares, IsGuarded, Each}
 use Rattle.aos_uses.specs.Uses.{arms_uses, arguments_uses, cases_uses, expr_uses, initial_number, makes, out_uses, place_uses, rows_target, rows_uses, stat_uses, stats_uses, target, values_uses, written}
 use Rattle.aos_lasting.proofs.Law.{Law, law_bind, law_more, value_law, place_law, rows_law, arguments_law, call_law, AreSpared, IsWritten, RowsAt, Gives, given_law, handed_to, agree_same, method_stands, at_number, flags_of}
-use Rattle.aos_lasting.specs.Spots.{IsAt, IsFree, Serves, AreFreeFor}
+use Rattle.aos_lasting.specs.Locations.{IsAt, IsFree, Serves, AreFreeFor}
 use Rattle.aos_naming.specs.Items.{item_uses, IsText, AreFine}
 use Rattle.aos_handover.specs.Items.{ItemsGive, AfterGives}
 use Rattle.aos_handover.proofs.Items.{text_gives, items_give, block_gives}
 use Rattle.aos_naming.proofs.Items.{part}
 use Rattle.aos_sim.proofs.Does.{IsSelf, HasTypes}
 use Rattle.aos_base.specs.Rooted.{Made}
-use Rattle.aos_typed.specs.Spot.{Spot}
+use Rattle.aos_typed.specs.Location.{Location}
 use Rattle.aos_sim.proofs.Routines.{object_there}
 
 module _ (p : Program) (typed : HasTypes p) (made : ℕ → Option Made) (n : ℕ) (r : Routine) where
@@ -81,7 +81,7 @@ module _ (p : Program) (typed : HasTypes p) (made : ℕ → Option Made) (n : �
     value_then : (e : Expr) (t : TType) (k : Value → Doing After) → IsOf p own e t → Uses (expr_uses p e) → ((v : Value) → Serves p made t v → Ok (k v)) → Ok (bind (value_of p here e) k)
     value_then e t k h us f = law_bind p typed made n r here is_self_of x S (λ u h. h) (Serves p made t) AfterServes (value_of p here e) k (value_law p typed made n r here is_self_of x S (λ u h. h) e t h us) f
 
-    place_then : (q : Place) (t : TType) (k : Spot → Doing After) → IsPlaceOf p own q t → Uses (place_uses p q) → ((s : Spot) → IsAt p made own here.self s (target p q) → Ok (k s)) → Ok (bind (place_of p here q) k)
+    place_then : (q : Place) (t : TType) (k : Location → Doing After) → IsPlaceOf p own q t → Uses (place_uses p q) → ((s : Location) → IsAt p made own here.self s (target p q) → Ok (k s)) → Ok (bind (place_of p here q) k)
     place_then q t k h us f = law_bind p typed made n r here is_self_of x S (λ u h. h) (λ s. IsAt p made own here.self s (target p q)) AfterServes (place_of p here q) k (place_law p typed made n r here is_self_of x S (λ u h. h) q t h us) f
 
     rows_then : (a : Rows) (k : Found → Doing After) → AreRows p own a 1 Char → Uses (rows_uses p a) → ((y : Found) → IsAt p made own here.self y.place (rows_target p a) → Ok (k y)) → Ok (bind (rows_of p here a) k)
@@ -158,10 +158,10 @@ module _ (p : Program) (typed : HasTypes p) (made : ℕ → Option Made) (n : �
               λ v d. tt,
             )
 
-    stored_law : (s : Spot) (t : ℕ) (o : Value) → IsWritten p typed made n r here is_self_of x S (λ u h. h) s → IsFree p made o → Ok (bind (ask (Stores s o)) (λ y. bind (carried_out p (body_type p t) o) (λ z. Val (Into []))))
+    stored_law : (s : Location) (t : ℕ) (o : Value) → IsWritten p typed made n r here is_self_of x S (λ u h. h) s → IsFree p made o → Ok (bind (ask (Stores s o)) (λ y. bind (carried_out p (body_type p t) o) (λ z. Val (Into []))))
     stored_law s t o written free = ((written, free), λ v d. carried_law t o (body_type p t) refl)
 
-    initialized_law : (t : ℕ) (s : Spot) (slot : Option ℕ) (vs : List Value) (o : Value) → IsWritten p typed made n r here is_self_of x S (λ u h. h) s → IsFree p made o → ((k : ℕ) → slot ≡ Some k → (q : Procedure) × (method_in p t k ≡ Some q) × AreFreeFor p made q.parameters vs) →
+    initialized_law : (t : ℕ) (s : Location) (slot : Option ℕ) (vs : List Value) (o : Value) → IsWritten p typed made n r here is_self_of x S (λ u h. h) s → IsFree p made o → ((k : ℕ) → slot ≡ Some k → (q : Procedure) × (method_in p t k ≡ Some q) × AreFreeFor p made q.parameters vs) →
         Ok (bind (initialized p slot t o vs) (λ y. bind (ask (Stores s o)) (λ z. bind (carried_out p (body_type p t) o) (λ u. Val (Into [])))))
     initialized_law t s None vs o written free args = stored_law s t o written free
     initialized_law t s (Some k) vs o written free args =

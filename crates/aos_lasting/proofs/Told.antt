@@ -1,7 +1,7 @@
 -- Answers are true: those of questions that are answered at once, and so they stay as objects are made.
 use Rattle.std.proofs.Common.{◌≡◌, ◌⊎◌, inl, inr, ℕ, List, [], ◌∷◌, ◌++◌, Option, Some, None, Bool, ap, subst}
-use Rattle.aos_base.specs.declared.place.Root.{Root}
-use Rattle.aos_base.specs.declared.place.Root.TheVariants as root
+use Rattle.aos_base.specs.declared.root.Root.{Root}
+use Rattle.aos_base.specs.declared.root.Root.TheVariants as root
 use Rattle.aos_base.specs.Question.{Val, Asks, Traps, bind, feed, Reads, Stores, Copies, PutsText, ComparesTexts, Calls, Ends, Makes, Starts, Enters, Leaves, Awaits, PutsInt, PutsChar, PutsString, PutsNothing, PutsLn, Places, Lengths, Opens, Sizes, Tests}
 use Rattle.aos_base.specs.Rooted.{Made}
 use Rattle.aos_types.specs.declared.row.TypeId.{TypeId}
@@ -13,7 +13,7 @@ use Rattle.aos_typed.specs.Numbers.{id_of_made}
 use Rattle.aos_typed.specs.Program.{Procedure, Program}
 use Rattle.aos_typed.specs.Routines.{Routine, self_type}
 use Rattle.aos_typed.specs.Sort.{Sort, Plain}
-use Rattle.aos_typed.specs.Spot.{Spot}
+use Rattle.aos_typed.specs.Location.{Location}
 use Rattle.aos_typed.specs.Typing.{Is}
 use Rattle.aos_typed.specs.Value.{Value, Int, Flag, Char, Set, Object, Callable, Place}
 use Rattle.aos_typed.specs.Meaning.{Here, Question, Doing, Item, object_in, procedure_in}
@@ -24,7 +24,7 @@ use Rattle.aos_uses.specs.declared.uses.Use.{Use}
 use Rattle.aos_uses.specs.declared.uses.Variable.{Variable}
 use Rattle.aos_naming.specs.Naming.{ContentIs}
 use Rattle.aos_naming.proofs.Values.{Simply, known_is, length_is}
-use Rattle.aos_lasting.specs.Spots.{IsFree, IsFreeAt, IsMadeFor, IsTold, AreTold, Serves, StandsFor}
+use Rattle.aos_lasting.specs.Locations.{IsFree, IsFreeAt, IsMadeFor, IsTold, AreTold, Serves, StandsFor}
 use Rattle.aos_lasting.proofs.Copies.{HoldCopies, IsNoPlace, known_copied, no_place}
 use Rattle.aos_lasting.proofs.Law.{Law}
 use Rattle.aos_lasting.proofs.Statements.{ResultServes, ItemsServe}
@@ -81,7 +81,7 @@ module _ (p : Program) (typed : HasTypes p) (made : ℕ → Option Made) (n : �
 
   -- and those at once are true, with what follows or without
   module _ (c : Content Value) (free : ContentIs (IsFree p made) c) (copies : HoldCopies p r.own c) where
-    known_told : (s : Spot) → IsFree p made (known c s)
+    known_told : (s : Location) → IsFree p made (known c s)
     known_told s = known_is p (IsFree p made) (free_simply p made) made c free s
 
     length_told : (d : ℕ) (m : Option Made) → IsFree p made (length_in d m)

@@ -13,7 +13,7 @@ use Rattle.aos_concurrency.specs.Sound.{Sound}
 use Rattle.aos_concurrency.specs.Traps.{turn_of}
 use Rattle.aos_concurrency.proofs.Handed.{hands_over}
 use Rattle.aos_concurrency.proofs.Matching.{execution_matches, happens_matches}
-use Rattle.aos_concurrency.proofs.Spots.{runs_there}
+use Rattle.aos_concurrency.proofs.LocalStates.{runs_there}
 use Rattle.aos_concurrency.proofs.Steps.{sound_always}
 use Rattle.aos_concurrency.proofs.Works.{runs_at}
 use Rattle.aos_typed.specs.Program.{Program}

@@ -2,8 +2,8 @@
 use Rattle.std.specs.Prelude.{◌≡◌, ℕ, [], ◌∷◌, Option, Some, false, slice_get}
 use Rattle.aos_base.specs.declared.kernel.LockName.{LockName}
 use Rattle.aos_base.specs.declared.kernel.LockName.TheVariants as lock
-use Rattle.aos_base.specs.declared.place.Root.{Root}
-use Rattle.aos_base.specs.declared.place.Root.TheVariants as root
+use Rattle.aos_base.specs.declared.root.Root.{Root}
+use Rattle.aos_base.specs.declared.root.Root.TheVariants as root
 use Rattle.aos_base.specs.Rooted.{Made}
 use Rattle.aos_types.specs.Content.{Content}
 use Rattle.aos_types.specs.World.{read}
@@ -14,7 +14,7 @@ use Rattle.aos_typed.specs.Value.{Value}
 use Rattle.aos_typed.specs.Source.{all_rooted}
 use Rattle.aos_uses.specs.declared.uses.Variable.TheVariants as variable
 use Rattle.aos_uses.specs.Guarded.{IsGuarded, IsLocal, is_of_module}
-use Rattle.aos_lasting.specs.Spots.{HasFields, field_of}
+use Rattle.aos_lasting.specs.Locations.{HasFields, field_of}
 
 -- part k of what stands below a root
 abbrev pub part_of : Store → Root → ℕ → Option (Content Value)

@@ -1,4 +1,4 @@
 pub mod Agree
 pub mod Example
 pub mod Lasts
-pub mod Spots
+pub mod Locations

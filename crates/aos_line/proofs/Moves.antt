@@ -18,22 +18,22 @@ use Rattle.aos_lock.specs.declared.locks.Locks.{Locks}
 use Rattle.aos_lock.specs.Waits.{numbers, count_of, owner_of, entrants_in, waiters_in, numbers_in, StandsFor, SameWaiting, Belong as LocksBelong}
 use Rattle.aos_lock.proofs.Rows.{entrants-without, waiters-without, entrants-append, waiters-append}
 use Rattle.aos_ready.specs.Order.{number_of as priority_number, ready_in, Belong as ReadyBelong}
-use Rattle.aos_line.specs.declared.place.Place.{Place}
-use Rattle.aos_line.specs.declared.place.Place.TheVariants.{Nowhere}
+use Rattle.aos_line.specs.declared.run_state.RunState.{RunState}
+use Rattle.aos_line.specs.declared.run_state.RunState.TheVariants.{Nowhere}
 use Rattle.aos_line.specs.declared.line.Line.{Line}
 use Rattle.aos_line.specs.declared.numbers.Numbers.{Numbers}
 use Rattle.aos_line.specs.Numbers.{number_of}
-use Rattle.aos_line.specs.Stands.{standing, anywhere, is_awake, of_worker, HasPlace, HasLock, Stands}
+use Rattle.aos_line.specs.Stands.{standing, anywhere, is_awake, of_worker, HasRunState, HasLock, Stands}
 use Rattle.aos_line.proofs.Members.{each_at, once_without, shorter, longer}
 use Rattle.aos_line.proofs.Readings.{standing-left, waiting-left, place-gone, place-other, standing-joined, waiting-joined, place-last, place-before, has_stands, nowhere, elsewhere, once_standing}
 
 -- the place of one activity has been set
-places_set : (places : List Place) (a : ℕ) (p : Place) (line line' : List Stand) → a < length places → HasPlace p (place_of line' a) → ((x : ℕ) → x ≢ a → place_of line' x ≡ place_of line x) →
-    ((x : ℕ) → HasPlace (get_or places x Nowhere) (place_of line x)) → (x : ℕ) → HasPlace (get_or (slice_set places a p) x Nowhere) (place_of line' x)
+places_set : (places : List RunState) (a : ℕ) (p : RunState) (line line' : List Stand) → a < length places → HasRunState p (place_of line' a) → ((x : ℕ) → x ≢ a → place_of line' x ≡ place_of line x) →
+    ((x : ℕ) → HasRunState (get_or places x Nowhere) (place_of line x)) → (x : ℕ) → HasRunState (get_or (slice_set places a p) x Nowhere) (place_of line' x)
 places_set places a p line line' within here same each x =
-    each_at (λ y. HasPlace (get_or (slice_set places a p) y Nowhere) (place_of line' y)) a
-    (subst (λ q. HasPlace q (place_of line' a)) (sym (get_or-set_same places a p Nowhere within)) here)
-    (λ y ne. subst (λ q. HasPlace q (place_of line' y)) (sym (get_or-set_other places a y p Nowhere ne)) (subst (λ o. HasPlace (get_or places y Nowhere) o) (sym (same y ne)) (each y)))
+    each_at (λ y. HasRunState (get_or (slice_set places a p) y Nowhere) (place_of line' y)) a
+    (subst (λ q. HasRunState q (place_of line' a)) (sym (get_or-set_same places a p Nowhere within)) here)
+    (λ y ne. subst (λ q. HasRunState q (place_of line' y)) (sym (get_or-set_other places a y p Nowhere ne)) (subst (λ o. HasRunState (get_or places y Nowhere) o) (sym (same y ne)) (each y)))
     x
 
 pub set_here : {A : Type 0} (xs : List A) (i : ℕ) (x : A) → i < length xs → slice_get (slice_set xs i x) i ≡ Some x
@@ -65,7 +65,7 @@ left_same l m a n same out =
       waiters = same.waiters ∙ sym (without-none a ws (λ i. out (Contains-append_right es ws a i)));
     }
 
-pub record Left (l m : Line) (a : ℕ) (was : book.Place) : Type 0 where
+pub record Left (l m : Line) (a : ℕ) (was : book.RunState) : Type 0 where
   pub within : a < length l.places.items
   pub places : m.places.items ≡ slice_set l.places.items a Nowhere
   pub live : suc m.live ≡ l.live
@@ -83,7 +83,7 @@ less_by : (q : Bool) (n m k : ℕ) → (if q then suc n else n) ≡ m → (if q 
 less_by true n m k e f = omega (arith, e, f)
 less_by false n m k e f = e ∙ sym f
 
-module _ (l m : Line) (a : ℕ) (was : book.Place) (line : List Stand) (owner owner' : LockName → Option ℕ) (h : Stands l line owner) (there : place_of line a ≡ Some was) (c : Left l m a was) (owned : (k : LockName) → OwnedBy m (number_of l.numbers k) (owner' k)) where
+module _ (l m : Line) (a : ℕ) (was : book.RunState) (line : List Stand) (owner owner' : LockName → Option ℕ) (h : Stands l line owner) (there : place_of line a ≡ Some was) (c : Left l m a was) (owned : (k : LockName) → OwnedBy m (number_of l.numbers k) (owner' k)) where
   left_lock : (k : LockName) (o : Option ℕ) → number_of l.numbers k ≡ o → HasLock l o (waiting k line) (owner k) → HasLock m o (waiting k (leave_line a line)) (owner' k)
   left_lock k None is had = (waiting-left k a line ∙ ap (waiting_without a) had.0, subst (λ o. OwnedBy m o (owner' k)) is (owned k))
   left_lock k (Some n) is had = (
@@ -101,7 +101,7 @@ module _ (l m : Line) (a : ℕ) (was : book.Place) (line : List Stand) (owner ow
       let all : standing anywhere (leave_line a line) ≡ without a (standing anywhere line) = standing-left anywhere a line in
       record {
         once = subst IsOnce (sym all) (once_without a (standing anywhere line) h.once);
-        places = subst (λ ps. (x : ℕ) → HasPlace (get_or ps x Nowhere) (place_of (leave_line a line) x)) (sym c.places)
+        places = subst (λ ps. (x : ℕ) → HasRunState (get_or ps x Nowhere) (place_of (leave_line a line) x)) (sym c.places)
             (places_set l.places.items a Nowhere line (leave_line a line) c.within (place-gone a line) (λ x ne. place-other a x line ne) h.places);
         live = (let one = shorter a (standing anywhere line) h.once inside in omega (arith, ap length all, one, h.live, c.live));
         awake = ap length (standing-left is_awake a line) ∙ less_by (is_awake was) (length (without a (standing is_awake line))) l.awake m.awake (awake_by (is_awake was) refl) c.awake;
@@ -136,10 +136,10 @@ joined_same l m n same = record {
   waiters = same.waiters ∙ sym (append_nil (waiters_in l.links l.locks n));
 }
 
-pub record Joined (l m : Line) (a : ℕ) (p : Place) (now : book.Place) : Type 0 where
+pub record Joined (l m : Line) (a : ℕ) (p : RunState) (now : book.RunState) : Type 0 where
   pub within : a < length l.places.items
   pub places : m.places.items ≡ slice_set l.places.items a p
-  pub is : HasPlace p (Some now)
+  pub is : HasRunState p (Some now)
   pub live : m.live ≡ suc l.live
   pub few : l.live < MOST_LIVE
   pub awake : m.awake ≡ (if is_awake now then suc l.awake else l.awake)
@@ -158,7 +158,7 @@ more_by : (q : Bool) (ns : List ℕ) (a : ℕ) → length (ns ++ (if q then a �
 more_by true ns a = longer a ns
 more_by false ns a = ap length (append_nil ns)
 
-module _ (l m : Line) (a : ℕ) (p : Place) (now : book.Place) (line : List Stand) (owner : LockName → Option ℕ) (h : Stands l line owner) (there : place_of line a ≡ None) (c : Joined l m a p now) where
+module _ (l m : Line) (a : ℕ) (p : RunState) (now : book.RunState) (line : List Stand) (owner : LockName → Option ℕ) (h : Stands l line owner) (there : place_of line a ≡ None) (c : Joined l m a p now) where
   abbrev after : List Stand
   after = line ++ record { activity = a; place = now } ∷ []
 
@@ -182,8 +182,8 @@ module _ (l m : Line) (a : ℕ) (p : Place) (now : book.Place) (line : List Stan
       let all : standing anywhere after ≡ standing anywhere line ++ a ∷ [] = standing-joined anywhere line s in
       record {
         once = subst IsOnce (sym all) (once-push (standing anywhere line) a h.once out);
-        places = subst (λ ps. (x : ℕ) → HasPlace (get_or ps x Nowhere) (place_of after x)) (sym c.places)
-            (places_set l.places.items a p line after c.within (subst (HasPlace p) (sym (place-last a now line there)) c.is) (λ x ne. place-before a x now line ne) h.places);
+        places = subst (λ ps. (x : ℕ) → HasRunState (get_or ps x Nowhere) (place_of after x)) (sym c.places)
+            (places_set l.places.items a p line after c.within (subst (HasRunState p) (sym (place-last a now line there)) c.is) (λ x ne. place-before a x now line ne) h.places);
         live = ap length all ∙ longer a (standing anywhere line) ∙ ap suc h.live ∙ sym c.live;
         awake = ap length (standing-joined is_awake line s) ∙ more_by (is_awake now) (standing is_awake line) a ∙ ap (λ n. if is_awake now then suc n else n) h.awake ∙ sym c.awake;
         few = omega (arith, c.few, c.live);

@@ -24,8 +24,8 @@ use Rattle.aos_lock.proofs.Rows.{passed_leaves}
 use Rattle.aos_lock.proofs.Owns.{heir_shown}
 use Rattle.aos_ready.specs.Order.{ready_in}
 use Rattle.aos_line.specs.declared.numbers.Numbers.{Numbers}
-use Rattle.aos_line.specs.declared.place.Place.{Place}
-use Rattle.aos_line.specs.declared.place.Place.TheVariants as place
+use Rattle.aos_line.specs.declared.run_state.RunState.{RunState}
+use Rattle.aos_line.specs.declared.run_state.RunState.TheVariants as place
 use Rattle.aos_line.specs.declared.line.Line.{Line}
 use Rattle.aos_line.specs.Numbers.{number_of}
 use Rattle.aos_line.specs.Stands.{of_worker, HasLock, Stands, left_by}
@@ -36,7 +36,7 @@ use Rattle.aos_line.proofs.Places.{lock_numbers, ready_place, none_ready}
 use Rattle.aos_line.proofs.Moves.{OwnedBy, stands_still, left_same, Left, LeftAt, joined_same, Joined, JoinedAt}
 
 -- a place at a lock is at that one alone
-at_one : (k : LockName) (p : book.Place) → at_lock k p ≡ true → (wants : Wants) × (p ≡ book.At k wants)
+at_one : (k : LockName) (p : book.RunState) → at_lock k p ≡ true → (wants : Wants) × (p ≡ book.At k wants)
 at_one k (book.On w) e = absurd (cc e)
 at_one k (book.Ready m) e = absurd (cc e)
 at_one k (book.At j wants) e =
@@ -119,7 +119,7 @@ module _ (l : Line) (line : List Stand) (owner : LockName → Option ℕ) (h : S
           ]
 
   -- one who stood nowhere waits for it, behind all others
-  pub joined_lock : (a : ℕ) (awaits : Bool) (wants : Wants) (links : Links) (locks : Locks) (places : Vec Place Global) (live : ℕ) → awaits ≡ not (enters wants) → place_of line a ≡ None → a < length l.places.items →
+  pub joined_lock : (a : ℕ) (awaits : Bool) (wants : Wants) (links : Links) (locks : Locks) (places : Vec RunState Global) (live : ℕ) → awaits ≡ not (enters wants) → place_of line a ≡ None → a < length l.places.items →
       entrants_in links locks n ≡ joined (not awaits) a (entrants_in l.links l.locks n) → waiters_in links locks n ≡ joined awaits a (waiters_in l.links l.locks n) → owner_of locks n ≡ owner_of l.locks n →
       KeepsLocks l.links l.locks links locks n → LocksBelong links locks → KeepsOthers l.links links (a ∷ numbers_in l.links l.locks n) → room_of links ≡ room_of l.links →
       places.items ≡ slice_set l.places.items a (place.At lock awaits) → l.live < MOST_LIVE → live ≡ suc l.live →
@@ -164,7 +164,7 @@ module _ (l : Line) (line : List Stand) (owner : LockName → Option ℕ) (h : S
       }
 
   -- its heir stands nowhere
-  pub left_lock : (b : ℕ) (passed : Passed) (links : Links) (locks : Locks) (places : Vec Place Global) (live : ℕ) (wants : Wants) → place_of line b ≡ Some (book.At lock wants) → b < length l.places.items →
+  pub left_lock : (b : ℕ) (passed : Passed) (links : Links) (locks : Locks) (places : Vec RunState Global) (live : ℕ) (wants : Wants) → place_of line b ≡ Some (book.At lock wants) → b < length l.places.items →
       new_owner passed ≡ Some b → entrants_in links locks n ≡ after_passed passed (entrants_in l.links l.locks n) → waiters_in links locks n ≡ after_passed passed (waiters_in l.links l.locks n) →
       KeepsLocks l.links l.locks links locks n → LocksBelong links locks → KeepsOthers l.links links (numbers_in l.links l.locks n) → room_of links ≡ room_of l.links →
       places.items ≡ slice_set l.places.items b place.Nowhere → suc live ≡ l.live → Left l (record l { links = links; locks = locks; places = places; live = live }) b (book.At lock wants)

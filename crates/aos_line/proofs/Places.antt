@@ -21,8 +21,8 @@ use Rattle.aos_lock.proofs.Changes.{still_belong, still_waiting}
 use Rattle.aos_ready.specs.declared.ready.Ready.{Ready}
 use Rattle.aos_ready.specs.Order.{number_of as priority_number, ready_in, all_ready, Belong as ReadyBelong}
 use Rattle.aos_ready.proofs.Changes.{which}
-use Rattle.aos_line.specs.declared.place.Place.{Place}
-use Rattle.aos_line.specs.declared.place.Place.TheVariants as place
+use Rattle.aos_line.specs.declared.run_state.RunState.{RunState}
+use Rattle.aos_line.specs.declared.run_state.RunState.TheVariants as place
 use Rattle.aos_line.specs.declared.line.Line.{Line}
 use Rattle.aos_line.specs.Numbers.{number_of}
 use Rattle.aos_line.specs.Stands.{standing, of_worker, HasLock, Stands}
@@ -69,7 +69,7 @@ number_differs High Normal ne = refl
 number_differs High High ne = absurd (ne refl)
 
 -- a place that is ready is neither a worker's nor at a lock
-ready_is : (n : ℕ) (p : book.Place) → is_ready n p ≡ true → p ≡ book.Ready n
+ready_is : (n : ℕ) (p : book.RunState) → is_ready n p ≡ true → p ≡ book.Ready n
 ready_is n (book.On w) e = absurd (cc e)
 ready_is n (book.Ready m) e = by_case (λ q. q ≡ true → book.Ready m ≡ book.Ready n) m n (λ s _. ap (λ k. book.Ready k) s) (λ ne f. absurd (cc f)) e
 ready_is n (book.At k wants) e = absurd (cc e)
@@ -112,7 +112,7 @@ module _ (l : Line) (line : List Stand) (owner : LockName → Option ℕ) (h : S
   not_ready x w at p i = let z = sym at ∙ ready_place p x i in absurd (cc z)
 
   -- an activity leaves its worker
-  pub left_worker : (a w : ℕ) (running : List (Option ℕ)) (places : Vec Place Global) (live awake : ℕ) → place_of line a ≡ Some (book.On w) → a < length l.places.items → running ≡ slice_set l.running w None → places.items ≡ slice_set l.places.items a place.Nowhere →
+  pub left_worker : (a w : ℕ) (running : List (Option ℕ)) (places : Vec RunState Global) (live awake : ℕ) → place_of line a ≡ Some (book.On w) → a < length l.places.items → running ≡ slice_set l.running w None → places.items ≡ slice_set l.places.items a place.Nowhere →
       suc live ≡ l.live → suc awake ≡ l.awake → Left l (record l { running = running; places = places; live = live; awake = awake }) a (book.On w)
   left_worker a w running places live awake at within is set one two = record {
     within = within;
@@ -141,7 +141,7 @@ module _ (l : Line) (line : List Stand) (owner : LockName → Option ℕ) (h : S
           ∙ sym (without-none a (of_worker (get_or l.running v None)) (λ i. elsewhere (is_on v) line a (book.On w) h.once at (differ w v (λ e. ne (sym e))) (subst (λ ns. Contains ns a) (sym (h.running v)) i)))
 
   -- the first ready one leaves its queue
-  pub left_ready : (a : ℕ) (p : Priority) (links : Links) (ready : Ready) (places : Vec Place Global) (live awake : ℕ) → place_of line a ≡ Some (book.Ready (priority_number p)) → a < length l.places.items →
+  pub left_ready : (a : ℕ) (p : Priority) (links : Links) (ready : Ready) (places : Vec RunState Global) (live awake : ℕ) → place_of line a ≡ Some (book.Ready (priority_number p)) → a < length l.places.items →
       ((q : Priority) → ready_in links ready q ≡ without a (ready_in l.links l.ready q)) → ReadyBelong links ready → KeepsOthers l.links links (all_ready l.links l.ready) → SameTable l.links links → places.items ≡ slice_set l.places.items a place.Nowhere →
       suc live ≡ l.live → suc awake ≡ l.awake → Left l (record l { links = links; ready = ready; places = places; live = live; awake = awake }) a (book.Ready (priority_number p))
   left_ready a p links ready places live awake at within lists belong keeps table set one two =
@@ -163,7 +163,7 @@ module _ (l : Line) (line : List Stand) (owner : LockName → Option ℕ) (h : S
       }
 
   -- one who stood nowhere stands on a worker
-  pub joined_worker : (a w : ℕ) (running : List (Option ℕ)) (places : Vec Place Global) (live awake : ℕ) → a < length l.places.items → w < length l.running → get_or l.running w None ≡ None → running ≡ slice_set l.running w (Some a) →
+  pub joined_worker : (a w : ℕ) (running : List (Option ℕ)) (places : Vec RunState Global) (live awake : ℕ) → a < length l.places.items → w < length l.running → get_or l.running w None ≡ None → running ≡ slice_set l.running w (Some a) →
       places.items ≡ slice_set l.places.items a (place.On w) → l.live < MOST_LIVE → live ≡ suc l.live → awake ≡ suc l.awake → Joined l (record l { running = running; places = places; live = live; awake = awake }) a (place.On w) (book.On w)
   joined_worker a w running places live awake within fits free is set few one two = record {
     within = within;
@@ -189,7 +189,7 @@ module _ (l : Line) (line : List Stand) (owner : LockName → Option ℕ) (h : S
   }
 
   -- one who stood nowhere is ready
-  pub joined_ready : (a : ℕ) (p : Priority) (links : Links) (ready : Ready) (places : Vec Place Global) (live awake : ℕ) → place_of line a ≡ None → a < length l.places.items → ready_in links ready p ≡ ready_in l.links l.ready p ++ a ∷ [] →
+  pub joined_ready : (a : ℕ) (p : Priority) (links : Links) (ready : Ready) (places : Vec RunState Global) (live awake : ℕ) → place_of line a ≡ None → a < length l.places.items → ready_in links ready p ≡ ready_in l.links l.ready p ++ a ∷ [] →
       ((q : Priority) → q ≢ p → ready_in links ready q ≡ ready_in l.links l.ready q) → ReadyBelong links ready → KeepsOthers l.links links (a ∷ ready_in l.links l.ready p) → SameTable l.links links → places.items ≡ slice_set l.places.items a (place.Ready p) →
       l.live < MOST_LIVE → live ≡ suc l.live → awake ≡ suc l.awake → Joined l (record l { links = links; ready = ready; places = places; live = live; awake = awake }) a (place.Ready p) (book.Ready (priority_number p))
   joined_ready a p links ready places live awake at within last lists belong keeps table set few one two =

@@ -4,7 +4,7 @@ use Rattle.std.specs.List.{Contains}
 use Rattle.std.specs.Prelude.{Bool, true, false, ◌==◌, ◌&&◌, not, if◌then◌else◌, Option, Some, None, is_some, slice_get}
 use Rattle.aos_base.specs.declared.kernel.LockName.{LockName}
 use Rattle.aos_base.specs.Lock.{Waiting, Wants, without as waiting_without}
-use Rattle.aos_base.specs.Book.{Place, Stand, first_at, is_at_lock, wanted, listed, waiting, place_of, all_at_locks, leave_line, move}
+use Rattle.aos_base.specs.Book.{RunState, Stand, first_at, is_at_lock, wanted, listed, waiting, place_of, all_at_locks, leave_line, move}
 use Rattle.aos_queue.specs.Lists.{IsOnce, without}
 use Rattle.aos_queue.proofs.Members.{here, there, among, none, differ}
 use Rattle.aos_lock.specs.Waits.{numbers}
@@ -19,7 +19,7 @@ left_step true false x a S T e h = ap (λ ns. x ∷ ns) h ∙ sym (ap (λ r. if 
 left_step false true x a S T e h = h
 left_step false false x a S T e h = h
 
-pub standing-left : (at : Place → Bool) (a : ℕ) (line : List Stand) → standing at (leave_line a line) ≡ without a (standing at line)
+pub standing-left : (at : RunState → Bool) (a : ℕ) (line : List Stand) → standing at (leave_line a line) ≡ without a (standing at line)
 standing-left at a [] = refl
 standing-left at a (s ∷ line) =
     elim (s.activity == a) as (λ r. standing at (if not r then s ∷ leave_line a line else leave_line a line) ≡ (if not r then (if at s.place then s.activity ∷ standing at (leave_line a line) else standing at (leave_line a line)) else standing at (leave_line a line))) [ true ↦ refl | false ↦ refl ]
@@ -52,7 +52,7 @@ place-other a x (s ∷ line) ne =
 
 -- One who has joined
 
-pub standing-joined : (at : Place → Bool) (line : List Stand) (s : Stand) → standing at (line ++ s ∷ []) ≡ standing at line ++ (if at s.place then s.activity ∷ [] else [])
+pub standing-joined : (at : RunState → Bool) (line : List Stand) (s : Stand) → standing at (line ++ s ∷ []) ≡ standing at line ++ (if at s.place then s.activity ∷ [] else [])
 standing-joined at [] s = refl
 standing-joined at (t ∷ line) s =
     elim (at t.place) as (λ q. (if q then t.activity ∷ standing at (line ++ s ∷ []) else standing at (line ++ s ∷ [])) ≡ (if q then t.activity ∷ standing at line else standing at line) ++ (if at s.place then s.activity ∷ [] else [])) [
@@ -68,30 +68,30 @@ waiting-joined k (t ∷ line) s =
       | Some w ↦ ap (λ es. let e : Waiting = record { activity = t.activity; wants = w } in e ∷ es) (waiting-joined k line s)
     ]
 
-pub place-last : (a : ℕ) (p : Place) (line : List Stand) → place_of line a ≡ None → place_of (line ++ record { activity = a; place = p } ∷ []) a ≡ Some p
-place-last a p [] none = by_case (λ q. ◌≡◌ {A = Option Place} (if q then Some p else None) (Some p)) a a (λ e. refl) (λ ne. absurd (ne refl))
+pub place-last : (a : ℕ) (p : RunState) (line : List Stand) → place_of line a ≡ None → place_of (line ++ record { activity = a; place = p } ∷ []) a ≡ Some p
+place-last a p [] none = by_case (λ q. ◌≡◌ {A = Option RunState} (if q then Some p else None) (Some p)) a a (λ e. refl) (λ ne. absurd (ne refl))
 place-last a p (s ∷ line) none =
     (elim (a == s.activity) as (λ q. (if q then Some s.place else place_of line a) ≡ None → (if q then Some s.place else place_of (line ++ record { activity = a; place = p } ∷ []) a) ≡ Some p) [
       | true ↦ λ e. absurd (cc e)
       | false ↦ λ e. place-last a p line e
     ]) none
 
-pub place-before : (a x : ℕ) (p : Place) (line : List Stand) → x ≢ a → place_of (line ++ record { activity = a; place = p } ∷ []) x ≡ place_of line x
-place-before a x p [] ne = by_case (λ q. ◌≡◌ {A = Option Place} (if q then Some p else None) None) x a (λ e. absurd (ne e)) (λ _. refl)
+pub place-before : (a x : ℕ) (p : RunState) (line : List Stand) → x ≢ a → place_of (line ++ record { activity = a; place = p } ∷ []) x ≡ place_of line x
+place-before a x p [] ne = by_case (λ q. ◌≡◌ {A = Option RunState} (if q then Some p else None) None) x a (λ e. absurd (ne e)) (λ _. refl)
 place-before a x p (s ∷ line) ne =
     elim (x == s.activity) as (λ q. (if q then Some s.place else place_of (line ++ record { activity = a; place = p } ∷ []) x) ≡ (if q then Some s.place else place_of line x)) [ true ↦ refl | false ↦ place-before a x p line ne ]
 
 -- One who has moved
 
-pub place-moved : (a : ℕ) (p : Place) (line : List Stand) → place_of (move a p line) a ≡ Some p
+pub place-moved : (a : ℕ) (p : RunState) (line : List Stand) → place_of (move a p line) a ≡ Some p
 place-moved a p line = place-last a p (leave_line a line) (place-gone a line)
 
-pub place-unmoved : (a x : ℕ) (p : Place) (line : List Stand) → x ≢ a → place_of (move a p line) x ≡ place_of line x
+pub place-unmoved : (a x : ℕ) (p : RunState) (line : List Stand) → x ≢ a → place_of (move a p line) x ≡ place_of line x
 place-unmoved a x p line ne = place-before a x p (leave_line a line) ne ∙ place-other a x line ne
 
 -- Who stands where
 
-pub within_line : (at : Place → Bool) (line : List Stand) (x : ℕ) → Contains (standing at line) x → Contains (standing anywhere line) x
+pub within_line : (at : RunState → Bool) (line : List Stand) (x : ℕ) → Contains (standing at line) x → Contains (standing anywhere line) x
 within_line at [] x i = i
 within_line at (s ∷ line) x i =
     (elim (at s.place) as (λ q. Contains (if q then s.activity ∷ standing at line else standing at line) x → Contains (s.activity ∷ standing anywhere line) x) [
@@ -102,7 +102,7 @@ within_line at (s ∷ line) x i =
       | false ↦ λ j. there s.activity x (standing anywhere line) (within_line at line x j)
     ]) i
 
-pub once_standing : (at : Place → Bool) (line : List Stand) → IsOnce (standing anywhere line) → IsOnce (standing at line)
+pub once_standing : (at : RunState → Bool) (line : List Stand) → IsOnce (standing anywhere line) → IsOnce (standing at line)
 once_standing at [] h = tt
 once_standing at (s ∷ line) h =
     elim (at s.place) as (λ q. IsOnce (if q then s.activity ∷ standing at line else standing at line)) [
@@ -110,7 +110,7 @@ once_standing at (s ∷ line) h =
       | false ↦ once_standing at line h.1
     ]
 
-pub fewer_standing : (at : Place → Bool) (line : List Stand) → length (standing at line) ≤ length (standing anywhere line)
+pub fewer_standing : (at : RunState → Bool) (line : List Stand) → length (standing at line) ≤ length (standing anywhere line)
 fewer_standing at [] = omega arith
 fewer_standing at (s ∷ line) =
     let rest = fewer_standing at line in
@@ -121,12 +121,12 @@ later : (s : Stand) (line : List Stand) (x : ℕ) → IsOnce (standing anywhere 
 later s line x once i =
     by_case (λ q. (if q then Some s.place else place_of line x) ≡ place_of line x) x s.activity (λ e. absurd (once.0 (subst (λ k. Contains (standing anywhere line) k) e i))) (λ _. refl)
 
-pub stands_has : (at : Place → Bool) (line : List Stand) (x : ℕ) → IsOnce (standing anywhere line) → Contains (standing at line) x → (p : Place) × (place_of line x ≡ Some p) × (at p ≡ true)
+pub stands_has : (at : RunState → Bool) (line : List Stand) (x : ℕ) → IsOnce (standing anywhere line) → Contains (standing at line) x → (p : RunState) × (place_of line x ≡ Some p) × (at p ≡ true)
 stands_has at [] x once i = absurd (none x i)
 stands_has at (s ∷ line) x once i =
-    let rest : Contains (standing at line) x → (p : Place) × (place_of (s ∷ line) x ≡ Some p) × (at p ≡ true) =
+    let rest : Contains (standing at line) x → (p : RunState) × (place_of (s ∷ line) x ≡ Some p) × (at p ≡ true) =
     λ k. (let r = stands_has at line x once.1 k in (r.0, later s line x once (within_line at line x k) ∙ r.1, r.2)) in
-    (elim (at s.place) as (λ q. at s.place ≡ q → Contains (if q then s.activity ∷ standing at line else standing at line) x → (p : Place) × (place_of (s ∷ line) x ≡ Some p) × (at p ≡ true)) [
+    (elim (at s.place) as (λ q. at s.place ≡ q → Contains (if q then s.activity ∷ standing at line else standing at line) x → (p : RunState) × (place_of (s ∷ line) x ≡ Some p) × (at p ≡ true)) [
       | true ↦ λ is j. elim (among s.activity x (standing at line) j) [
         | inl e ↦ (s.place, by_case (λ q. (if q then Some s.place else place_of line x) ≡ Some s.place) x s.activity (λ _. refl) (λ ne. absurd (ne (sym e))), is)
         | inr k ↦ rest k
@@ -134,7 +134,7 @@ stands_has at (s ∷ line) x once i =
       | false ↦ λ is j. rest j
     ]) refl i
 
-pub has_stands : (at : Place → Bool) (line : List Stand) (x : ℕ) (p : Place) → place_of line x ≡ Some p → at p ≡ true → Contains (standing at line) x
+pub has_stands : (at : RunState → Bool) (line : List Stand) (x : ℕ) (p : RunState) → place_of line x ≡ Some p → at p ≡ true → Contains (standing at line) x
 has_stands at [] x p e h = absurd (cc e)
 has_stands at (s ∷ line) x p e h =
     (by_case (λ q. (if q then Some s.place else place_of line x) ≡ Some p → Contains (standing at (s ∷ line)) x) x s.activity
@@ -146,7 +146,7 @@ has_stands at (s ∷ line) x p e h =
     elim (at s.place) as (λ q. Contains (if q then s.activity ∷ standing at line else standing at line) x) [ true ↦ there s.activity x (standing at line) i | false ↦ i ])) e
 
 -- one who stands elsewhere, or nowhere, isn't among them
-pub elsewhere : (at : Place → Bool) (line : List Stand) (x : ℕ) (p : Place) → IsOnce (standing anywhere line) → place_of line x ≡ Some p → at p ≡ false → Contains (standing at line) x → ⊥
+pub elsewhere : (at : RunState → Bool) (line : List Stand) (x : ℕ) (p : RunState) → IsOnce (standing anywhere line) → place_of line x ≡ Some p → at p ≡ false → Contains (standing at line) x → ⊥
 elsewhere at line x p once is out i =
     let r = stands_has at line x once i in
     let z : Some r.0 ≡ Some p = sym r.1 ∙ is in
@@ -154,14 +154,14 @@ elsewhere at line x p once is out i =
     let t : true ≡ false = sym r.2 ∙ ap at same ∙ out in
     absurd (cc t)
 
-pub nowhere : (at : Place → Bool) (line : List Stand) (x : ℕ) → IsOnce (standing anywhere line) → place_of line x ≡ None → Contains (standing at line) x → ⊥
+pub nowhere : (at : RunState → Bool) (line : List Stand) (x : ℕ) → IsOnce (standing anywhere line) → place_of line x ≡ None → Contains (standing at line) x → ⊥
 nowhere at line x once is i =
     let r = stands_has at line x once i in
     let z : Some r.0 ≡ None = sym r.1 ∙ is in
     absurd (cc z)
 
 -- who waits for a lock stands at it
-abbrev pub at_lock : LockName → Place → Bool
+abbrev pub at_lock : LockName → RunState → Bool
 at_lock k p = is_some (wanted k p)
 
 numbers_step : (w : Option Wants) (x : ℕ) (es : List Waiting) (ns : List ℕ) → numbers es ≡ ns → numbers (listed w x es) ≡ (if is_some w then x ∷ ns else ns)
@@ -178,7 +178,7 @@ pub length_standing : (line : List Stand) → length (standing anywhere line) �
 length_standing [] = refl
 length_standing (s ∷ line) = ap suc (length_standing line)
 
-pub first_standing : (at : Place → Bool) (line : List Stand) → first_at at line ≡ slice_get (standing at line) 0
+pub first_standing : (at : RunState → Bool) (line : List Stand) → first_at at line ≡ slice_get (standing at line) 0
 first_standing at [] = refl
 first_standing at (s ∷ line) =
     elim (at s.place) as (λ q. (if q then Some s.activity else first_at at line) ≡ slice_get (if q then s.activity ∷ standing at line else standing at line) 0) [ true ↦ refl | false ↦ first_standing at line ]

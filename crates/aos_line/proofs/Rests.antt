@@ -15,28 +15,28 @@ use Rattle.aos_lock.proofs.Changes.{still_belong, still_waiting}
 use Rattle.aos_ready.specs.declared.ready.Ready.{Ready}
 use Rattle.aos_ready.specs.Order.{ready_in, all_ready, Belong as ReadyBelong}
 use Rattle.aos_line.specs.declared.numbers.Numbers.{Numbers}
-use Rattle.aos_line.specs.declared.place.Place.{Place}
-use Rattle.aos_line.specs.declared.place.Place.TheVariants.{Nowhere}
+use Rattle.aos_line.specs.declared.run_state.RunState.{RunState}
+use Rattle.aos_line.specs.declared.run_state.RunState.TheVariants.{Nowhere}
 use Rattle.aos_line.specs.declared.line.Line.{Line}
 use Rattle.aos_line.specs.Numbers.{number_of}
-use Rattle.aos_line.specs.Stands.{HasPlace, HasLock, Stands}
+use Rattle.aos_line.specs.Stands.{HasRunState, HasLock, Stands}
 use Rattle.aos_line.proofs.Members.{by_case}
 use Rattle.aos_line.proofs.Shares.{ready_kept, ready_belong}
 use Rattle.aos_line.proofs.Moves.{stands_still}
 use Rattle.aos_line.proofs.Places.{ready_within, ready_idle}
 
 -- a place more, where nobody stands
-one_place : (ps : List Place) (x : ℕ) → get_or (ps ++ Nowhere ∷ []) x Nowhere ≡ get_or ps x Nowhere
+one_place : (ps : List RunState) (x : ℕ) → get_or (ps ++ Nowhere ∷ []) x Nowhere ≡ get_or ps x Nowhere
 one_place [] zero = refl
 one_place [] (suc x) = refl
 one_place (p ∷ ps) zero = refl
 one_place (p ∷ ps) (suc x) = one_place ps x
 
-pub place_added : (ps : List Place) → slice_get (ps ++ Nowhere ∷ []) (length ps) ≡ Some Nowhere
+pub place_added : (ps : List RunState) → slice_get (ps ++ Nowhere ∷ []) (length ps) ≡ Some Nowhere
 place_added [] = refl
 place_added (p ∷ ps) = place_added ps
 
-more_places : (ps : List Place) → length (ps ++ Nowhere ∷ []) ≡ suc (length ps)
+more_places : (ps : List RunState) → length (ps ++ Nowhere ∷ []) ≡ suc (length ps)
 more_places [] = refl
 more_places (p ∷ ps) = ap suc (more_places ps)
 
@@ -49,12 +49,12 @@ absent a (s ∷ line) none =
 
 module _ (l : Line) (line : List Stand) (owner : LockName → Option ℕ) (h : Stands l line owner) where
   -- more numbers are reserved
-  pub reserved : (links : Links) (places : Vec Place Global) → KeepsOthers l.links links [] → ((n : ℕ) → mark_of links n ≡ mark_of l.links n) → room_of l.links ≤ room_of links → places.items ≡ l.places.items → Stands (record l { links = links; places = places }) line owner
+  pub reserved : (links : Links) (places : Vec RunState Global) → KeepsOthers l.links links [] → ((n : ℕ) → mark_of links n ≡ mark_of l.links n) → room_of l.links ≤ room_of links → places.items ≡ l.places.items → Stands (record l { links = links; places = places }) line owner
   reserved links places keeps marks room same =
       let idle : (x : ℕ) → Contains [] x → WaitsNowhere l.links l.locks x = λ x i. absurd (none x i) in
       record {
         once = h.once;
-        places = subst (λ ps. (x : ℕ) → HasPlace (get_or ps x Nowhere) (place_of line x)) (sym same) h.places;
+        places = subst (λ ps. (x : ℕ) → HasRunState (get_or ps x Nowhere) (place_of line x)) (sym same) h.places;
         live = h.live;
         awake = h.awake;
         few = h.few;
@@ -73,10 +73,10 @@ module _ (l : Line) (line : List Stand) (owner : LockName → Option ℕ) (h : S
       waits_same k (Some n) had = (had.0, stands_still l.links links l.locks l.locks n (waiting k line) (still_waiting l.links links l.locks [] keeps h.waits (λ x i. absurd (none x i)) marks n) had.1, had.2)
 
   -- a place more, where nobody stands
-  pub placed : (places : Vec Place Global) → places.items ≡ l.places.items ++ Nowhere ∷ [] → length l.places.items < room_of l.links → Stands (record l { places = places }) line owner
+  pub placed : (places : Vec RunState Global) → places.items ≡ l.places.items ++ Nowhere ∷ [] → length l.places.items < room_of l.links → Stands (record l { places = places }) line owner
   placed places is room = record {
     once = h.once;
-    places = λ x. subst (λ ps. HasPlace (get_or ps x Nowhere) (place_of line x)) (sym is) (subst (λ p. HasPlace p (place_of line x)) (sym (one_place l.places.items x)) (h.places x));
+    places = λ x. subst (λ ps. HasRunState (get_or ps x Nowhere) (place_of line x)) (sym is) (subst (λ p. HasRunState p (place_of line x)) (sym (one_place l.places.items x)) (h.places x));
     live = h.live;
     awake = h.awake;
     few = h.few;

@@ -13,10 +13,10 @@ use Rattle.aos_base.specs.Book as book
 use Rattle.aos_base.specs.Book.{Stand, first_at, or_next, is_on, is_ready, on_worker, first_ready, waiting, place_of, all_at_locks, outcome_of}
 use Rattle.aos_queue.proofs.Members.{differ}
 use Rattle.aos_ready.specs.Order.{number_of as priority_number, ready_in, all_ready}
-use Rattle.aos_line.specs.declared.place.Place.{Place}
-use Rattle.aos_line.specs.declared.place.Place.TheVariants.{Nowhere, On, Ready, At}
+use Rattle.aos_line.specs.declared.run_state.RunState.{RunState}
+use Rattle.aos_line.specs.declared.run_state.RunState.TheVariants.{Nowhere, On, Ready, At}
 use Rattle.aos_line.specs.declared.line.Line.{Line}
-use Rattle.aos_line.specs.Stands.{standing, anywhere, is_awake, of_worker, places_of, started_of, HasPlace, HasLock, Stands, StandsSame, IsOn, outcome_by}
+use Rattle.aos_line.specs.Stands.{standing, anywhere, is_awake, of_worker, places_of, started_of, HasRunState, HasLock, Stands, StandsSame, IsOn, outcome_by}
 use Rattle.aos_line.specs.Numbers.{number_of}
 use Rattle.aos_line.proofs.Members.{by_case, first_within, shorter}
 use Rattle.aos_line.proofs.Moves.{OwnedBy}
@@ -25,13 +25,13 @@ use Rattle.aos_line.proofs.Readings.{first_standing, length_standing, all_at_sta
 
 -- by what is kept of a place
 
-kept_on : (p : Place) (w : ℕ) → HasPlace p (Some (book.On w)) → p ≡ On w
+kept_on : (p : RunState) (w : ℕ) → HasRunState p (Some (book.On w)) → p ≡ On w
 kept_on Nowhere w e = absurd (cc e)
 kept_on (On v) w e = let z : w ≡ v = cc e in ap (λ x. On x) (sym z)
 kept_on (Ready q) w e = absurd (cc e)
 kept_on (At l awaits) w (wants, e, f) = absurd (cc e)
 
-on_by : (w : ℕ) (p : book.Place) → is_on w p ≡ true → p ≡ book.On w
+on_by : (w : ℕ) (p : book.RunState) → is_on w p ≡ true → p ≡ book.On w
 on_by w (book.On v) e = by_case (λ q. q ≡ true → book.On v ≡ book.On w) v w (λ s _. ap (λ x. book.On x) s) (λ ne f. absurd (cc f)) e
 on_by w (book.Ready n) e = absurd (cc e)
 on_by w (book.At l wants) e = absurd (cc e)
@@ -64,14 +64,14 @@ outcome_counts (s ∷ line) spent =
     ∙ ap (λ z. if z then Ended else if is_some spent then Spent else if length (standing is_awake (s ∷ line)) == 0 then Dead else Going) (sym (differ (suc (length line)) 0 (λ e. absurd (cc e))))
 
 module _ (l : Line) (line : List Stand) (owner : LockName → Option ℕ) (h : Stands l line owner) where
-  pub place_is : (a : ℕ) (p : Place) → slice_get l.places.items a ≡ Some p → HasPlace p (place_of line a)
-  place_is a p at = subst (λ q. HasPlace q (place_of line a)) (get_or_from_slice_get l.places.items a p Nowhere at) (h.places a)
+  pub place_is : (a : ℕ) (p : RunState) → slice_get l.places.items a ≡ Some p → HasRunState p (place_of line a)
+  place_is a p at = subst (λ q. HasRunState q (place_of line a)) (get_or_from_slice_get l.places.items a p Nowhere at) (h.places a)
 
   -- one who stands somewhere was started
-  pub place_known : (a : ℕ) (p : book.Place) → place_of line a ≡ Some p → a < length l.places.items
+  pub place_known : (a : ℕ) (p : book.RunState) → place_of line a ≡ Some p → a < length l.places.items
   place_known a p at = elim (cases_lt a (length l.places.items)) [
     | inl less ↦ less
-    | inr past ↦ (let none : place_of line a ≡ None = subst (λ q. HasPlace q (place_of line a)) (get_or_past l.places.items a Nowhere past) (h.places a) in
+    | inr past ↦ (let none : place_of line a ≡ None = subst (λ q. HasRunState q (place_of line a)) (get_or_past l.places.items a Nowhere past) (h.places a) in
         let z : Some p ≡ None = sym at ∙ none in absurd (cc z))
   ]
 
@@ -103,13 +103,13 @@ module _ (l : Line) (line : List Stand) (owner : LockName → Option ℕ) (h : S
 
   -- who wasn't started stands nowhere
   pub unstarted : (a : ℕ) → length l.places.items ≤ a → place_of line a ≡ None
-  unstarted a past = subst (λ q. HasPlace q (place_of line a)) (get_or_past l.places.items a Nowhere past) (h.places a)
+  unstarted a past = subst (λ q. HasRunState q (place_of line a)) (get_or_past l.places.items a Nowhere past) (h.places a)
 
   -- one who stands somewhere is counted
-  pub live_some : (a : ℕ) (p : book.Place) → place_of line a ≡ Some p → 1 ≤ l.live
+  pub live_some : (a : ℕ) (p : book.RunState) → place_of line a ≡ Some p → 1 ≤ l.live
   live_some a p there = let e = shorter a (standing anywhere line) h.once (has_stands anywhere line a p there refl) in omega (arith, e, h.live)
 
-  pub awake_some : (a : ℕ) (p : book.Place) → place_of line a ≡ Some p → is_awake p ≡ true → 1 ≤ l.awake
+  pub awake_some : (a : ℕ) (p : book.RunState) → place_of line a ≡ Some p → is_awake p ≡ true → 1 ≤ l.awake
   awake_some a p there wakes = let e = shorter a (standing is_awake line) (once_standing is_awake line h.once) (has_stands is_awake line a p there wakes) in omega (arith, e, h.awake)
 
   pub awake_few : l.awake ≤ l.live
@@ -131,7 +131,7 @@ module _ (l : Line) (line : List Stand) (owner : LockName → Option ℕ) (h : S
       let inside : Contains (standing (is_on w) line) a = first_within (standing (is_on w) line) a (sym (first_standing (is_on w) line) ∙ at) in
       let r = stands_has (is_on w) line a h.once inside in
       let there : place_of line a ≡ Some (book.On w) = r.1 ∙ ap (λ p. Some p) (on_by w r.0 r.2) in
-      let kept = kept_on (get_or l.places.items a Nowhere) w (subst (HasPlace (get_or l.places.items a Nowhere)) there (h.places a)) in
+      let kept = kept_on (get_or l.places.items a Nowhere) w (subst (HasRunState (get_or l.places.items a Nowhere)) there (h.places a)) in
       record {
         stood = record { line = line; owner = owner; stands = h };
         worker = w;

@@ -15,21 +15,21 @@ use Rattle.aos_lock.specs.declared.lock.Passed.{Passed}
 use Rattle.aos_lock.specs.declared.lock.Passed.TheVariants.{Waiter, Entrant, Free}
 use Rattle.aos_lock.specs.Waits.{count_of, owner_of, StandsFor, Belong as LocksBelong}
 use Rattle.aos_ready.specs.Order.{number_of as priority_number, ready_in, Belong as ReadyBelong}
-use Rattle.aos_line.specs.declared.place.Place.{Place}
-use Rattle.aos_line.specs.declared.place.Place.TheVariants.{Nowhere, On, Ready, At}
+use Rattle.aos_line.specs.declared.run_state.RunState.{RunState}
+use Rattle.aos_line.specs.declared.run_state.RunState.TheVariants.{Nowhere, On, Ready, At}
 use Rattle.aos_line.specs.declared.line.Line.{Line}
 use Rattle.aos_line.specs.Numbers.{number_of}
 
 -- those whose place passes a test, in their order
-abbrev pub standing : (book.Place → Bool) → List Stand → List ℕ
+abbrev pub standing : (book.RunState → Bool) → List Stand → List ℕ
 standing at [] = []
 standing at (s ∷ line) = if at s.place then s.activity ∷ standing at line else standing at line
 
-abbrev pub anywhere : book.Place → Bool
+abbrev pub anywhere : book.RunState → Bool
 anywhere p = true
 
 -- ready, or on a worker
-abbrev pub is_awake : book.Place → Bool
+abbrev pub is_awake : book.RunState → Bool
 is_awake p = not (is_at_lock p)
 
 -- the activity of a worker, as a list
@@ -38,7 +38,7 @@ of_worker None = []
 of_worker (Some a) = a ∷ []
 
 -- where each activity that was started stands, as it is kept
-abbrev pub places_of : Line → List Place
+abbrev pub places_of : Line → List RunState
 places_of l = l.places.items
 
 -- how many activities have been started
@@ -54,11 +54,11 @@ abbrev pub running_of : Line → ℕ → Option ℕ
 running_of l w = get_or l.running w None
 
 -- where an activity stands, as it is kept; the number of a condition is not
-abbrev pub HasPlace : Place → Option book.Place → Type 0
-HasPlace Nowhere p = p ≡ None
-HasPlace (On w) p = p ≡ Some (book.On w)
-HasPlace (Ready q) p = p ≡ Some (book.Ready (priority_number q))
-HasPlace (At l awaits) p = (wants : Wants) × (p ≡ Some (book.At l wants)) × (awaits ≡ not (enters wants))
+abbrev pub HasRunState : RunState → Option book.RunState → Type 0
+HasRunState Nowhere p = p ≡ None
+HasRunState (On w) p = p ≡ Some (book.On w)
+HasRunState (Ready q) p = p ≡ Some (book.Ready (priority_number q))
+HasRunState (At l awaits) p = (wants : Wants) × (p ≡ Some (book.At l wants)) × (awaits ≡ not (enters wants))
 
 -- a lock, by its number: it stands for those who wait, its entrants and its waiters each in their order, and has this owner. For one
 -- without a number nobody waits
@@ -70,7 +70,7 @@ HasLock l (Some n) es owner =
 -- the line, and the owners of locks
 pub record Stands (l : Line) (line : List Stand) (owner : LockName → Option ℕ) : Type 0 where
   pub once : IsOnce (standing anywhere line)
-  pub places : (x : ℕ) → HasPlace (get_or l.places.items x Nowhere) (place_of line x)
+  pub places : (x : ℕ) → HasRunState (get_or l.places.items x Nowhere) (place_of line x)
   pub live : length (standing anywhere line) ≡ l.live
   pub awake : length (standing is_awake line) ≡ l.awake
   pub few : l.live ≤ MOST_LIVE
@@ -120,7 +120,7 @@ abbrev pub Moved : Line → Line → (List Stand → List Stand) → Type 0
 Moved old new f = (line : List Stand) (owner : LockName → Option ℕ) → Stands old line owner → Stands new (f line) owner
 
 -- one more stands behind all others
-abbrev pub with_last : ℕ → book.Place → List Stand → List Stand
+abbrev pub with_last : ℕ → book.RunState → List Stand → List Stand
 with_last a place line = line ++ record { activity = a; place = place } ∷ []
 
 -- whatever was shown is shown

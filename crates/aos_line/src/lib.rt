@@ -4,7 +4,7 @@
 mod line;
 mod locks;
 mod numbers;
-mod place;
+mod run_state;
 
 pub use line::{Line, WORKERS};
-pub use place::Place;
+pub use run_state::RunState;

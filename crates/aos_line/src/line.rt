@@ -5,10 +5,10 @@ ghost use Rattle.aos_base.specs.declared.limits.TheConstants.{MOST_LIVE, MOST_ST
 ghost use Rattle.aos_base.specs.declared.kernel.LockName.{LockName};
 ghost use Rattle.aos_base.specs.Book.{Stand, on_worker, first_ready, outcome_of, place_of as place_in, leave_line, move, On, Ready as IsReady};
 ghost use Rattle.aos_ready.specs.Order.{number_of as priority_number};
-ghost use Rattle.aos_line.specs.Stands.{places_of, started_of, live_of, running_of, HasPlace, Stands, IsStood, IsOn, IsNowhere, OfLine, Moved, with_last, StandsSame, HasRoomMore, outcome_by as outcome_for};
+ghost use Rattle.aos_line.specs.Stands.{places_of, started_of, live_of, running_of, HasRunState, Stands, IsStood, IsOn, IsNowhere, OfLine, Moved, with_last, StandsSame, HasRoomMore, outcome_by as outcome_for};
 
 use crate::numbers::Numbers;
-use crate::place::Place;
+use crate::run_state::RunState;
 use aos_base::{NoMemory, Outcome, Priority};
 use aos_lock::Locks;
 use aos_queue::Links;
@@ -27,18 +27,18 @@ pub struct Line {
     pub(crate) locks: Locks,
     pub(crate) numbers: Numbers,
     pub(crate) running: [Option<u32>; WORKERS],
-    pub(crate) places: Vec<Place>,
+    pub(crate) places: Vec<RunState>,
     pub(crate) live: usize,
     pub(crate) awake: usize,
 }
 
 /// The place under a number.
-fn place_at(places: &[Place], activity: u32) -> Place
-    ensures { result ≡ get_or places.now activity Place.Nowhere }
+fn place_at(places: &[RunState], activity: u32) -> RunState
+    ensures { result ≡ get_or places.now activity RunState.Nowhere }
 {
     match places.get(activity as usize) {
         Some(place) => *place,
-        None => Place::Nowhere,
+        None => RunState::Nowhere,
     }
 }
 
@@ -98,9 +98,9 @@ impl Line {
     }
 
     /// Where an activity stands.
-    pub fn place(&self, activity: u32) -> Place
+    pub fn place(&self, activity: u32) -> RunState
         ensures { (line : List Stand) (owner : LockName → Option ℕ) →
-            Stands self.now line owner → HasPlace result (place_in line activity) }
+            Stands self.now line owner → HasRunState result (place_in line activity) }
     {
         place_at(&self.places, activity)
     }
@@ -140,7 +140,7 @@ impl Line {
         ensures started { started_of self.new ≡ suc (started_of self.old) }
     {
         let number = self.places.len() as u32;
-        self.places.push_reserved(Place::Nowhere);
+        self.places.push_reserved(RunState::Nowhere);
         self.wake(number, priority);
     }
 
@@ -153,9 +153,9 @@ impl Line {
         ensures numbers { self.new.numbers ≡ self.old.numbers }
         ensures started { started_of self.new ≡ started_of self.old }
     {
-        if let Place::On(worker) = self.places[activity as usize] {
+        if let RunState::On(worker) = self.places[activity as usize] {
             self.running[worker as usize] = None;
-            self.places[activity as usize] = Place::Nowhere;
+            self.places[activity as usize] = RunState::Nowhere;
             self.live -= 1;
             self.awake -= 1;
         }
@@ -167,11 +167,11 @@ impl Line {
         ensures stands { Moved self.old self.new
             (with_last activity (IsReady (priority_number priority))) }
         ensures places { places_of self.new ≡
-            slice_set (places_of self.old) activity (Place.Ready priority) }
+            slice_set (places_of self.old) activity (RunState.Ready priority) }
         ensures started { started_of self.new ≡ started_of self.old }
     {
         self.ready.add(&mut self.links, activity, priority);
-        self.places[activity as usize] = Place::Ready(priority);
+        self.places[activity as usize] = RunState::Ready(priority);
         self.live += 1;
         self.awake += 1;
     }
@@ -202,7 +202,7 @@ impl Line {
         match self.ready.next(&mut self.links) {
             None => None,
             Some(activity) => {
-                self.places[activity as usize] = Place::Nowhere;
+                self.places[activity as usize] = RunState::Nowhere;
                 self.live -= 1;
                 self.awake -= 1;
                 Some(activity)
@@ -219,7 +219,7 @@ impl Line {
         ensures started { started_of self.new ≡ started_of self.old }
     {
         self.running[worker as usize] = Some(activity);
-        self.places[activity as usize] = Place::On(worker);
+        self.places[activity as usize] = RunState::On(worker);
         self.live += 1;
         self.awake += 1;
     }

@@ -10,7 +10,7 @@ ghost use Rattle.aos_line.specs.Numbers.{number_of};
 ghost use Rattle.aos_line.specs.Stands.{started_of, Stands, IsStood, IsOn, IsNowhere, with_last, StandsSame, HasEntered, left_by};
 
 use crate::line::Line;
-use crate::place::Place;
+use crate::run_state::RunState;
 use aos_base::{LockName, NoMemory};
 use aos_lock::{Entered, Passed, Test};
 
@@ -45,7 +45,7 @@ impl Line {
         ensures started { started_of self.new ≡ started_of self.old }
     {
         self.locks.join(&mut self.links, number, activity, awaits);
-        self.places[activity as usize] = Place::At { lock, awaits };
+        self.places[activity as usize] = RunState::At { lock, awaits };
         self.live += 1;
     }
 
@@ -117,7 +117,7 @@ impl Line {
         };
         let passed = self.locks.leave(&mut self.links, number, test);
         if let Some(heir) = passed.owner() {
-            self.places[heir as usize] = Place::Nowhere;
+            self.places[heir as usize] = RunState::Nowhere;
             self.live -= 1;
         }
         passed

@@ -1,8 +1,8 @@
 -- Whoever builds an object after a turn was inside of its NEW before, or has made it in this turn.
 use Rattle.std.proofs.Common.{◌≤◌, arith, ◌≡◌, ◌⊎◌, inl, inr, ℕ, suc, List, [], ◌∷◌, ◌++◌, length, true, false, Option, Some, None, refl, sym, ap, ◌∙◌, subst}
 use Rattle.std.specs.Prelude.{if◌then◌else◌, nat_eq}
-use Rattle.aos_base.specs.declared.place.Root.{Root}
-use Rattle.aos_base.specs.declared.place.Root.TheVariants.{Frame as FrameRoot, Module as ModuleRoot, Object as ObjectRoot}
+use Rattle.aos_base.specs.declared.root.Root.{Root}
+use Rattle.aos_base.specs.declared.root.Root.TheVariants.{Frame as FrameRoot, Module as ModuleRoot, Object as ObjectRoot}
 use Rattle.aos_base.specs.Question.{Upward, ByCreator, ByValue, ByType, ByName, Manner, Val, Asks, Traps, bind, feed, Initially, Reads, Stores, ComparesTexts, Copies, PutsText, Calls, Ends, Makes, Starts, Enters, Leaves, Awaits, PutsInt, PutsChar, PutsString, PutsNothing, PutsLn, Places, Lengths, Opens, Sizes, Tests}
 use Rattle.aos_base.specs.Rooted.{by_number, Made, change_from_last}
 use Rattle.aos_types.specs.Content.{first_content, Content, Scalar, Empty, Row}

@@ -1,6 +1,6 @@
 -- After a turn nobody but whoever builds an object names it.
 use Rattle.std.proofs.Common.{◌⊎◌, true, refl, ◌≢◌, ◌≤◌, arith, ◌≡◌, inl, inr, ℕ, List, [], ◌∷◌, Option, Some, None, sym, ap, ◌∙◌, subst}
-use Rattle.aos_base.specs.declared.place.Root.{Root}
+use Rattle.aos_base.specs.declared.root.Root.{Root}
 use Rattle.aos_base.specs.Question.{ByCreator, Upward, ByValue, ByType, ByName, Manner, Asks, Initially, Calls, Makes}
 use Rattle.aos_base.specs.Rooted.{Made, by_number}
 use Rattle.aos_types.specs.Content.{Content}

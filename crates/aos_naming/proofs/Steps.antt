@@ -4,8 +4,8 @@ use Rattle.std.specs.Prelude.{if◌then◌else◌, nat_eq, nat_le, pos, ◌&&◌
 use Rattle.std.proofs.lemmas.Bool.{leb-true}
 use Rattle.aos_typed.specs.Numbers.{procedure_number}
 use Rattle.aos_base.specs.declared.kernel.Did.{Did}
-use Rattle.aos_base.specs.declared.place.Root.{Root}
-use Rattle.aos_base.specs.declared.place.Root.TheVariants.{Frame as FrameRoot, Module as ModuleRoot, Object as ObjectRoot}
+use Rattle.aos_base.specs.declared.root.Root.{Root}
+use Rattle.aos_base.specs.declared.root.Root.TheVariants.{Frame as FrameRoot, Module as ModuleRoot, Object as ObjectRoot}
 use Rattle.aos_base.specs.Question.{Val, Asks, feed, Manner, ByName, ByType, Upward, Initially, ByCreator, ByValue, Reads, Stores, ComparesTexts, Copies, PutsText, Calls, Ends, Makes, Starts, Enters, Leaves, Awaits, PutsInt, PutsChar, PutsString, PutsNothing, PutsLn, Places, Lengths, Opens, Sizes, Tests}
 use Rattle.aos_base.specs.Rooted.{Made, by_number, change_from_last}
 use Rattle.aos_types.specs.Content.{Content, Scalar}

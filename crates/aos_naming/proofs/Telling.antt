@@ -20,7 +20,7 @@ use Rattle.aos_typed.specs.declared.tree.TType.TheVariants as type
 use Rattle.aos_typed.specs.Methods.{method_in, method_number}
 use Rattle.aos_typed.specs.Numbers.{id_of, id_of_made, procedure_number}
 use Rattle.aos_typed.specs.Program.{Place, ModuleVar, Local, Passed, Field, Index, Of, Deref, Typed, Guarded, Rows, Known, Opened, Row, Spread, Longer, Arguments, NoMore, Scalar, Whole, Opening, Callee, Plain, Dispatched, Upper, Through, Expr, Lit, SelfRef, Read, Unary, Binary, And, Or, Element, Ord, Chr, CompareTexts, Len, LenBehind, Function, Same, Is, IsRecord, Guard, ProcedureOf, MethodOf, SameProcedure, Had, Parameter, Procedure, Program}
-use Rattle.aos_typed.specs.Spot.{Spot}
+use Rattle.aos_typed.specs.Location.{Location}
 use Rattle.aos_typed.specs.Value.{Value, Int, Flag, Char, Set, Object, Callable, Place as PlaceValue, Sort, Integer, Boolean, Character, Elements, literal_value, value_as, given, unary_sort, binary_sort, is_true, number_of}
 use Rattle.aos_typed.specs.WellTyped.{IsPlaceOf, IsObjectAt, IsArrayOf, IsConstantText, AreRows, AreArguments, IsCalled, IsOf, IsNamed as IsProcedureNamed, is_procedural, procedure_in, taken}
 use Rattle.aos_sim.proofs.Operators.{operands_suit}
@@ -40,7 +40,7 @@ pub record Plainly (p : Program) (C : Value → Type 0) : Type 0 where
   pub flag : (b : Bool) → C (Flag b)
   pub char : (c : ℕ) → C (Char c)
   pub set : (s : ℕ) → C (Set s)
-  pub place : (s : Spot) → C (PlaceValue s)
+  pub place : (s : Location) → C (PlaceValue s)
   pub nil : C (Object 0)
   pub none : C (Callable 0 0)
   pub procedure : (m k : ℕ) (q : Procedure) → procedure_in p m k ≡ Some q → C (Callable (procedure_number p m k) 0)
@@ -175,7 +175,7 @@ module _ (p : Program) (names : HasNames p) (n : ℕ) (here : Here) (C : Value �
 
   -- Pieces of designators.
 
-  element_tells : (n : ℕ) (v : Value) (s : Spot) → Says Any (element_of n v s)
+  element_tells : (n : ℕ) (v : Value) (s : Location) → Says Any (element_of n v s)
   element_tells n v s = by (natural n (number_of v)) refl
     where
       by : (o : Option ℕ) → natural n (number_of v) ≡ o → Says Any (element_of n v s)
@@ -186,7 +186,7 @@ module _ (p : Program) (names : HasNames p) (n : ℕ) (here : Here) (C : Value �
   abbrev pub FoundIs : Found → Type 0
   FoundIs x = AllAre C x.lengths
 
-  row_tells : (s : Spot) (ns : List Value) (v : Value) → AllAre C ns → Says FoundIs (row_at (record { place = s; lengths = ns }) v)
+  row_tells : (s : Location) (ns : List Value) (v : Value) → AllAre C ns → Says FoundIs (row_at (record { place = s; lengths = ns }) v)
   row_tells s [] v h = tt
   row_tells s (n ∷ ns) v h = tells_bind Any FoundIs (element_of (unsigned_abs (number_of n)) v s) _ (element_tells (unsigned_abs (number_of n)) v s) (λ x y. h.1)
 
@@ -225,7 +225,7 @@ module _ (p : Program) (names : HasNames p) (n : ℕ) (here : Here) (C : Value �
   opened_tells : (k j : ℕ) → Says FoundIs (opened p here k j)
   opened_tells k j = (tt, λ x c. tells_bind (AllAre C) FoundIs (lengths_from p here k 0 j) _ (lengths_tell k 0 j) (λ ns h. h))
 
-  record_tells : (s : Spot) (t : ℕ) → Says Any (record_guarded p.types s t)
+  record_tells : (s : Location) (t : ℕ) → Says Any (record_guarded p.types s t)
   record_tells s t = by (has_type p.types s t)
     where
       by : (b : Bool) → Says Any (if b then Val s else Traps 3 0)

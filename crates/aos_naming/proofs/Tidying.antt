@@ -25,7 +25,7 @@ use Rattle.aos_sim.proofs.Regions.{IsAt}
 use Rattle.aos_handover.specs.Kinds.{MakesNone, IsAsking}
 use Rattle.aos_naming.proofs.Saying.{asks_says, text_are}
 use Rattle.aos_naming.proofs.Values.{all_more}
-use Rattle.aos_concurrency.specs.Spot.{GoesPast}
+use Rattle.aos_concurrency.specs.LocalState.{GoesPast}
 use Rattle.aos_base.specs.Question.{Initially, Calls, Asks, Starts, Awaits}
 use Rattle.aos_typed.specs.Numbers.{body_number}
 

@@ -1,8 +1,8 @@
 -- Facts on values, of all that stands below roots: what is read is such a value where all are, and what is stored leaves all such.
 use Rattle.std.proofs.Common.{◌≡◌, ℕ, ℤ, zero, suc, List, [], ◌∷◌, ◌++◌, Bool, true, false, Option, Some, None, subst}
 use Rattle.std.specs.Prelude.{◌+◌, if◌then◌else◌, nat_eq, length, map, take, drop, pos, slice_get, option_and_then}
-use Rattle.aos_base.specs.declared.place.Root.{Root}
-use Rattle.aos_base.specs.declared.place.Root.TheVariants.{Frame as FrameRoot, Module as ModuleRoot, Object as ObjectRoot}
+use Rattle.aos_base.specs.declared.root.Root.{Root}
+use Rattle.aos_base.specs.declared.root.Root.TheVariants.{Frame as FrameRoot, Module as ModuleRoot, Object as ObjectRoot}
 use Rattle.aos_base.specs.Rooted.{Made, Rooted, from_last, by_number, change_at, change_by_number, change_from_last}
 use Rattle.aos_base.specs.Question.{Val, Asks, Traps, Reads, Stores, Copies, PutsText, ComparesTexts, Calls, Ends, Makes, Starts, Enters, Leaves, Awaits, PutsInt, PutsChar, PutsString, PutsNothing, PutsLn, Places, Lengths, Opens, Sizes, Tests}
 use Rattle.aos_types.specs.declared.row.Basic.TheVariants as basic
@@ -20,7 +20,7 @@ use Rattle.aos_typed.specs.Open.{open_dimensions, open_element}
 use Rattle.aos_typed.specs.Program.{Parameter, Variable as TypedVariable, Program}
 use Rattle.aos_typed.specs.Routines.{Routine, has_self, locals_of, parameters_of}
 use Rattle.aos_typed.specs.Sort.{variable_shape, Sort, Plain, Variable, Alias, Elements, Length}
-use Rattle.aos_typed.specs.Spot.{Spot}
+use Rattle.aos_typed.specs.Location.{Location}
 use Rattle.aos_typed.specs.Text.{with_text}
 use Rattle.aos_typed.specs.Value.{Value, Int, Flag, Char, Set, Object, Callable, Place}
 use Rattle.aos_typed.specs.Store.{Store, scalar_in, value_at, store_with}
@@ -208,7 +208,7 @@ module _ (p : Program) (C : Value → Type 0) (simple : Simply C) where
   scalar_is (Some Empty) h = simple.int (pos 0)
   scalar_is (Some (Row a b)) h = simple.int (pos 0)
 
-  pub value_is : (a : Spot) (fs : List Frame) (s : Store) → VariablesAre C fs → StoreIs C s → C (value_at a (all_rooted fs s))
+  pub value_is : (a : Location) (fs : List Frame) (s : Store) → VariablesAre C fs → StoreIs C s → C (value_at a (all_rooted fs s))
   value_is a fs s h k = scalar_is (read a.root a.path (all_rooted fs s)) (read_is C a.root a.path fs s h k)
 
   pub text_is : (cs : List ℕ) (c : Content Value) → ContentIs C c → ContentIs C (with_text cs c)
@@ -249,14 +249,14 @@ module _ (p : Program) (C : Value → Type 0) (simple : Simply C) where
 
   -- what is known at once of the frame's own variables, and of objects
   module _ (made : ℕ → Option Made) (c : Content Value) (h : ContentIs C c) where
-    pub known_is : (s : Spot) → C (known c s)
+    pub known_is : (s : Location) → C (known c s)
     known_is s = scalar_is (found s.path c) (found_is C s.path c h)
 
     pub length_is : (d : ℕ) (m : Option Made) → C (length_in d m)
     length_is d None = simple.int (pos 0)
     length_is d (Some m) = simple.int _
 
-    module _ (place : (s : Spot) → C (Place s)) where
+    module _ (place : (s : Location) → C (Place s)) where
       pub noted_are : {A : Type 0} (d : Doing A) → AllAre C (noted p.types made c d)
       noted_are (Val a) = tt
       noted_are (Traps n code) = tt
@@ -319,7 +319,7 @@ module _ (p : Program) (C : Value → Type 0) (simple : Simply C) where
     pub content_is : (v : Value) → ContentIs C (content_at p.types here (all_rooted fs s) v)
     content_is v = or_empty_is (read (place_in v).root (place_in v).path (all_rooted fs s)) (read_is C (place_in v).root (place_in v).path fs s h k)
 
-    module _ (place : (s : Spot) → C (Place s)) where
+    module _ (place : (s : Location) → C (Place s)) where
       handed_are : (ps : List Parameter) (vs : List Value) (copy : ℕ) → AllAre C vs → HandedIs (handed p.types here (all_rooted fs s) ps vs copy)
       handed_are [] vs copy cs = (tt, tt)
       handed_are (a ∷ ps) vs copy cs = by (is_open (type_row p.types (id_of a.of))) a.by_reference (is_scalar (type_row p.types (id_of a.of))) (λ n c. handed_are ps (drop n vs) c (all_dropped C n vs cs))
@@ -364,7 +364,7 @@ module _ (p : Program) (C : Value → Type 0) (simple : Simply C) where
   locals_are [] following = tt
   locals_are (v ∷ vs) following = (first_is C (first_value p) _ sort_begins, locals_are vs following)
 
-  pub called_is : (place : (s : Spot) → C (Place s)) (following : List ℕ) (r : Routine) (vs : List Value) (fs : List Frame) (s : Store) → AllAre C (arguments_in (has_self r.own) vs) → VariablesAre C fs → StoreIs C s → ContentIs C (called_frame p following r vs fs s).variables
+  pub called_is : (place : (s : Location) → C (Place s)) (following : List ℕ) (r : Routine) (vs : List Value) (fs : List Frame) (s : Store) → AllAre C (arguments_in (has_self r.own) vs) → VariablesAre C fs → StoreIs C s → ContentIs C (called_frame p following r vs fs s).variables
   called_is place following r vs fs s cs h k =
       let locals = map (local_part p following) (locals_of r.own) in
       let copy = length (parameters_of r.own) + length locals in

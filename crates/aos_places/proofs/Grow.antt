@@ -3,8 +3,8 @@ use Rattle.std.proofs.Common.{◌≡◌, ℕ, zero, suc, ◌<◌, List, [], ◌�
 use Rattle.std.specs.Prelude.{option_and_then, option_map, slice_get, Bool, true, false, nat_eq, if◌then◌else◌}
 use Rattle.std.proofs.lemmas.List.{map-append}
 use Rattle.std.proofs.lemmas.Bool.{eqb-true}
-use Rattle.aos_base.specs.declared.place.Root.{Root}
-use Rattle.aos_base.specs.declared.place.Root.TheVariants.{Frame, Module, Object}
+use Rattle.aos_base.specs.declared.root.Root.{Root}
+use Rattle.aos_base.specs.declared.root.Root.TheVariants.{Frame, Module, Object}
 use Rattle.aos_base.specs.Rooted.{Made, from_last, by_number}
 use Rattle.aos_types.specs.Shape.{Shape, One, Nothing, Pair, inside, offset, number_of}
 use Rattle.aos_types.specs.Content.{Content, Scalar, Empty, Row, flatten, Fits, EachSort}

@@ -5,7 +5,7 @@ use Rattle.std.specs.Prelude.{option_and_then, option_map, slice_get}
 use Rattle.std.proofs.Math.Seq.{take-append_seam, take-append-add, drop-append_seam, drop-append-add}
 use Rattle.std.proofs.lemmas.List.{map-append, length-map, take-append-le, take-append-drop, length-take-le}
 use Rattle.std.proofs.Math.ListN.{drop_of_length-le}
-use Rattle.aos_base.specs.declared.place.Root.{Root}
+use Rattle.aos_base.specs.declared.root.Root.{Root}
 use Rattle.aos_base.specs.Rooted.{Made, Rooted, at_root, change_root, spliced, load, load_all, store_all, copy_all}
 use Rattle.aos_types.specs.Shape.{Shape, One, Nothing, Pair, inside, offset, number_of, size, join}
 use Rattle.aos_types.specs.Content.{Content, Scalar, Empty, Row, flatten, found, placed, overlay, Fits, EachSort}

@@ -2,7 +2,7 @@
 use Rattle.std.proofs.Common.{◌≡◌, ℕ, ◌+◌, List, ◌++◌, length, map, take, Some, refl, sym, ap, ◌∙◌, arith}
 use Rattle.std.proofs.Math.Seq.{take-append-add}
 use Rattle.std.proofs.lemmas.List.{map-append, length-map, take_all}
-use Rattle.aos_base.specs.declared.place.Root.{Root}
+use Rattle.aos_base.specs.declared.root.Root.{Root}
 use Rattle.aos_base.specs.Rooted.{Made, Rooted, load_all}
 use Rattle.aos_types.specs.Shape.{Shape, One, Nothing, Pair, size, join}
 use Rattle.aos_types.specs.Content.{Content, Scalar, Empty, Row, flatten, cut, Fits}

@@ -6,7 +6,7 @@ use Rattle.std.specs.Option.{unwrap_or}
 use Rattle.std.proofs.lemmas.Option.{slice_get-map}
 use Rattle.aos_base.specs.declared.number.Width.TheVariants.{W16, W32, W64}
 use Rattle.aos_base.specs.declared.operator.Binary.TheVariants.{SetSpan}
-use Rattle.aos_base.specs.declared.place.Root.TheVariants.{Module as ModuleRoot}
+use Rattle.aos_base.specs.declared.root.Root.TheVariants.{Module as ModuleRoot}
 use Rattle.aos_base.specs.declared.operator.Unary.TheVariants.{Range}
 use Rattle.aos_base.specs.Operators.{binary as binary_of, unary as unary_of}
 use Rattle.aos_base.specs.Question.{Val, Traps, bind, ByName, Upward}
@@ -26,7 +26,7 @@ use Rattle.aos_typed.specs.Open.{open_dimensions}
 use Rattle.aos_typed.specs.Program.{Place, ModuleVar, Local, Passed, Field, Index, Of as Behind, Deref, Typed as Named, Guarded, Rows, Known, Opened, Row, Spread, Longer, Arguments, NoMore, Scalar, Whole, Opening, Callee, Plain as PlainCall, Dispatched, Upper, Through, Expr, Lit, SelfRef, Read, Unary, Binary, And, Or, Element, Ord, Chr, CompareTexts, Len, LenBehind, Function, Same, Is as IsOfType, IsRecord, Guard, ProcedureOf, MethodOf, SameProcedure, Had, Parameter, Procedure, Program}
 use Rattle.aos_typed.specs.Routines.{self_type}
 use Rattle.aos_typed.specs.Sort.{Sort, Plain, Variable, Alias, variable_shape}
-use Rattle.aos_typed.specs.Spot.{Spot, OfModule}
+use Rattle.aos_typed.specs.Location.{Location, OfModule}
 use Rattle.aos_typed.specs.Typing.{Extends, Is, IsPlain, nested}
 use Rattle.aos_typed.specs.Value.{Value, Int, Flag, Object, Place as PlaceValue, Character, binary_sort, is_true, literal_value, number_of, ord, unary_sort}
 use Rattle.aos_typed.specs.WellTyped.{AreArguments, AreRows, Fits, HaveLengths, Includes, IsArrayOf, IsByValue, IsCalled, IsConstantText, IsFilled, IsGiven, IsLength, IsNamed, IsObjectAt, IsOf, IsOpening, IsPlaceOf, NamesType, is_basic, is_procedural, is_value, is_whole, taken}
@@ -69,7 +69,7 @@ module _ (p : Program) (typed : HasTypes p) (w : World Sort) (own : Option Proce
   Names q t = NamesType p own q t
 
   -- a variable of a scalar is one
-  pub scalar_found : (named : Type 0) (t : TType) (s : Spot) → is_value p.types t ≡ true → IsFound p w named t s → HasScalar p w s (Plain (id_of t))
+  pub scalar_found : (named : Type 0) (t : TType) (s : Location) → is_value p.types t ≡ true → IsFound p w named t s → HasScalar p w s (Plain (id_of t))
   scalar_found named t s value f =
       f.there ∙ ap (λ z. Some z) (holds_exactly p typed (id_of t) f.shape (value_no_record p typed.predeclared t value) f.holds ∙ value_is_one p typed.predeclared t value)
 
@@ -86,7 +86,7 @@ module _ (p : Program) (typed : HasTypes p) (w : World Sort) (own : Option Proce
   names_record (Guarded q k) t h = h
 
   -- a record whose type is tested
-  guard_place : (named : Type 0) (u : TType) (k : ℕ) (s : Spot) → named → is_record (row_of p.types (id_of (type.Named k))) ≡ true → IsFound p w named u s → Ok (IsFound p w (is_record (row_of p.types (id_of (type.Named k))) ≡ true) (type.Named k)) (record_guarded p.types s k)
+  guard_place : (named : Type 0) (u : TType) (k : ℕ) (s : Location) → named → is_record (row_of p.types (id_of (type.Named k))) ≡ true → IsFound p w named u s → Ok (IsFound p w (is_record (row_of p.types (id_of (type.Named k))) ≡ true) (type.Named k)) (record_guarded p.types s k)
   guard_place named u k s name is f = by (has_type p.types s k) refl
     where
       by : (b : Bool) → has_type p.types s k ≡ b → Ok (IsFound p w (is_record (row_of p.types (id_of (type.Named k))) ≡ true) (type.Named k)) (record_guarded p.types s k)
@@ -130,7 +130,7 @@ module _ (p : Program) (typed : HasTypes p) (w : World Sort) (own : Option Proce
       is_handled (is_open (row_of p.types t)) a.by_reference (is_scalar (row_of p.types t)) false false true t (v ∷ []) by_value.0 by_value.1 (value_scalar p typed.predeclared a.of value) (v, refl, is)
 
   -- a variable, by its place
-  whole_given : (a : Parameter) (q : Place) (u : TType) → IsGiven p own a q u → (s : Spot) → IsFound p w (Names q u) u s → HandlesFor p w a (PlaceValue s ∷ [])
+  whole_given : (a : Parameter) (q : Place) (u : TType) → IsGiven p own a q u → (s : Location) → IsFound p w (Names q u) u s → HandlesFor p w a (PlaceValue s ∷ [])
   whole_given a q u given s is = by given
     where
       one : Bool
@@ -158,7 +158,7 @@ module _ (p : Program) (typed : HasTypes p) (w : World Sort) (own : Option Proce
   filled_typed : (a : Parameter) (q : Place) → IsFilled p own a q → Ok (λ s. HandlesFor p w a (PlaceValue s ∷ [])) (place_of p here q)
   filled_typed a (ModuleVar h k) f =
       let t = id_of a.of in
-      let s : Spot = record { root = ModuleRoot h; path = k ∷ []; type = 0; of = OfModule h k } in
+      let s : Location = record { root = ModuleRoot h; path = k ∷ []; type = 0; of = OfModule h k } in
       let begins = filled_begins p typed t f.0 f.1 f.3 f.4 in
       is_handled (is_open (row_of p.types t)) a.by_reference (is_scalar (row_of p.types t)) false false false t (PlaceValue s ∷ []) f.2.0 f.2.1 (no_scalar (row_of p.types t) (ap is_whole f.3))
       (s, refl, (begins.0, constant_there p w known.modules h k f.1 f.5 ∙ ap (λ z. Some z) begins.1, begins.2))

@@ -2,7 +2,7 @@
 -- next, and what it gives is of the routine's type.
 use Rattle.std.proofs.Common.{◌≡◌, ℕ, List, [], ◌∷◌, ◌++◌, length, map, true, false, Option, Some, None, sym, ap, ◌∙◌, subst}
 use Rattle.std.specs.Prelude.{if◌then◌else◌, is_some}
-use Rattle.aos_base.specs.declared.place.Root.TheVariants.{Object as ObjectRoot}
+use Rattle.aos_base.specs.declared.root.Root.TheVariants.{Object as ObjectRoot}
 use Rattle.aos_base.specs.Question.{Val, Asks, feed}
 use Rattle.aos_base.specs.Rooted.{Made, by_number}
 use Rattle.aos_types.specs.Content.{Fits}

@@ -7,7 +7,7 @@ use Rattle.aos_base.specs.Rooted.{Made, by_number}
 use Rattle.aos_base.specs.declared.kernel.Did.{Did}
 use Rattle.aos_base.specs.declared.kernel.Did.TheVariants.{Went, Ended, Enter, Leave, Start, Await, Trapped}
 use Rattle.aos_concurrency.specs.Regions.{KeepsFits, KeepsRegions, Outside}
-use Rattle.aos_concurrency.specs.Spot.{GoesPast}
+use Rattle.aos_concurrency.specs.LocalState.{GoesPast}
 use Rattle.aos_types.specs.Extension.{comes_to}
 use Rattle.aos_types.specs.Shape.{Nothing}
 use Rattle.aos_types.proofs.Tables.{comes_on}

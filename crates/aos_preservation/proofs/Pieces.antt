@@ -6,7 +6,7 @@ use Rattle.std.proofs.lemmas.List.Elements.{All-tail}
 use Rattle.std.proofs.lemmas.Option.{slice_get-map}
 use Rattle.aos_base.specs.declared.operator.Given.{Given as Gives}
 use Rattle.aos_base.specs.declared.operator.Given.TheVariants.{Number, Trap, Undefined}
-use Rattle.aos_base.specs.declared.place.Root.TheVariants.{Frame as FrameRoot, Object as ObjectRoot}
+use Rattle.aos_base.specs.declared.root.Root.TheVariants.{Frame as FrameRoot, Object as ObjectRoot}
 use Rattle.aos_base.specs.Operators.{natural}
 use Rattle.aos_base.specs.Question.{Val, Traps, bind, ask, Manner, ByType, ByValue, Calls, Opens, Tests}
 use Rattle.aos_base.specs.Rooted.{Made, by_number}
@@ -25,7 +25,7 @@ use Rattle.aos_typed.specs.Open.{open_dimensions, open_element}
 use Rattle.aos_typed.specs.Program.{Opened, Parameter, Procedure, Program}
 use Rattle.aos_typed.specs.Routines.{routine_of, routines}
 use Rattle.aos_typed.specs.Sort.{Sort, Plain, Variable, Alias, Elements, Length, variable_shape}
-use Rattle.aos_typed.specs.Spot.{Spot}
+use Rattle.aos_typed.specs.Location.{Location}
 use Rattle.aos_typed.specs.Typing.{Extends, HasLengths, Is, IsCalledBy, IsInstance, StandsFor, nested}
 use Rattle.aos_typed.specs.Value.{Value, Int, Flag, Object, Callable, Sort as Kind, given, number_of, is_true}
 use Rattle.aos_typed.specs.WellTyped.{HaveLengths, IsByReference, IsLength, IsOpening, IsParameter, IsProcedural, is_basic, is_reference, procedure_in, target}
@@ -36,7 +36,7 @@ use Rattle.aos_sim.proofs.Designators.{element_there, natural_below, no_element}
 use Rattle.aos_sim.proofs.Does.{Given, HasScalar, HasTypes, IsAnswer, IsCalledOn, IsObject, IsPlaceSort, IsSelf, Knows, alias_sort}
 use Rattle.aos_sim.proofs.Extended.{rows_made}
 use Rattle.aos_sim.proofs.Methods.{formals_twice}
-use Rattle.aos_sim.proofs.Objects.{object_target, open_lengths, spot_of}
+use Rattle.aos_sim.proofs.Objects.{object_target, open_lengths, location_of}
 use Rattle.aos_sim.proofs.Parts.{part_of_row, row_part, shape_on}
 use Rattle.aos_sim.proofs.References.{IsMadeAs, a_callable, comes_same, from_pattern, made_reference, nil_or, of_target, some_object, to_any, to_pattern, to_target}
 use Rattle.aos_sim.proofs.Results.{Agrees}
@@ -76,7 +76,7 @@ module _ (p : Program) (typed : HasTypes p) (w : World Sort) (own : Option Proce
 
   -- Places.
 
-  pub element_typed : (n : ℕ) (v : Value) (s : Spot) (R : Spot → Type 0) → ((j : ℕ) → j < n → R (part_of j s)) → Ok R (element_of n v s)
+  pub element_typed : (n : ℕ) (v : Value) (s : Location) (R : Location → Type 0) → ((j : ℕ) → j < n → R (part_of j s)) → Ok R (element_of n v s)
   element_typed n v s R f = by (natural n (number_of v)) refl
     where
       by : (o : Option ℕ) → natural n (number_of v) ≡ o → Ok R (element_of n v s)
@@ -162,7 +162,7 @@ module _ (p : Program) (typed : HasTypes p) (w : World Sort) (own : Option Proce
       let same = one_object w (Object (suc o)) told.0 m told.1 (object_of o m there) in
       (told.2 ∙ ap (λ z. object_place (suc o) (Some z)) same, told.3 ∙ ap (λ z. Some (made_shape p.types z)) same)
 
-  pub dereferenced_typed : (P : Spot → Type 0) (u : TType) (b : TypeId) → target p.types u ≡ Some b → ((o : ℕ) (m : Made) → comes_to p.types (id_of_made m.type) b ≡ true → w.shape (ObjectRoot o) ≡ Some (made_shape p.types m) → P (spot_of o m)) → (v : Value) → Of u v → Ok P (dereferenced v)
+  pub dereferenced_typed : (P : Location → Type 0) (u : TType) (b : TypeId) → target p.types u ≡ Some b → ((o : ℕ) (m : Made) → comes_to p.types (id_of_made m.type) b ≡ true → w.shape (ObjectRoot o) ≡ Some (made_shape p.types m) → P (location_of o m)) → (v : Value) → Of u v → Ok P (dereferenced v)
   dereferenced_typed P u b to so v is = by (nil_or p w (Extends p b) v (of_target p w u b v to is))
     where
       by : (v ≡ Object 0) ⊎ IsMadeAs p w (Extends p b) v → Ok P (dereferenced v)
@@ -203,14 +203,14 @@ module _ (p : Program) (typed : HasTypes p) (w : World Sort) (own : Option Proce
           let same = rows_made p typed m u a.is opens in
           let l = open_lengths p m (row_of p.types (id_of_made m.type)) (ap (λ x. is_open (row_of p.types x)) same ∙ opens) a.lengths in
           let long : length m.lengths ≡ j = l.0 ∙ ap (open_dimensions p.types) same ∙ sym many in
-          let spot : Spot = record (spot_of (suc o) m) { type = 0 } in
+          let location : Location = record (location_of (suc o) m) { type = 0 } in
           subst (λ z. Ok (AreFound p w (Unit {0}) j t) (spread z j)) (sym object.is) (
             (m, object_of o m object.made),
             λ z told.
                 let x = opens_so o m object.made z told in
                 subst (λ q. Ok (AreFound p w (Unit {0}) j t) (bind (sizes_from (Object (suc o)) 0 j) (λ ns. found (record (place_in q) { type = 0 }) ns))) (sym x.0)
-                (subst (λ n. Ok (AreFound p w (Unit {0}) n t) (bind (sizes_from (Object (suc o)) 0 n) (λ ns. found spot ns))) long
-                (typed_bind p w here (λ vs. vs ≡ map (λ n. Int (pos n)) m.lengths) (AreFound p w (Unit {0}) (length m.lengths) t) (sizes_from (Object (suc o)) 0 (length m.lengths)) (λ ns. found spot ns)
+                (subst (λ n. Ok (AreFound p w (Unit {0}) n t) (bind (sizes_from (Object (suc o)) 0 n) (λ ns. found location ns))) long
+                (typed_bind p w here (λ vs. vs ≡ map (λ n. Int (pos n)) m.lengths) (AreFound p w (Unit {0}) (length m.lengths) t) (sizes_from (Object (suc o)) 0 (length m.lengths)) (λ ns. found location ns)
                 (sizes_typed o m object.made m.lengths 0 (λ i. let n : i ≡ 0 + i = omega arith in ap (slice_get m.lengths) n) (omega arith))
                 (λ vs h. record { lengths = m.lengths; are = h; many = refl; at = opened_found p w typed (suc o) m x.1 u t same opens element; bound = λ b. l.1 }))),
           )

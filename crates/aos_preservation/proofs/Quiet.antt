@@ -1,7 +1,7 @@
 -- Questions that are answered at once get answers of their sorts: the frame's own variables fit their shape, and what objects are made as is known.
 use Rattle.std.proofs.Common.{◌≡◌, ℕ, List, Some, sym, ap, ◌∙◌, subst}
 use Rattle.std.specs.Prelude.{option_and_then, option_map}
-use Rattle.aos_base.specs.declared.place.Root.TheVariants.{Frame as FrameRoot, Object as ObjectRoot}
+use Rattle.aos_base.specs.declared.root.Root.TheVariants.{Frame as FrameRoot, Object as ObjectRoot}
 use Rattle.aos_base.specs.Question.{Val, Asks, Traps, bind, Reads, Stores, Copies, PutsText, ComparesTexts, Calls, Ends, Makes, Starts, Enters, Leaves, Awaits, PutsInt, PutsChar, PutsString, PutsNothing, PutsLn, Places, Lengths, Opens, Sizes, Tests}
 use Rattle.aos_base.specs.Rooted.{Made, by_number}
 use Rattle.aos_types.specs.Content.{Content, Scalar, Empty, Row, Fits, found}
@@ -12,7 +12,7 @@ use Rattle.aos_places.proofs.Zoom.{zoomed}
 use Rattle.aos_typed.specs.Numbers.{id_of_made}
 use Rattle.aos_typed.specs.Program.{Program}
 use Rattle.aos_typed.specs.Sort.{Sort, Length}
-use Rattle.aos_typed.specs.Spot.{Spot}
+use Rattle.aos_typed.specs.Location.{Location}
 use Rattle.aos_typed.specs.Store.{scalar_in}
 use Rattle.aos_typed.specs.Typing.{Is}
 use Rattle.aos_typed.specs.Value.{Value, Flag}
@@ -28,7 +28,7 @@ made_shaped p made shapes o m e = ap (option_map (made_shape p.types)) e
 
 module _ (p : Program) (w : World Sort) (here : Here) (s : Shape Sort) (c : Content Value) (at : w.shape (FrameRoot here.below) ≡ Some s) (fits : Fits (Is p w) s c) (objects : (o : ℕ) (m : Made) → w.made o ≡ Some m → w.shape (ObjectRoot o) ≡ Some (made_shape p.types m)) where
   -- a scalar of the frame
-  known_is : (a : Spot) (k : Sort) → a.root ≡ FrameRoot here.below → HasScalar p w a k → Is p w k (known c a)
+  known_is : (a : Location) (k : Sort) → a.root ≡ FrameRoot here.below → HasScalar p w a k → Is p w k (known c a)
   known_is a k root has =
       let here_is = ap w.shape root ∙ at in
       let way : inside a.path s ≡ Some (One k) = ap (option_and_then (inside a.path)) (sym here_is) ∙ has in
@@ -43,10 +43,10 @@ module _ (p : Program) (w : World Sort) (here : Here) (s : Shape Sort) (c : Cont
   made_at : (v : Value) (m : Made) → IsObject w v m → w.made (object_in v) ≡ Some m
   made_at v m h = ap (λ u. w.made (object_in u)) h.is ∙ h.made
 
-  pub places_told : (a : Spot) → Valid p here w (Places a) → IsTold p w (Places a) (known c a)
+  pub places_told : (a : Location) → Valid p here w (Places a) → IsTold p w (Places a) (known c a)
   places_told a h = (h.1, h.3, known_is a h.1 h.0 h.3)
 
-  pub lengths_told : (a : Spot) → Valid p here w (Lengths a) → IsTold p w (Lengths a) (known c a)
+  pub lengths_told : (a : Location) → Valid p here w (Lengths a) → IsTold p w (Lengths a) (known c a)
   lengths_told a h = (Length h.1, h.2, known_is a (Length h.1) h.0 h.2)
 
   pub opens_told : (u : Value) → Valid p here w (Opens u) → IsTold p w (Opens u) (object_place (object_in u) (w.made (object_in u)))

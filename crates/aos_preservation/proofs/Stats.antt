@@ -23,7 +23,7 @@ use Rattle.aos_typed.specs.Numbers.{body_number, id_of, id_of_made}
 use Rattle.aos_typed.specs.Program.{Arguments, Arm, Arms, Assert, Assign, Await, Block, Call, Case, Cases, Change, Char as CharCall, Copy, Else, Exit, Expr, For, Halt, If, Int as IntCall, Ln, Loop, Make, New, NoElse, OfLabels, Open, Otherwise, Out, Perform, Place, Procedure, Program, PutText, Read, Repeat, Return, Rows, Stat, Stats, String, While, With, WithRecord}
 use Rattle.aos_typed.specs.Routines.{Routine, result_of}
 use Rattle.aos_typed.specs.Sort.{Sort, Plain, variable_shape}
-use Rattle.aos_typed.specs.Spot.{Spot}
+use Rattle.aos_typed.specs.Location.{Location}
 use Rattle.aos_typed.specs.Typing.{Extends, HasLengths, Is, IsPlain}
 use Rattle.aos_typed.specs.Value.{Value, Object, binary_sort, element, is_true, number_of}
 use Rattle.aos_typed.specs.WellTyped.{AreArms, AreLengthsOf, AreRows, HaveLengths, IsCall, IsInitialized, IsOf, IsPlaceOf, IsReturn, IsStatement, NamesType, amount_type, is_any, is_basic, is_value, is_whole, target}
@@ -81,7 +81,7 @@ module _ (p : Program) (typed : HasTypes p) (w : World Sort) (r : Routine) (here
   value_then : (e : Expr) (t : TType) (k : Value → Doing After) → IsOf p own e t → ((v : Value) → Of t v → Ok (k v)) → Ok (bind (value_of p here e) k)
   value_then e t k h f = typed_bind p w here (Of t) (AfterGives p w own) (value_of p here e) k (value_typed p typed w own here known e t h) f
 
-  place_then : (q : Place) (t : TType) (k : Spot → Doing After) → IsPlaceOf p own q t → ((s : Spot) → IsFound p w (Names q t) t s → Ok (k s)) → Ok (bind (place_of p here q) k)
+  place_then : (q : Place) (t : TType) (k : Location → Doing After) → IsPlaceOf p own q t → ((s : Location) → IsFound p w (Names q t) t s → Ok (k s)) → Ok (bind (place_of p here q) k)
   place_then q t k h f = typed_bind p w here (IsFound p w (Names q t) t) (AfterGives p w own) (place_of p here q) k (place_typed p typed w own here known q t h) f
 
   rows_then : (a : Rows) (k : Found → Doing After) → AreRows p own a 1 type.Char → ((x : Found) → AreFound p w (HaveLengths a) 1 type.Char x → Ok (k x)) → Ok (bind (rows_of p here a) k)
@@ -106,7 +106,7 @@ module _ (p : Program) (typed : HasTypes p) (w : World Sort) (r : Routine) (here
       by false more = more
 
   -- what is copied begins with a variable of its type
-  whole_found : (named : Type 0) (u t : TType) (s : Spot) → is_whole (row_of p.types (id_of t)) ≡ true → comes_to p.types (id_of u) (id_of t) ≡ true → IsFound p w named u s → HasWhole p w s (id_of t)
+  whole_found : (named : Type 0) (u t : TType) (s : Location) → is_whole (row_of p.types (id_of t)) ≡ true → comes_to p.types (id_of u) (id_of t) ≡ true → IsFound p w named u s → HasWhole p w s (id_of t)
   whole_found named u t s whole extends f =
       let r = holds_extension p typed (id_of u) (id_of t) f.shape whole extends f.holds in
       (r.0, f.there ∙ ap (λ z. Some z) r.1, each_rest IsPlain (variable_shape p.types (id_of t)) r.0 (subst (EachSort IsPlain) r.1 f.plain))
@@ -164,7 +164,7 @@ module _ (p : Program) (typed : HasTypes p) (w : World Sort) (r : Routine) (here
   new_value u t v to n =
       let id = id_of (type.Named t) in to_target p w u id v to (made_reference p w (Extends p id) v n.of n.object n.lengths (new_extends t v n))
 
-  may_store : (named : Type 0) (u : TType) (s : Spot) (v : Value) → is_value p.types u ≡ true → IsFound p w named u s → Of u v → Valid p here w (Stores s v)
+  may_store : (named : Type 0) (u : TType) (s : Location) (v : Value) → is_value p.types u ≡ true → IsFound p w named u s → Of u v → Valid p here w (Stores s v)
   may_store named u s v value f is = (Plain (id_of u), tt, scalar_found p typed w own here known named u s value f, is)
 
   self_of : (t s : ℕ) (v : Value) (n : IsNew t v) → comes_to p.types (id_of (type.Named t)) (id_of (type.Named s)) ≡ true → (o : ℕ) → v ≡ Object (suc o) → IsSelf p w.made (Some s) (suc o)
@@ -194,7 +194,7 @@ module _ (p : Program) (typed : HasTypes p) (w : World Sort) (r : Routine) (here
           (method_given p typed w own here known body b (suc o) has.body.own [] none) (method_on p typed w own here known body b (suc o) has.body.own [] (self_of t b v n has.extends o v_is)) in
           subst (λ z. Ok (bind (ask (Calls ByCreator (body_number p b) (z ∷ []))) (λ _. Val (Into [])))) (sym v_is) (asks.0, λ x c. tt)
 
-  stored_typed : (named : Type 0) (t : ℕ) (s : Spot) (v : Value) → is_object (row_of p.types (id_of (type.Named t))) ≡ true → IsFound p w named (type.Named t) s → IsNew t v → Ok (bind (ask (Stores s v)) (λ _. bind (carried_out p (body_type p t) v) (λ _. Val (Into []))))
+  stored_typed : (named : Type 0) (t : ℕ) (s : Location) (v : Value) → is_object (row_of p.types (id_of (type.Named t))) ≡ true → IsFound p w named (type.Named t) s → IsNew t v → Ok (bind (ask (Stores s v)) (λ _. bind (carried_out p (body_type p t) v) (λ _. Val (Into []))))
   stored_typed named t s v object f n =
       let id = id_of (type.Named t) in
       let to = object_target p.types id (row_of p.types id) object in
@@ -204,7 +204,7 @@ module _ (p : Program) (typed : HasTypes p) (w : World Sort) (r : Routine) (here
   abbrev Handed : Option ℕ → ℕ → List Value → Type 0
   Handed slot t vs = (k : ℕ) → slot ≡ Some k → (q : Procedure) × (method_in p t k ≡ Some q) × Given p w q.parameters vs
 
-  initialized_typed : (named : Type 0) (t : ℕ) (s : Spot) (slot : Option ℕ) (vs : List Value) (v : Value) → is_object (row_of p.types (id_of (type.Named t))) ≡ true → IsFound p w named (type.Named t) s → IsNew t v → Handed slot t vs →
+  initialized_typed : (named : Type 0) (t : ℕ) (s : Location) (slot : Option ℕ) (vs : List Value) (v : Value) → is_object (row_of p.types (id_of (type.Named t))) ≡ true → IsFound p w named (type.Named t) s → IsNew t v → Handed slot t vs →
       Ok (bind (initialized p slot t v vs) (λ _. bind (ask (Stores s v)) (λ _. bind (carried_out p (body_type p t) v) (λ _. Val (Into [])))))
   initialized_typed named t s None vs v object f n args = stored_typed named t s v object f n
   initialized_typed named t s (Some k) vs v object f n args =

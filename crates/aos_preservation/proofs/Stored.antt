@@ -1,8 +1,8 @@
 -- What a store and an activity's frames hold is of their types; so it is after a scalar is stored, a whole is copied, or a text is put.
 use Rattle.std.proofs.Common.{◌≡◌, ℕ, List, [], ◌∷◌, length, map, Some, refl, sym, ap, ◌∙◌, subst}
 use Rattle.std.specs.Prelude.{unsigned_abs}
-use Rattle.aos_base.specs.declared.place.Root.{Root}
-use Rattle.aos_base.specs.declared.place.Root.TheVariants.{Frame as FrameRoot, Module as ModuleRoot, Object as ObjectRoot}
+use Rattle.aos_base.specs.declared.root.Root.{Root}
+use Rattle.aos_base.specs.declared.root.Root.TheVariants.{Frame as FrameRoot, Module as ModuleRoot, Object as ObjectRoot}
 use Rattle.aos_base.specs.Rooted.{Made, Rooted, change_from_last, change_root}
 use Rattle.aos_types.specs.Content.{Content, Scalar, Fits, overlay, placed}
 use Rattle.aos_types.specs.Shape.{Shape, One}
@@ -15,7 +15,7 @@ use Rattle.aos_typed.specs.declared.tree.TType.{TType}
 use Rattle.aos_typed.specs.Numbers.{id_of}
 use Rattle.aos_typed.specs.Program.{Program}
 use Rattle.aos_typed.specs.Sort.{Sort, Plain, variable_shape}
-use Rattle.aos_typed.specs.Spot.{Spot}
+use Rattle.aos_typed.specs.Location.{Location}
 use Rattle.aos_typed.specs.Store.{Store, scalar_in, store_with, value_at}
 use Rattle.aos_typed.specs.Text.{fitted, with_text}
 use Rattle.aos_typed.specs.Typing.{Is, IsPlain}
@@ -92,7 +92,7 @@ module _ (p : Program) where
     shows = let k = held.stores in record { of_frames = held.frames.1; of_modules = k.of_modules; of_objects = k.of_objects }
 
     -- a scalar that is read is of its type
-    pub read_is : (t : TType) (a : Spot) → HasScalar p now a (Plain (id_of t)) → Is p now (Plain (id_of t)) (value_at a variables)
+    pub read_is : (t : TType) (a : Location) → HasScalar p now a (Plain (id_of t)) → Is p now (Plain (id_of t)) (value_at a variables)
     read_is t a has =
         let r = read_alike (Is p) cell_of IsPlain (values_kept p) (scheme p) s.made (shapes_of fs) variables cells a.root a.path (Plain (id_of t)) shows has in
         subst (Is p now (Plain (id_of t))) (sym (ap scalar_in r.source)) r.is

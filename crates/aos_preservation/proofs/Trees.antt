@@ -1,6 +1,6 @@
 -- Trees of questions that are typed in a world: each question is valid, and so is what follows each answer of the sort that it has.
 use Rattle.std.proofs.Common.{◌≡◌, suc, List, [], ◌∷◌, ◌++◌, Option, Some, None, sym, ap, ◌∙◌}
-use Rattle.aos_base.specs.declared.place.Root.TheVariants.{Object as ObjectRoot}
+use Rattle.aos_base.specs.declared.root.Root.TheVariants.{Object as ObjectRoot}
 use Rattle.aos_base.specs.Question.{Val, Asks, Traps, bind, feed, Reads, Stores, Copies, PutsText, ComparesTexts, Calls, Ends, Makes, Starts, Enters, Leaves, Awaits, PutsInt, PutsChar, PutsString, PutsNothing, PutsLn, Places, Lengths, Opens, Sizes, Tests}
 use Rattle.aos_base.specs.Rooted.{Made, by_number}
 use Rattle.aos_types.specs.Extension.{comes_to}
@@ -13,7 +13,7 @@ use Rattle.aos_typed.specs.Numbers.{id_of, id_of_made}
 use Rattle.aos_typed.specs.Program.{Program}
 use Rattle.aos_typed.specs.Routines.{Routine, result_of, routines}
 use Rattle.aos_typed.specs.Sort.{Sort, Plain}
-use Rattle.aos_typed.specs.Spot.{Spot}
+use Rattle.aos_typed.specs.Location.{Location}
 use Rattle.aos_typed.specs.Typing.{Is, IsFlag, HasLengths}
 use Rattle.aos_typed.specs.Value.{Value, Flag, Object}
 use Rattle.aos_typed.specs.Meaning.{Here, Question, Doing, object_in}
@@ -31,7 +31,7 @@ one_object w v m n h k =
     same
 
 -- a place holds a scalar of one sort alone
-pub one_scalar : (p : Program) (w : World Sort) (s : Spot) (k j : Sort) → HasScalar p w s k → HasScalar p w s j → k ≡ j
+pub one_scalar : (p : Program) (w : World Sort) (s : Location) (k j : Sort) → HasScalar p w s k → HasScalar p w s j → k ≡ j
 one_scalar p w s k j h i =
     let both : Some (One k) ≡ Some (One j) = sym h ∙ i in
     let same : k ≡ j = cc both in
@@ -98,7 +98,7 @@ module _ (p : Program) (w w' : World Sort) (up : Grows w w') where
   answer_grows None v h = tt
   answer_grows (Some t) v h = is_grows (Plain (id_of t)) v h
 
-  scalar_grows : (s : Spot) (k : Sort) → HasScalar p w s k → HasScalar p w' s k
+  scalar_grows : (s : Location) (k : Sort) → HasScalar p w s k → HasScalar p w' s k
   scalar_grows s k h = shape_grows w w' up s.root s.path (One k) h
 
   object_grows : (v : Value) (m : Made) → IsObject w v m → IsObject w' v m

@@ -12,7 +12,7 @@ use aos_code::{Cell, Image, Kind, ProcShape};
 use aos_cpu::calls::{arguments, arguments_of, behind_value, count_copied, count_with};
 use aos_cpu::texts::{array_at, code, compare_at, length_of};
 use aos_found::is_top_open;
-use aos_silent::{Question, Spot, Way, is_of, numbered};
+use aos_silent::{Address, Question, Way, is_of, numbered};
 use aos_store::{Frames, Store, has_cells_at, load_at};
 
 /// Whether there is a value, of this kind.
@@ -26,7 +26,7 @@ fn holds(kind: Kind, value: Option<Cell>) -> bool
 }
 
 /// Whether there are so many cells at both places.
-fn has_both(frames: &Frames, store: &Store, count: u32, from: Spot, to: Spot) -> bool
+fn has_both(frames: &Frames, store: &Store, count: u32, from: Address, to: Address) -> bool
     ensures { result ≡ (has_all count from.cell (at_root from.root (rooted_in frames.now store.now)) && has_all count to.cell (at_root to.root (rooted_in frames.now store.now))) }
 {
     has_cells_at(frames, store, from.root, from.cell as usize, count as usize)
@@ -48,10 +48,10 @@ fn text_len(cells: &[Cell]) -> Option<usize>
 }
 
 /// How many characters the text at a place has, where there is one.
-fn text_len_at(frames: &Frames, store: &Store, spot: Spot, number: i64) -> Option<usize>
-    ensures { result ≡ option_map length (text_at [] (addr_in spot) (Num number) (rooted_in frames.now store.now)) }
+fn text_len_at(frames: &Frames, store: &Store, address: Address, number: i64) -> Option<usize>
+    ensures { result ≡ option_map length (text_at [] (addr_in address) (Num number) (rooted_in frames.now store.now)) }
 {
-    match array_at(frames, store, spot, number) {
+    match array_at(frames, store, address, number) {
         None => None,
         Some(cells) => text_len(cells),
     }
@@ -73,7 +73,7 @@ fn takes_text(
     store: &Store,
     strict: bool,
     text: Option<usize>,
-    to: Spot,
+    to: Address,
     room: Option<usize>,
 ) -> bool
     ensures { result ≡ takes strict text room (addr_in to) (rooted_in frames.now store.now) }
@@ -117,15 +117,15 @@ pub fn goes(image: &Image, question: Question, frames: &Frames, store: &Store) -
     ensures { TellsOwn result image.now.shapes.items image.now.types.items question frames.now (memory_in store.now) }
 {
     match question {
-        Question::Reads(kind, spot) => holds(
+        Question::Reads(kind, address) => holds(
             kind,
-            load_at(frames, store, spot.root, spot.cell as usize),
+            load_at(frames, store, address.root, address.cell as usize),
         ),
-        Question::Stores(spot, _) => load_at(
+        Question::Stores(address, _) => load_at(
             frames,
             store,
-            spot.root,
-            spot.cell as usize,
+            address.root,
+            address.cell as usize,
         ).is_some(),
         Question::Copies(count, from, to) => has_both(frames, store, count, from, to),
         Question::PutsText(strict, from, len, to, room) => {

@@ -169,8 +169,8 @@ abbrev pub is_placed : ℕ → Bool
 is_placed part = part == 1 || part == 3
 
 -- at C, slot K for a method, or nothing
-abbrev pub spot_text : (part at : ℕ) → List ℕ
-spot_text part at =
+abbrev pub offset_text : (part at : ℕ) → List ℕ
+offset_text part at =
     if part == 4 then codes " slot " ++ decimal at
     else if is_placed part then codes " at " ++ decimal at
     else []
@@ -180,7 +180,7 @@ abbrev pub size_text : (part cells : ℕ) → List ℕ
 size_text part cells = if part == 4 then [] else codes " cells " ++ decimal cells
 
 abbrev pub line_text : Line → List ℕ
-line_text l = part_text l.word ++ l.name ++ spot_text l.word l.at ++ size_text l.word l.cells ++ codes "\n"
+line_text l = part_text l.word ++ l.name ++ offset_text l.word l.at ++ size_text l.word l.cells ++ codes "\n"
 
 abbrev pub lines_text : List Line → List ℕ
 lines_text ls = flat_map line_text ls

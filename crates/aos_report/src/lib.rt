@@ -310,8 +310,8 @@ fn is_placed(part: u8) -> bool
 }
 
 // at C, or slot K, or nothing
-fn put_spot(text: &mut Vec<u8>, part: u8, at: u32) -> Result<(), NoMemory>
-    ensures { OnOk result (text.new.items ≡ text.old.items ++ report.spot_text part at) }
+fn put_offset(text: &mut Vec<u8>, part: u8, at: u32) -> Result<(), NoMemory>
+    ensures { OnOk result (text.new.items ≡ text.old.items ++ report.offset_text part at) }
 {
     if is_method(part) {
         put(text, " slot ")?;
@@ -341,7 +341,7 @@ fn put_line(text: &mut Vec<u8>, line: &LayoutLine) -> Result<(), NoMemory>
 {
     put(text, part_word(line.word))?;
     put(text, line.name.as_str())?;
-    put_spot(text, line.word, line.at)?;
+    put_offset(text, line.word, line.at)?;
     put_size(text, line.word, line.cells)?;
     put(text, "\n")
 }

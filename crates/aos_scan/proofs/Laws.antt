@@ -8,7 +8,7 @@ use Rattle.aos_scan.specs.declared.refusal.Rule.{Rule}
 use Rattle.aos_scan.specs.declared.refusal.Rule.TheVariants as rules
 use Rattle.aos_scan.specs.declared.refusal.ScanErr.{ScanErr}
 use Rattle.aos_scan.specs.declared.refusal.ScanErr.TheVariants as errors
-use Rattle.aos_scan.specs.Place.{position}
+use Rattle.aos_scan.specs.Position.{position}
 use Rattle.aos_scan.specs.Gap.{Gap}
 use Rattle.aos_scan.specs.TokenList.{AreInOrder, EndsOnce, StandsIn, AreTokens, end_token, IsTokenList}
 use Rattle.aos_scan.specs.Refusal.{Breaks, IsRefusedFrom, IsRefused, refusal}

@@ -7,7 +7,7 @@ use Rattle.aos_scan.specs.declared.refusal.Rule.{Rule}
 use Rattle.aos_scan.specs.declared.refusal.Rule.TheVariants as rules
 use Rattle.aos_scan.specs.Bytes.{is_blank, is_quote}
 use Rattle.aos_scan.specs.Spelling.{Lexeme, lexeme, symbols}
-use Rattle.aos_scan.specs.Place.{position}
+use Rattle.aos_scan.specs.Position.{position}
 use Rattle.aos_scan.specs.Gap.{Gap}
 use Rattle.aos_scan.specs.TokenList.{Begins, greatest, StandsIn, AreTokens}
 use Rattle.aos_scan.specs.Refusal.{BreaksAt}

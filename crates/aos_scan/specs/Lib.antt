@@ -2,7 +2,7 @@ pub mod Bytes
 pub mod Run
 pub mod Spelling
 pub mod Words
-pub mod Place
+pub mod Position
 pub mod Gap
 pub mod TokenList
 pub mod Found

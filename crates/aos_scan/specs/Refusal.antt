@@ -8,7 +8,7 @@ use Rattle.aos_scan.specs.declared.refusal.ScanErr.{ScanErr}
 use Rattle.aos_scan.specs.declared.refusal.ScanErr.TheVariants as errors
 use Rattle.aos_scan.specs.Bytes.{is_blank, is_quote}
 use Rattle.aos_scan.specs.Spelling.{Lexeme, lexeme}
-use Rattle.aos_scan.specs.Place.{position}
+use Rattle.aos_scan.specs.Position.{position}
 use Rattle.aos_scan.specs.Gap.{OpensComment, IsComment, Gap}
 use Rattle.aos_scan.specs.TokenList.{Begins, greatest, AreTokens}
 

@@ -4,7 +4,7 @@ use Rattle.aos_scan.specs.declared.token.Token.{Token}
 use Rattle.aos_scan.specs.declared.token.TokenKind.{TokenKind}
 use Rattle.aos_scan.specs.declared.token.TokenKind.TheVariants.{End, Char}
 use Rattle.aos_scan.specs.Spelling.{Lexeme, lexeme}
-use Rattle.aos_scan.specs.Place.{position}
+use Rattle.aos_scan.specs.Position.{position}
 use Rattle.aos_scan.specs.Gap.{OpensComment, Gap}
 
 -- The longest token that fits at a place, whose bytes end at another place.

@@ -3,7 +3,7 @@
 
 mod gap;
 mod lexeme;
-mod place;
+mod position;
 pub mod refusal;
 mod run;
 mod scanner;

@@ -4,7 +4,7 @@ ghost use Rattle.std.specs.Prelude.{◌≡◌, ◌≤◌, ◌^◌, ◌⊎◌, �
 ghost use Rattle.aos_scan.specs.declared.token.Token.{Token};
 ghost use Rattle.aos_scan.specs.declared.refusal.ScanErr.{ScanErr};
 ghost use Rattle.aos_scan.specs.declared.refusal.ScanErr.TheVariants.{NoMemory};
-ghost use Rattle.aos_scan.specs.Place.{position};
+ghost use Rattle.aos_scan.specs.Position.{position};
 ghost use Rattle.aos_scan.specs.TokenList.{IsTokenList, AreInOrder, EndsOnce, end_token};
 ghost use Rattle.aos_scan.specs.Found.{IsNext};
 ghost use Rattle.aos_scan.specs.Refusal.{IsRefused, IsRefusedFrom};
@@ -12,7 +12,7 @@ ghost use Rattle.aos_scan.specs.Laws.{OneTokenList, OneRefusal, NotBoth};
 
 use crate::gap::gap_end;
 use crate::lexeme::lexeme_at;
-use crate::place::advance;
+use crate::position::advance;
 use crate::refusal::{ScanErr, refuse};
 use crate::token::{Token, TokenKind};
 use aos_base::Pos;

@@ -12,8 +12,8 @@ use Rattle.aos_code.specs.declared.instr.Cell.TheVariants.{Num, Ref, Call as Cal
 use Rattle.aos_base.specs.Operators.{natural}
 use Rattle.aos_code.specs.Memory.{Addr}
 use Rattle.aos_code.specs.Silent.{Stack, Act, Goes, Stops, lost, on_number, on_place, counted_on, lengths_on, cells_of, length_cells, in_rows, element, gives, gives_picked, indexes_open, picks}
-use Rattle.aos_silent.specs.declared.act.Spot.{Spot}
-use Rattle.aos_silent.specs.Acts.{number_in, spot_in, addr_in, small, or_lost}
+use Rattle.aos_silent.specs.declared.act.Address.{Address}
+use Rattle.aos_silent.specs.Acts.{number_in, address_in, addr_in, small, or_lost}
 use Rattle.aos_silent.specs.Taken.{number_or, numbers_of, length_or, length_in, rows_of}
 use Rattle.aos_silent.proofs.Arguments.{at_and_behind, up_to}
 
@@ -171,14 +171,14 @@ no_number k (Ref o ∷ s) e = refl
 no_number k (CallCell p o ∷ s) e = refl
 no_number k (Place r c t ∷ s) e = refl
 
-place_on : (k : Addr → Stack → Act) (s : Stack) (a : Spot) → spot_in (slice_get s 0) ≡ Some a → on_place (λ p t s'. k p s') s ≡ k (addr_in a) (drop 1 s)
+place_on : (k : Addr → Stack → Act) (s : Stack) (a : Address) → address_in (slice_get s 0) ≡ Some a → on_place (λ p t s'. k p s') s ≡ k (addr_in a) (drop 1 s)
 place_on k [] a e = absurd (cc e)
 place_on k (Num z ∷ s) a e = absurd (cc e)
 place_on k (Ref o ∷ s) a e = absurd (cc e)
 place_on k (CallCell p o ∷ s) a e = absurd (cc e)
 place_on k (Place r c t ∷ s) a e = let p : record { root = r; cell = c } ≡ a = cc e in ap (λ x. k (addr_in x) s) p
 
-no_place : (k : Addr → Stack → Act) (s : Stack) → spot_in (slice_get s 0) ≡ None → on_place (λ p t s'. k p s') s ≡ Stops lost
+no_place : (k : Addr → Stack → Act) (s : Stack) → address_in (slice_get s 0) ≡ None → on_place (λ p t s'. k p s') s ≡ Stops lost
 no_place k [] e = refl
 no_place k (Num z ∷ s) e = refl
 no_place k (Ref o ∷ s) e = refl
@@ -186,11 +186,11 @@ no_place k (CallCell p o ∷ s) e = refl
 no_place k (Place r c t ∷ s) e = absurd (cc e)
 
 -- the place at a depth
-pub place_at : (k : Addr → Stack → Act) (s : Stack) (d : ℕ) (a : Spot) → spot_in (slice_get s d) ≡ Some a → on_place (λ p t s'. k p s') (drop d s) ≡ k (addr_in a) (drop (d + 1) s)
-place_at k s d a e = place_on k (drop d s) a (ap spot_in (top_of s d) ∙ e) ∙ ap (k (addr_in a)) (drop-drop 1 d s)
+pub place_at : (k : Addr → Stack → Act) (s : Stack) (d : ℕ) (a : Address) → address_in (slice_get s d) ≡ Some a → on_place (λ p t s'. k p s') (drop d s) ≡ k (addr_in a) (drop (d + 1) s)
+place_at k s d a e = place_on k (drop d s) a (ap address_in (top_of s d) ∙ e) ∙ ap (k (addr_in a)) (drop-drop 1 d s)
 
-pub no_place_at : (k : Addr → Stack → Act) (s : Stack) (d : ℕ) → spot_in (slice_get s d) ≡ None → on_place (λ p t s'. k p s') (drop d s) ≡ Stops lost
-no_place_at k s d e = no_place k (drop d s) (ap spot_in (top_of s d) ∙ e)
+pub no_place_at : (k : Addr → Stack → Act) (s : Stack) (d : ℕ) → address_in (slice_get s d) ≡ None → on_place (λ p t s'. k p s') (drop d s) ≡ Stops lost
+no_place_at k s d e = no_place k (drop d s) (ap address_in (top_of s d) ∙ e)
 
 module _ (cells : ℕ) (s : Stack) where
   pub not_indexed : (j : ℕ) → number_in (slice_get s 0) ≡ None → indexes_open j cells s ≡ Stops lost
@@ -221,10 +221,10 @@ module _ (cells : ℕ) (s : Stack) where
         indexes_open (rows + 1) cells s ≡ on_place (λ a t s'. element a (natural n z) (cells_of ls cells) (length_cells ls) s') (drop (rows + 1 + 1) s)
     place_then n f = first_then ∙ lengths_next 0 (rows + 1) n ls (λ ns s2. in_rows ns z cells s2) s f
 
-    pub place_lost : (n : ℕ) → length_in (slice_get s (rows + 1)) ≡ Some n → spot_in (slice_get s (rows + 1 + 1)) ≡ None → indexes_open (rows + 1) cells s ≡ Stops lost
+    pub place_lost : (n : ℕ) → length_in (slice_get s (rows + 1)) ≡ Some n → address_in (slice_get s (rows + 1 + 1)) ≡ None → indexes_open (rows + 1) cells s ≡ Stops lost
     place_lost n f g = place_then n f ∙ no_place_at (λ a s'. element a (natural n z) (cells_of ls cells) (length_cells ls) s') s (rows + 1 + 1) g
 
-    pub element_is : (n : ℕ) (a : Spot) (above : Stack) → length_in (slice_get s (rows + 1)) ≡ Some n → spot_in (slice_get s (rows + 1 + 1)) ≡ Some a → length_cells ls ≡ above →
+    pub element_is : (n : ℕ) (a : Address) (above : Stack) → length_in (slice_get s (rows + 1)) ≡ Some n → address_in (slice_get s (rows + 1 + 1)) ≡ Some a → length_cells ls ≡ above →
         indexes_open (rows + 1) cells s ≡ element (addr_in a) (natural n z) (cells_of ls cells) above (drop (rows + 1 + 1 + 1) s)
     element_is n a above f g w =
         place_then n f ∙ place_at (λ p s'. element p (natural n z) (cells_of ls cells) (length_cells ls) s') s (rows + 1 + 1) a g
@@ -246,8 +246,8 @@ placed a i n c above s e = go (nat_lt (a.cell + i * n) (2 ^ 32)) e
     go true e = let p : a.cell + i * n ≡ c = cc e in ap (λ x. Goes 0 (above ++ Place a.root x 0 ∷ s)) p
     go false e = absurd (cc e)
 
-pub spot_within : (s : Stack) (d : ℕ) (a : Spot) → spot_in (slice_get s d) ≡ Some a → d < length s
-spot_within s d a e = elim (slice_get_cases s d).1 [ inl r ↦ r.1 | inr r ↦ (let z = sym e ∙ ap spot_in r.1 in absurd (cc z)) ]
+pub address_within : (s : Stack) (d : ℕ) (a : Address) → address_in (slice_get s d) ≡ Some a → d < length s
+address_within s d a e = elim (slice_get_cases s d).1 [ inl r ↦ r.1 | inr r ↦ (let z = sym e ∙ ap address_in r.1 in absurd (cc z)) ]
 
 -- A number that is picked.
 
@@ -273,21 +273,21 @@ picked_or None s = refl
 picked_or (Some z) s = refl
 
 module _ (d j : ℕ) (s : Stack) (h : (k : List ℤ → Stack → Act) → counted_on j [] k s ≡ k (reverse (numbers_of (take j s))) (drop j s)) where
-  pub picks_nowhere : spot_in (slice_get s j) ≡ None → picks d j s ≡ Stops lost
+  pub picks_nowhere : address_in (slice_get s j) ≡ None → picks d j s ≡ Stops lost
   picks_nowhere e = h (λ zs s1. on_place (λ a t s2. gives_picked (slice_get zs d) s2) s1) ∙ no_place_at (λ a s2. gives_picked (slice_get (reverse (numbers_of (take j s))) d) s2) s j e
 
-  picks_there : (a : Spot) → spot_in (slice_get s j) ≡ Some a → picks d j s ≡ gives_picked (slice_get (reverse (numbers_of (take j s))) d) (drop (j + 1) s)
+  picks_there : (a : Address) → address_in (slice_get s j) ≡ Some a → picks d j s ≡ gives_picked (slice_get (reverse (numbers_of (take j s))) d) (drop (j + 1) s)
   picks_there a e = h (λ zs s1. on_place (λ a t s2. gives_picked (slice_get zs d) s2) s1) ∙ place_at (λ a s2. gives_picked (slice_get (reverse (numbers_of (take j s))) d) s2) s j a e
 
-  pub picks_past : (a : Spot) → spot_in (slice_get s j) ≡ Some a → j ≤ d → picks d j s ≡ Stops lost
+  pub picks_past : (a : Address) → address_in (slice_get s j) ≡ Some a → j ≤ d → picks d j s ≡ Stops lost
   picks_past a e le =
       let past : length (reverse (numbers_of (take j s))) ≤ d = omega (arith, length-reverse (numbers_of (take j s)), length-map (take j s) number_or, length-take j s) in
       picks_there a e ∙ ap (λ o. gives_picked o (drop (j + 1) s)) (slice_get_past (reverse (numbers_of (take j s))) d past)
 
-  pub picks_one : (a : Spot) → spot_in (slice_get s j) ≡ Some a → d < j → map Num (numbers_of (take j s)) ≡ take j s →
+  pub picks_one : (a : Address) → address_in (slice_get s j) ≡ Some a → d < j → map Num (numbers_of (take j s)) ≡ take j s →
       picks d j s ≡ or_lost (number_in (slice_get s (j - 1 - d))) (λ z. gives (Num z) (drop (j + 1) s))
   picks_one a e lt n =
-      let within : j < length s = spot_within s j a e in
+      let within : j < length s = address_within s j a e in
       let le : j ≤ length s = omega arith in
       picks_there a e ∙ ap (λ o. gives_picked o (drop (j + 1) s)) (number_at j d s lt le n) ∙ picked_or (number_in (slice_get s (j - 1 - d))) (drop (j + 1) s)
 

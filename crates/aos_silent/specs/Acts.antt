@@ -11,7 +11,7 @@ use Rattle.aos_code.specs.Memory.{Addr}
 use Rattle.aos_code.specs.Silent.{Stack, Question, Begins, Fails, Decides, Act, Goes, Sees, Stops, lost, is_of}
 use Rattle.aos_silent.specs.declared.act.Question.{Question as KeptQuestion}
 use Rattle.aos_silent.specs.declared.act.Question.TheVariants.{Reads as AsksRead, Stores as AsksStore, Copies as AsksCopy, PutsText as AsksPutText, ComparesTexts as AsksCompare, Calls as AsksCall, Ends as AsksEnd, Makes as AsksNew, Starts as AsksStart, Enters as AsksEnter, Leaves as AsksLeave, Awaits as AsksAwait, PutsInt as AsksInt, PutsChar as AsksChar, PutsString as AsksString, PutsNothing as AsksNothing, PutsLn as AsksLn}
-use Rattle.aos_silent.specs.declared.act.Spot.{Spot}
+use Rattle.aos_silent.specs.declared.act.Address.{Address}
 use Rattle.aos_silent.specs.declared.act.Callable.{Callable}
 use Rattle.aos_silent.specs.declared.act.Way.{Way}
 use Rattle.aos_silent.specs.declared.act.Way.TheVariants.{Direct, Bound, Free}
@@ -22,7 +22,7 @@ use Rattle.aos_silent.specs.declared.act.Act.TheVariants.{Goes as GoesOn, Sees a
 abbrev pub operands_in : Vec Cell Global → Stack
 operands_in stack = reverse stack.items
 
-abbrev pub addr_in : Spot → Addr
+abbrev pub addr_in : Address → Addr
 addr_in p = record { root = p.root; cell = p.cell }
 
 -- a procedure value as its object
@@ -157,12 +157,12 @@ callable_in (Some (Ref o)) = None
 callable_in (Some (CallCell p o)) = Some (record { procedure = p; object = o })
 callable_in (Some (Place root cell type)) = None
 
-abbrev pub spot_in : Option Cell → Option Spot
-spot_in None = None
-spot_in (Some (Num a)) = None
-spot_in (Some (Ref o)) = None
-spot_in (Some (CallCell p o)) = None
-spot_in (Some (Place root cell type)) = Some (record { root = root; cell = cell })
+abbrev pub address_in : Option Cell → Option Address
+address_in None = None
+address_in (Some (Num a)) = None
+address_in (Some (Ref o)) = None
+address_in (Some (CallCell p o)) = None
+address_in (Some (Place root cell type)) = Some (record { root = root; cell = cell })
 
 abbrev pub kind_in : Kind → Option Cell → Option Cell
 kind_in kind None = None

@@ -5,7 +5,7 @@ use aos_code::{Cell, Kind};
 
 /// The place of a cell: its root and its number.
 #[derive(Clone, Copy)]
-pub struct Spot {
+pub struct Address {
     pub root: Root,
     pub cell: u32,
 }
@@ -31,14 +31,14 @@ pub enum Way {
 /// Visible work that an instruction asks for. Its operands lie on the stack still.
 #[derive(Clone, Copy)]
 pub enum Question {
-    Reads(Kind, Spot),
-    Stores(Spot, Cell),
+    Reads(Kind, Address),
+    Stores(Address, Cell),
     /// So many cells are copied from the first place to the second.
-    Copies(u32, Spot, Spot),
+    Copies(u32, Address, Address),
     /// A text is stored: whether it has to fit, its place and length, and those of the array that gets it.
-    PutsText(bool, Spot, i64, Spot, i64),
+    PutsText(bool, Address, i64, Address, i64),
     /// The places and lengths of two texts that are compared.
-    ComparesTexts(Relation, Spot, i64, Spot, i64),
+    ComparesTexts(Relation, Address, i64, Address, i64),
     /// A procedure is called with so many operands, which are handed over in this way.
     Calls(u32, Way, usize),
     /// The end of the frame, with the result where there is one.
@@ -53,7 +53,7 @@ pub enum Question {
     Awaits(u32),
     PutsInt(i64, i64),
     PutsChar(i64),
-    PutsString(Spot, i64),
+    PutsString(Address, i64),
     PutsNothing,
     PutsLn,
 }

@@ -11,7 +11,7 @@ ghost use Rattle.aos_silent.specs.Taken.{kinds_from};
 
 use crate::act::{Act, LOST, Question, Way};
 use crate::image::numbered;
-use crate::operands::{is_of, number, object, of_kind, operand, spot};
+use crate::operands::{address, is_of, number, object, of_kind, operand};
 use crate::rows::are_numbers;
 use aos_base::Relation;
 use aos_code::{Cell, Kind, ParamKind, ProcShape};
@@ -21,7 +21,7 @@ pub fn ask_read(kind: Kind, stack: &[Cell]) -> Act
     ensures act { act_in result (reverse stack.now) ≡ on_place (λ p t s. Sees (Reads kind p) s) (reverse stack.now) }
     ensures stays { IsStay result }
 {
-    match spot(stack, 0) {
+    match address(stack, 0) {
         None => LOST,
         Some(at) => Act::Sees(Question::Reads(kind, at)),
     }
@@ -34,7 +34,7 @@ pub fn ask_store(kind: Kind, stack: &[Cell]) -> Act
 {
     match of_kind(stack, 0, kind) {
         None => LOST,
-        Some(value) => match spot(stack, 1) {
+        Some(value) => match address(stack, 1) {
             None => LOST,
             Some(at) => Act::Sees(Question::Stores(at, value)),
         },
@@ -47,9 +47,9 @@ pub fn ask_copy(count: u32, stack: &[Cell]) -> Act
         on_place (λ from t s1. on_place (λ to u s2. Sees (Copies count from to) s2) s1) (reverse stack.now) }
     ensures stays { IsStay result }
 {
-    match spot(stack, 0) {
+    match address(stack, 0) {
         None => LOST,
-        Some(from) => match spot(stack, 1) {
+        Some(from) => match address(stack, 1) {
             None => LOST,
             Some(to) => Act::Sees(Question::Copies(count, from, to)),
         },
@@ -112,7 +112,7 @@ pub fn ask_string(stack: &[Cell]) -> Act
 {
     match number(stack, 0) {
         None => LOST,
-        Some(length) => match spot(stack, 1) {
+        Some(length) => match address(stack, 1) {
             None => LOST,
             Some(at) => Act::Sees(Question::PutsString(at, length)),
         },
@@ -152,11 +152,11 @@ pub fn ask_put_text(strict: bool, stack: &[Cell]) -> Act
 {
     match number(stack, 0) {
         None => LOST,
-        Some(room) => match spot(stack, 1) {
+        Some(room) => match address(stack, 1) {
             None => LOST,
             Some(to) => match number(stack, 2) {
                 None => LOST,
-                Some(length) => match spot(stack, 3) {
+                Some(length) => match address(stack, 3) {
                     None => LOST,
                     Some(from) => Act::Sees(Question::PutsText(strict, from, length, to, room)),
                 },
@@ -173,11 +173,11 @@ pub fn ask_compare(relation: Relation, stack: &[Cell]) -> Act
 {
     match number(stack, 0) {
         None => LOST,
-        Some(other) => match spot(stack, 1) {
+        Some(other) => match address(stack, 1) {
             None => LOST,
             Some(right) => match number(stack, 2) {
                 None => LOST,
-                Some(length) => match spot(stack, 3) {
+                Some(length) => match address(stack, 3) {
                     None => LOST,
                     Some(left) => Act::Sees(Question::ComparesTexts(
                         relation, left, length, right, other,

@@ -15,7 +15,7 @@ pub mod silent;
 pub mod step;
 pub mod values;
 
-pub use act::{Act, Question, Spot, Way};
+pub use act::{Act, Address, Question, Way};
 pub use image::{code_of, condition_of, home_of, numbered};
 pub use operands::{is_of, replace, take};
 pub use silent::{Stop, keeps_of, silent_condition, silent_from};

@@ -1,9 +1,9 @@
 // The operands, of which the topmost is the last.
 ghost use Rattle.std.specs.Prelude.{◌≡◌, ◌-◌, ◌<◌, ℤ, ◌∷◌, reverse, drop, slice_get, vec_len, vec_capacity};
 ghost use Rattle.aos_code.specs.Silent.{Stack, Act as ActOf, is_of as is_of_kind, on_numbers};
-ghost use Rattle.aos_silent.specs.Acts.{operands_in, number_in, object_in, spot_in, kind_in, or_lost};
+ghost use Rattle.aos_silent.specs.Acts.{operands_in, number_in, object_in, address_in, kind_in, or_lost};
 
-use crate::act::Spot;
+use crate::act::Address;
 use aos_code::{Cell, Kind};
 
 /// Whether a cell holds something of this kind.
@@ -51,11 +51,11 @@ pub fn numbers(stack: &[Cell]) -> Option<(i64, i64)>
 }
 
 /// The place that lies so deep.
-pub fn spot(stack: &[Cell], depth: usize) -> Option<Spot>
-    ensures { result ≡ spot_in (slice_get (reverse stack.now) depth) }
+pub fn address(stack: &[Cell], depth: usize) -> Option<Address>
+    ensures { result ≡ address_in (slice_get (reverse stack.now) depth) }
 {
     match operand(stack, depth) {
-        Some(Cell::Place(root, cell, _)) => Some(Spot { root, cell }),
+        Some(Cell::Place(root, cell, _)) => Some(Address { root, cell }),
         _ => None,
     }
 }

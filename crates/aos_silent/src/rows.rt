@@ -6,8 +6,8 @@ ghost use Rattle.aos_code.specs.declared.instr.Instr.{Instr as InstrOf};
 ghost use Rattle.aos_silent.specs.Acts.{operands_in, act_in, addr_in, IsBeginOf, WhereStays, or_lost};
 ghost use Rattle.aos_silent.specs.Taken.{length_in, numbers_of, rows_of};
 
-use crate::act::{Act, LOST, Spot};
-use crate::operands::{number, replace, spot};
+use crate::act::{Act, Address, LOST};
+use crate::operands::{address, number, replace};
 use crate::values::cell_past;
 use aos_base::{Root, natural};
 use aos_code::Cell;
@@ -35,7 +35,7 @@ fn picked(stack: &[Cell], dimension: u32, lengths: u32) -> Option<i64>
     if !are_numbers(stack, lengths) {
         return None;
     }
-    spot(stack, lengths as usize)?;
+    address(stack, lengths as usize)?;
     if lengths <= dimension {
         return None;
     }
@@ -82,7 +82,7 @@ fn row_cells(stack: &[Cell], rows: u32, cells: u32) -> Option<u64>
 /// An element of an open array: the array's place; the element's number, where there is one; and how many cells it has.
 #[derive(Clone, Copy)]
 struct Element {
-    at: Spot,
+    at: Address,
     number: Option<u64>,
     cells: u64,
 }
@@ -99,7 +99,7 @@ fn element_on(stack: &[Cell], lengths: u32, cells: u32) -> Option<Element>
     let rows = lengths.checked_sub(1)?;
     let cells = row_cells(stack, rows, cells)?;
     let length = length_at(stack, lengths as usize)?;
-    let at = spot(stack, lengths as usize + 1)?;
+    let at = address(stack, lengths as usize + 1)?;
     Some(Element {
         at,
         number: natural(length, index),

@@ -5,7 +5,7 @@ ghost use Rattle.aos_code.specs.Silent.{Stack, Goes, given, asserts, on_any, on_
 ghost use Rattle.aos_silent.specs.Acts.{operands_in, act_in, IsBeginOf, IsJump, WhereStays, small};
 
 use crate::act::{Act, LOST};
-use crate::operands::{number, numbers, operand, replace, spot, take};
+use crate::operands::{address, number, numbers, operand, replace, take};
 use aos_base::{Binary, Given, Pos, Root, Unary, apply_binary, apply_unary, natural};
 use aos_code::{Cell, Instr};
 
@@ -188,7 +188,7 @@ pub fn offset(stack: &mut Vec<Cell>, cells: u32, of_type: u32) -> Act
     ensures room { vec_capacity stack.new ≡ vec_capacity stack.old }
     ensures act { act_in result (operands_in stack.new) ≡ on_place (λ a u s. gives_place a.root (a.cell + cells) of_type [] s) (operands_in stack.old) }
 {
-    match spot(stack, 0) {
+    match address(stack, 0) {
         None => LOST,
         Some(at) => put_place(stack, 1, at.root, at.cell.checked_add(cells), of_type),
     }
@@ -216,7 +216,7 @@ pub fn index(stack: &mut Vec<Cell>, elements: u32, cells: u32) -> Act
 {
     match number(stack, 0) {
         None => LOST,
-        Some(value) => match spot(stack, 1) {
+        Some(value) => match address(stack, 1) {
             None => LOST,
             Some(at) => match natural(elements as u64, value) {
                 None => Act::Fails(2, 0),

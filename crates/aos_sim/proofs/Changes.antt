@@ -13,7 +13,7 @@ use Rattle.aos_typed.specs.declared.tree.TType.TheVariants as type
 use Rattle.aos_typed.specs.Program.{Place, Expr, Change, Procedure, Program}
 use Rattle.aos_typed.specs.Numbers.{id_of}
 use Rattle.aos_typed.specs.Sort.{Sort, Plain}
-use Rattle.aos_typed.specs.Spot.{Spot}
+use Rattle.aos_typed.specs.Location.{Location}
 use Rattle.aos_typed.specs.Value.{Value, number_of, binary, element}
 use Rattle.aos_typed.specs.Meaning.{Here, Doing, Item, After, Into, place_of, value_of, changed_type, changed}
 use Rattle.aos_typed.specs.declared.tree.TType.{TType}
@@ -101,7 +101,7 @@ module _ (program : Program) (own : Option Procedure) (tables : Tables) (number 
     Leaves = Behind program own tables number here code after
 
     -- behind what it is changed by, below which its place lies twice: it is read, changed and stored
-    read_changed : (c : Changing) (w : World Sort) (a : Spot) (n : Value) (p : ℕ) (rest : List Instr) (m : Run) → Knows program own here w → (named : Type 0) → IsFound program named (changed_type c) w a → IsValueOf (amount_type c) n → m ≡ onward (i.Swap ∷ (i.Load N ∷ (i.Swap ∷ (change_code c ++ (i.Store N ∷ rest))))) 0 p k (Num (number_of n) ∷ (place_in w a ∷ (place_in w a ∷ []))) → drop (p + 3 + length (change_code c) + 1) code ≡ rest → Carries program own tables number here code after (p + 3 + length (change_code c) + 1) x d k → Does program here Leaves w m (bind (ask (Reads (changed_type c) a)) (λ v. bind (changed c v n) (λ y. bind (ask (Stores a y)) (λ _. Val (Into [])))))
+    read_changed : (c : Changing) (w : World Sort) (a : Location) (n : Value) (p : ℕ) (rest : List Instr) (m : Run) → Knows program own here w → (named : Type 0) → IsFound program named (changed_type c) w a → IsValueOf (amount_type c) n → m ≡ onward (i.Swap ∷ (i.Load N ∷ (i.Swap ∷ (change_code c ++ (i.Store N ∷ rest))))) 0 p k (Num (number_of n) ∷ (place_in w a ∷ (place_in w a ∷ []))) → drop (p + 3 + length (change_code c) + 1) code ≡ rest → Carries program own tables number here code after (p + 3 + length (change_code c) + 1) x d k → Does program here Leaves w m (bind (ask (Reads (changed_type c) a)) (λ v. bind (changed c v n) (λ y. bind (ask (Stores a y)) (λ _. Val (Into [])))))
     read_changed c w a n p rest m known named found is e there after_it =
         let t = changed_type c in
         let basic = changed_basic c in
@@ -138,7 +138,7 @@ module _ (program : Program) (own : Option Procedure) (tables : Tables) (number 
         let p = pd + 1 + length ce in
         let end = change_code c ++ i.Store N ∷ [] in
         let tail = i.Swap ∷ (i.Load N ∷ (i.Swap ∷ end)) in
-        let does : Spot → Value → Doing After = λ a n. bind (ask (Reads t a)) (λ v. bind (changed c v n) (λ y. bind (ask (Stores a y)) (λ _. Val (Into [])))) in
+        let does : Location → Value → Doing After = λ a n. bind (ask (Reads t a)) (λ v. bind (changed c v n) (λ y. bind (ask (Stores a y)) (λ _. Val (Into [])))) in
         let xs = cp ++ (i.Dup ∷ (ce ++ tail)) in
         let flat : xs ++ rest ≡ cp ++ (i.Dup ∷ (ce ++ (tail ++ rest))) = append_assoc cp (i.Dup ∷ (ce ++ tail)) rest ∙ ap (λ l. cp ++ (i.Dup ∷ l)) (append_assoc ce tail rest) in
         let h1 : drop (at + 1) code ≡ xs ++ rest = drop_next at code (begin there) (xs ++ rest) has.stands.here in

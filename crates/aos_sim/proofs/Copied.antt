@@ -12,7 +12,7 @@ use Rattle.aos_typed.specs.declared.tree.TType.{TType}
 use Rattle.aos_typed.specs.Program.{Program}
 use Rattle.aos_typed.specs.Numbers.{id_of}
 use Rattle.aos_typed.specs.Sort.{Sort, variable_shape}
-use Rattle.aos_typed.specs.Spot.{Spot}
+use Rattle.aos_typed.specs.Location.{Location}
 use Rattle.aos_typed.specs.Value.{Value}
 use Rattle.aos_typed.specs.Typing.{Is, IsPlain}
 use Rattle.aos_code.specs.declared.instr.Cell.{Cell}
@@ -36,12 +36,12 @@ module _ (program : Program) (made : List Made) (frames : List (Shape Sort)) (x 
   shape = variable_shape program.types (id_of t)
 
   -- all cells of the type at a place
-  record AllCells (p : Spot) : Type 0 where
+  record AllCells (p : Location) : Type 0 where
     cells : List Cell
     loaded : load_all (variable_scalars program.types (id_of t)) p.root (addr_of now p).cell y ≡ Some cells
     there : cells_at (variable_scalars program.types (id_of t)) (addr_of now p) y ≡ Some cells
 
-  all_cells : (p : Spot) → HasWhole program now p (id_of t) → AllCells p
+  all_cells : (p : Location) → HasWhole program now p (id_of t) → AllCells p
   all_cells p h =
       let n = variable_scalars program.types (id_of t) in
       let size_is : size shape ≡ n = variable_size program.types (id_of t) in
@@ -51,7 +51,7 @@ module _ (program : Program) (made : List Made) (frames : List (Shape Sort)) (x 
       record { cells = cells; loaded = a.image; there = ap (option_and_then (if_all n)) a.image ∙ all_there n cells many }
 
   -- what both sides find, and that the one shows the other behind the copy
-  pub record CopiedAlike (from to : Spot) : Type 0 where
+  pub record CopiedAlike (from to : Location) : Type 0 where
     pub new : Content Value
     pub old : Content Value
     pub read_from : read from.root from.path x ≡ Some new
@@ -61,7 +61,7 @@ module _ (program : Program) (made : List Made) (frames : List (Shape Sort)) (x 
     pub there : is_some (cells_at (variable_scalars program.types (id_of t)) (addr_of now to) y) ≡ true
     pub alike : Shows (Is program) cell_of (scheme program) made frames (write to.root to.path (overlay shape new old) x) (store_all to.root (addr_of now to).cell cells y)
 
-  pub copied_alike : (from to : Spot) → HasWhole program now from (id_of t) → HasWhole program now to (id_of t) → CopiedAlike from to
+  pub copied_alike : (from to : Location) → HasWhole program now from (id_of t) → HasWhole program now to (id_of t) → CopiedAlike from to
   copied_alike from to hf ht =
       let plain : EachSort IsPlain (join shape ht.0) = each_join IsPlain shape ht.0 (variable_plain program.types (id_of t)) ht.2 in
       let c = copy_alike (Is program) cell_of IsPlain (values_kept program) (scheme program) made frames x y shape hf.0 ht.0 from.root from.path to.root to.path shows hf.1 ht.1 plain in

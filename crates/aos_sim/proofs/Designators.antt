@@ -9,7 +9,7 @@ use Rattle.std.proofs.lemmas.List.{length-map, map-append}
 use Rattle.std.proofs.lemmas.List.Elements.{All-tail, All-append}
 use Rattle.std.proofs.lemmas.Option.{slice_get-map}
 use Rattle.aos_base.specs.declared.number.Width.TheVariants.{W64}
-use Rattle.aos_base.specs.declared.place.Root.TheVariants.{Frame as FrameRoot, Module as ModuleRoot}
+use Rattle.aos_base.specs.declared.root.Root.TheVariants.{Frame as FrameRoot, Module as ModuleRoot}
 use Rattle.aos_base.specs.Operators.{natural}
 use Rattle.aos_base.specs.Question.{Val, Asks, Traps, bind, Places, Lengths}
 use Rattle.aos_types.specs.declared.row.TypeId.{TypeId}
@@ -27,7 +27,7 @@ use Rattle.aos_typed.specs.Program.{ModuleVar, Local, Passed, Known, Opened, Par
 use Rattle.aos_typed.specs.Numbers.{id_of, id_of_made}
 use Rattle.aos_typed.specs.Open.{open_element}
 use Rattle.aos_typed.specs.Sort.{Sort, Plain, Variable, Alias, Elements, Length, variable_shape, object_shape}
-use Rattle.aos_typed.specs.Spot.{Spot}
+use Rattle.aos_typed.specs.Location.{Location}
 use Rattle.aos_types.specs.Content.{EachSort}
 use Rattle.aos_typed.specs.Typing.{Is, IsPlain, OnPlace, Names, nested}
 use Rattle.aos_typed.specs.Value.{Value, Int, Flag, Char, Set, Object, Callable, Place, number_of}
@@ -48,7 +48,7 @@ use Rattle.aos_sim.proofs.Runs.{Run, Onward, Tables, numbers, pushed_reverse, on
 use Rattle.aos_layout.proofs.Joins.{join_assoc}
 use Rattle.aos_sim.proofs.Extended.{whole_or, field_part, field_offset, record_no_object, no_extension, record_extension, begins_with, whole_begins}
 use Rattle.aos_sim.proofs.Parts.{own_contents, shape_on, cell_on, each_repeated, each_nested, each_join, variable_plain, object_plain, whole_ends, array_shape, element_part, element_offset, row_part, row_offset, variable_size, part_of_row, nested_size}
-use Rattle.aos_sim.proofs.Does.{HasFewCells, HasTypes, alias_sort, IsPlaceSort, lengths_are, spot_cell, HasText, HasRoom, HasPredeclared, characters, IsReached, Given, Does, bind_val, does_bind, does_more, place_grows}
+use Rattle.aos_sim.proofs.Does.{HasFewCells, HasTypes, alias_sort, IsPlaceSort, lengths_are, location_cell, HasText, HasRoom, HasPredeclared, characters, IsReached, Given, Does, bind_val, does_bind, does_more, place_grows}
 use Rattle.aos_sim.proofs.Variables.{basic_is_one, variable_there, variable_few, cell_there, constant_there, constant_few, constant_cell, local_there, alias_there, open_there}
 use Rattle.aos_sim.proofs.Evaluates.{OfType, number_in, pushed, OnTop, OnStack, Brings, ComesTo, Remain, Stays, Evaluates, pushed-append, front_does, piece_does, pieces_do, two_do}
 
@@ -74,7 +74,7 @@ module _ (program : Program) where
   HoldsType t s = Holds (is_record (row_of program.types t)) t s
 
   -- a variable of this type is there, and its cells have numbers of 32 bits; where it names the type of a record, that extends this one
-  pub record IsFound (named : Type 0) (t : TType) (w : World Sort) (p : Spot) : Type 0 where
+  pub record IsFound (named : Type 0) (t : TType) (w : World Sort) (p : Location) : Type 0 where
     pub shape : Shape Sort
     pub there : shape_at w p.root p.path ≡ Some shape
     pub few : cell_at w p.root p.path + size shape < 2 ^ 32
@@ -83,7 +83,7 @@ module _ (program : Program) where
     pub names : named → Names program w (id_of t) p
 
   -- the fields of a record or an object of this type are there, and their cells have numbers of 32 bits
-  pub record HasFields (t : TypeId) (w : World Sort) (p : Spot) : Type 0 where
+  pub record HasFields (t : TypeId) (w : World Sort) (p : Location) : Type 0 where
     pub shape : Shape Sort
     pub there : shape_at w p.root p.path ≡ Some shape
     pub few : cell_at w p.root p.path + size shape < 2 ^ 32
@@ -95,7 +95,7 @@ module _ (program : Program) where
   RowsHold [] t s = HoldsType t s
   RowsHold (n ∷ ns) t s = s ≡ nested (n ∷ ns) (variable_shape program.types t)
 
-  pub record AreRowsAt (ns : List ℕ) (t : TType) (w : World Sort) (p : Spot) : Type 0 where
+  pub record AreRowsAt (ns : List ℕ) (t : TType) (w : World Sort) (p : Location) : Type 0 where
     pub shape : Shape Sort
     pub there : shape_at w p.root p.path ≡ Some shape
     pub few : cell_at w p.root p.path + size shape < 2 ^ 32
@@ -112,10 +112,10 @@ module _ (program : Program) where
 
   module _ (w w' : World Sort) (g : Grows w w') where
     -- what is at a place stays there, at its cell
-    few_grows : (p : Spot) (s : Shape Sort) → shape_at w p.root p.path ≡ Some s → cell_at w p.root p.path + size s < 2 ^ 32 → cell_at w' p.root p.path + size s < 2 ^ 32
+    few_grows : (p : Location) (s : Shape Sort) → shape_at w p.root p.path ≡ Some s → cell_at w p.root p.path + size s < 2 ^ 32 → cell_at w' p.root p.path + size s < 2 ^ 32
     few_grows p s h few = subst (λ n. n + size s < 2 ^ 32) (cell_grows w w' g p.root p.path s h) few
 
-    pub found_grows : (named : Type 0) (t : TType) (p : Spot) → IsFound named t w p → IsFound named t w' p
+    pub found_grows : (named : Type 0) (t : TType) (p : Location) → IsFound named t w p → IsFound named t w' p
     found_grows named t p h =
         record {
           shape = h.shape;
@@ -126,13 +126,13 @@ module _ (program : Program) where
           names = λ n. names_grow p (h.names n);
         }
       where
-        names_grow : (p : Spot) → Names program w (id_of t) p → Names program w' (id_of t) p
+        names_grow : (p : Location) → Names program w (id_of t) p → Names program w' (id_of t) p
         names_grow p n = record { extends = n.extends; more = n.more; plain = n.plain; there = shape_grows w w' g p.root p.path (join (object_shape program.types (id_of_made p.type)) n.more) n.there }
 
-    pub found_cell : (named : Type 0) (t : TType) (p : Spot) → IsFound named t w p → place_in w p ≡ place_in w' p
-    found_cell named t p h = spot_cell w w' g p h.shape h.there
+    pub found_cell : (named : Type 0) (t : TType) (p : Location) → IsFound named t w p → place_in w p ≡ place_in w' p
+    found_cell named t p h = location_cell w w' g p h.shape h.there
 
-    pub rows_grow : (ns : List ℕ) (t : TType) (p : Spot) → AreRowsAt ns t w p → AreRowsAt ns t w' p
+    pub rows_grow : (ns : List ℕ) (t : TType) (p : Location) → AreRowsAt ns t w p → AreRowsAt ns t w' p
     rows_grow ns t p h =
         record { shape = h.shape; there = shape_grows w w' g p.root p.path h.shape h.there; few = few_grows p h.shape h.there h.few; holds = h.holds; plain = h.plain }
 
@@ -185,14 +185,14 @@ module _ (program : Program) where
     rows_hold [] t = variable_holds t
     rows_hold (n ∷ ns) t = refl
 
-    pub names_hold : (t : TypeId) (w : World Sort) (p : Spot) → is_record (row_of program.types t) ≡ true → (n : Names program w t p) → HoldsType t (join (object_shape program.types (id_of_made p.type)) n.more)
+    pub names_hold : (t : TypeId) (w : World Sort) (p : Location) → is_record (row_of program.types t) ≡ true → (n : Names program w t p) → HoldsType t (join (object_shape program.types (id_of_made p.type)) n.more)
     names_hold t w p is n =
         let r = begins_with program typed (id_of_made p.type) t is n.extends in
         record_holds t (join (object_shape program.types (id_of_made p.type)) n.more) (join r.0 n.more) is
         (ap (λ s. join s n.more) r.1 ∙ join_assoc (variable_shape program.types t) r.0 n.more)
 
   -- a part of it: it's there, and an instruction gives its place from the one of the whole
-  module _ (w : World Sort) (p : Spot) (whole s : Shape Sort) (there : shape_at w p.root p.path ≡ Some whole) (few : cell_at w p.root p.path + size whole < 2 ^ 32) (k : ℕ) (is : inside (k ∷ []) whole ≡ Some s) where
+  module _ (w : World Sort) (p : Location) (whole s : Shape Sort) (there : shape_at w p.root p.path ≡ Some whole) (few : cell_at w p.root p.path + size whole < 2 ^ 32) (k : ℕ) (is : inside (k ∷ []) whole ≡ Some s) where
     pub part_there : shape_at w (part_of k p).root (part_of k p).path ≡ Some s
     part_there = shape_on w p.root p.path whole there (k ∷ []) ∙ is
 
@@ -234,10 +234,10 @@ natural_below n m (pos j) e = by (nat_lt j n) refl e
     by false l f = absurd (cc)
 natural_below n m (negsuc j) e = absurd (cc)
 
-pub element_there : (n k : ℕ) (v : Value) (p : Spot) → natural n (number_of v) ≡ Some k → element_of n v p ≡ Val (part_of k p)
+pub element_there : (n k : ℕ) (v : Value) (p : Location) → natural n (number_of v) ≡ Some k → element_of n v p ≡ Val (part_of k p)
 element_there n k v p e = rw e refl
 
-pub no_element : (n : ℕ) (v : Value) (p : Spot) → natural n (number_of v) ≡ None → element_of n v p ≡ Traps 2 0
+pub no_element : (n : ℕ) (v : Value) (p : Location) → natural n (number_of v) ≡ None → element_of n v p ≡ Traps 2 0
 no_element n v p e = rw e refl
 
 -- Lengths on the stack
@@ -303,11 +303,11 @@ module _ (program : Program) (own : Option Procedure) (tables : Tables) (number 
   onward = runs tables number here code
 
   -- the code goes on with the rest at this place, with the place of a variable of this type on the stack
-  abbrev pub Named : Type 0 → TType → List Instr → ℕ → Keeps → Stack → World Sort → Spot → Run → Type 0
+  abbrev pub Named : Type 0 → TType → List Instr → ℕ → Keeps → Stack → World Sort → Location → Run → Type 0
   Named named t = OnStack tables number here code (IsFound program named t) place_in
 
   -- this piece of code, at this place, finds a variable of this type and goes on behind itself
-  abbrev pub Finds : Type 0 → TType → List Instr → Doing Spot → ℕ → Type 0
+  abbrev pub Finds : Type 0 → TType → List Instr → Doing Location → ℕ → Type 0
   Finds named t = ComesTo program own tables number here code (IsFound program named t) place_in
 
   pub places_stay : (named : Type 0) (t : TType) → Stays program own tables number here code (IsFound program named t) place_in
@@ -323,7 +323,7 @@ module _ (program : Program) (own : Option Procedure) (tables : Tables) (number 
   pub rows_remain : (bounded : Type 0) (n : ℕ) (t : TType) → Remain program own tables number here code (AreFound program bounded n t) rows_cells
   rows_remain bounded n t w w' g x h = (
     record { lengths = h.lengths; are = h.are; many = h.many; at = rows_grow program w w' g h.lengths t x.place h.at; bound = h.bound },
-    (λ i. spot_cell w w' g x.place h.at.shape h.at.there i ∷ same i),
+    (λ i. location_cell w w' g x.place h.at.shape h.at.there i ∷ same i),
   )
     where
       same : map (cell_of w) x.lengths ≡ map (cell_of w') x.lengths
@@ -341,7 +341,7 @@ module _ (program : Program) (own : Option Procedure) (tables : Tables) (number 
   FindsRoom = Brings program own tables number here code IsRoom text_cells
 
   text_cell : (w w' : World Sort) → Grows w w' → (x : Found) → IsText w x → text_cells w x ≡ text_cells w' x
-  text_cell w w' g x h = λ i. spot_cell w w' g x.place (characters h.0) h.2 i ∷ ((ap (cell_of w) h.1 ∙ sym (ap (cell_of w') h.1)) i ∷ [])
+  text_cell w w' g x h = λ i. location_cell w w' g x.place (characters h.0) h.2 i ∷ ((ap (cell_of w) h.1 ∙ sym (ap (cell_of w') h.1)) i ∷ [])
 
   pub texts_remain : Remain program own tables number here code IsText text_cells
   texts_remain w w' g x h = ((h.0, h.1, place_grows program here w w' g x.place (characters h.0) h.2), text_cell w w' g x h)
@@ -374,7 +374,7 @@ module _ (program : Program) (own : Option Procedure) (tables : Tables) (number 
       }
 
   -- a place that names the type of its record
-  pub names_found : HasTypes program → (named : Type 0) (t : TType) (w : World Sort) (p : Spot) → is_record (row_of program.types (id_of t)) ≡ true → Names program w (id_of t) p → IsReached w p → IsFound program named t w p
+  pub names_found : HasTypes program → (named : Type 0) (t : TType) (w : World Sort) (p : Location) → is_record (row_of program.types (id_of t)) ≡ true → Names program w (id_of t) p → IsReached w p → IsFound program named t w p
   names_found typed named t w p is n reached =
       record {
         shape = join (object_shape program.types (id_of_made p.type)) n.more;
@@ -424,13 +424,13 @@ module _ (program : Program) (own : Option Procedure) (tables : Tables) (number 
   -- Parts
 
   -- a record has its fields
-  pub has_record : HasTypes program → (named : Type 0) (t : TType) → is_record (row_of program.types (id_of t)) ≡ true → (w : World Sort) (p : Spot) → IsFound program named t w p → HasFields program (id_of t) w p
+  pub has_record : HasTypes program → (named : Type 0) (t : TType) → is_record (row_of program.types (id_of t)) ≡ true → (w : World Sort) (p : Location) → IsFound program named t w p → HasFields program (id_of t) w p
   has_record typed named t is w p found =
       let holds = holds_record program typed (id_of t) found.shape is found.holds in
       let same = own_contents program.types (id_of t) (record_no_object (row_of program.types (id_of t)) is) in
       record { shape = found.shape; there = found.there; few = found.few; more = holds.0; begins = holds.1 ∙ ap (λ z. join z holds.0) same }
 
-  pub field_does : HasTypes program → (P : World Sort → Spot → Type 0) (t u : TType) → ((w : World Sort) (p : Spot) → P w p → HasFields program (id_of t) w p) → (k : ℕ) (xs : List Instr) (r : Doing Spot) (at : ℕ) → field_type program.types (id_of t) k ≡ Some (id_of u) → ComesTo program own tables number here code P place_in xs r at → Finds ⊥ u (xs ++ i.Offset (field_cell program own t k) 0 ∷ []) (bind r (λ p. Val (field_of program.types (id_of t) k p))) at
+  pub field_does : HasTypes program → (P : World Sort → Location → Type 0) (t u : TType) → ((w : World Sort) (p : Location) → P w p → HasFields program (id_of t) w p) → (k : ℕ) (xs : List Instr) (r : Doing Location) (at : ℕ) → field_type program.types (id_of t) k ≡ Some (id_of u) → ComesTo program own tables number here code P place_in xs r at → Finds ⊥ u (xs ++ i.Offset (field_cell program own t k) 0 ∷ []) (bind r (λ p. Val (field_of program.types (id_of t) k p))) at
   field_does typed P t u fields k xs r at of h w known rest keeps s =
       let x = i.Offset (field_cell program own t k) 0 in
       let q = at + length (xs ++ x ∷ []) in
@@ -456,8 +456,8 @@ module _ (program : Program) (own : Option Procedure) (tables : Tables) (number 
       })
 
   -- an element, below whose place these operands stand, of what has elements of this shape
-  module _ (w : World Sort) (p : Spot) (whole inner : Shape Sort) (there : shape_at w p.root p.path ≡ Some whole) (few : cell_at w p.root p.path + size whole < 2 ^ 32) (n width : ℕ) (part : (j : ℕ) → j < n → inside (j ∷ []) whole ≡ Some inner) (offset_is : (j : ℕ) → j < n → offset (j ∷ []) whole ≡ j * width) (v : Value) where
-    at_element : {A : Type 0} (Q : World Sort → A → Run → Type 0) (f : Spot → Doing A) (above : List Cell) (rest : List Instr) (at : ℕ) (k : Keeps) (s : Stack) (m : Run) → m ≡ on_run tables (element (record { root = p.root; cell = cell_at w p.root p.path }) (natural n (number_of v)) width above s) (onward rest) at k → ((q : Spot) → shape_at w q.root q.path ≡ Some inner → cell_at w q.root q.path + size inner < 2 ^ 32 → m ≡ onward rest 0 (at + 1) k (above ++ place_in w q ∷ s) → Does program here Q w m (f q)) → Does program here Q w m (bind (element_of n v p) f)
+  module _ (w : World Sort) (p : Location) (whole inner : Shape Sort) (there : shape_at w p.root p.path ≡ Some whole) (few : cell_at w p.root p.path + size whole < 2 ^ 32) (n width : ℕ) (part : (j : ℕ) → j < n → inside (j ∷ []) whole ≡ Some inner) (offset_is : (j : ℕ) → j < n → offset (j ∷ []) whole ≡ j * width) (v : Value) where
+    at_element : {A : Type 0} (Q : World Sort → A → Run → Type 0) (f : Location → Doing A) (above : List Cell) (rest : List Instr) (at : ℕ) (k : Keeps) (s : Stack) (m : Run) → m ≡ on_run tables (element (record { root = p.root; cell = cell_at w p.root p.path }) (natural n (number_of v)) width above s) (onward rest) at k → ((q : Location) → shape_at w q.root q.path ≡ Some inner → cell_at w q.root q.path + size inner < 2 ^ 32 → m ≡ onward rest 0 (at + 1) k (above ++ place_in w q ∷ s) → Does program here Q w m (f q)) → Does program here Q w m (bind (element_of n v p) f)
     at_element Q f above rest at k s m e go = by (natural n (number_of v)) refl
       where
         ran : (o : Option ℕ) → natural n (number_of v) ≡ o → m ≡ on_run tables (element (record { root = p.root; cell = cell_at w p.root p.path }) o width above s) (onward rest) at k
@@ -472,7 +472,7 @@ module _ (program : Program) (own : Option Procedure) (tables : Tables) (number 
             (go (part_of j p) (part_there program w p whole inner there few j is) (part_few program w p whole inner there few j is)
             (ran (Some j) g ∙ ap (λ a. on_run tables a (onward rest) at k) (part_given program w p whole inner there few j is (j * width) above s (offset_is j l))))
 
-  pub index_does : HasTypes program → (named : Type 0) (t u : TType) (n : ℕ) (ca cb : List Instr) (ra : Doing Spot) (rb : Doing Value) (at : ℕ) → row_of program.types (id_of t) ≡ Some (row.Array n (id_of u)) → Finds named t ca ra at → Evaluates program own tables number here code (type.Integer W64) cb rb (at + length ca) → Finds ⊥ u (operands_code ca cb (i.Index n (cells_of program own u))) (bind ra (λ p. bind rb (λ v. element_of n v p))) at
+  pub index_does : HasTypes program → (named : Type 0) (t u : TType) (n : ℕ) (ca cb : List Instr) (ra : Doing Location) (rb : Doing Value) (at : ℕ) → row_of program.types (id_of t) ≡ Some (row.Array n (id_of u)) → Finds named t ca ra at → Evaluates program own tables number here code (type.Integer W64) cb rb (at + length ca) → Finds ⊥ u (operands_code ca cb (i.Index n (cells_of program own u))) (bind ra (λ p. bind rb (λ v. element_of n v p))) at
   index_does typed named t u n ca cb ra rb at array ha hb w known rest k s =
       let x = i.Index n (cells_of program own u) in
       let q = at + length (operands_code ca cb x) in
@@ -501,7 +501,7 @@ module _ (program : Program) (own : Option Procedure) (tables : Tables) (number 
       numbers_given ns rest (at + 1) k (Num (pos n) ∷ s) ∙ ap (λ j. onward rest 0 j k (pushed (numbers ns) (Num (pos n) ∷ s))) e
 
   -- an array whose lengths are known
-  known_does : (bounded : Type 0) (ns : List ℕ) (t : TType) (xs : List Instr) (r : Doing Spot) (at : ℕ) → (bounded → All IsLength ns) → ComesTo program own tables number here code (AreRowsAt program ns t) place_in xs r at → FindsRows bounded (length ns) t (xs ++ map (λ n. i.Num (pos n)) ns) (bind r (λ p. found p (map (λ n. Int (pos n)) ns))) at
+  known_does : (bounded : Type 0) (ns : List ℕ) (t : TType) (xs : List Instr) (r : Doing Location) (at : ℕ) → (bounded → All IsLength ns) → ComesTo program own tables number here code (AreRowsAt program ns t) place_in xs r at → FindsRows bounded (length ns) t (xs ++ map (λ n. i.Num (pos n)) ns) (bind r (λ p. found p (map (λ n. Int (pos n)) ns))) at
   known_does bounded ns t xs r at bound h w known rest k s =
       let tail = map (λ (n : ℕ). i.Num (pos n)) ns in
       let q = at + length (xs ++ tail) in
@@ -515,7 +515,7 @@ module _ (program : Program) (own : Option Procedure) (tables : Tables) (number 
       })
 
   -- that of an array type, and a string constant
-  pub array_rows : HasTypes program → (named bounded : Type 0) (u t : TType) (ns : List ℕ) (xs : List Instr) (r : Doing Spot) (at : ℕ) → (bounded → All IsLength ns) → IsArrayOf program.types ns (id_of u) (id_of t) → Finds named u xs r at → FindsRows bounded (length ns) t (xs ++ map (λ n. i.Num (pos n)) ns) (bind r (λ p. found p (map (λ n. Int (pos n)) ns))) at
+  pub array_rows : HasTypes program → (named bounded : Type 0) (u t : TType) (ns : List ℕ) (xs : List Instr) (r : Doing Location) (at : ℕ) → (bounded → All IsLength ns) → IsArrayOf program.types ns (id_of u) (id_of t) → Finds named u xs r at → FindsRows bounded (length ns) t (xs ++ map (λ n. i.Num (pos n)) ns) (bind r (λ p. found p (map (λ n. Int (pos n)) ns))) at
   array_rows typed named bounded u t ns xs r at bound of h =
       known_does bounded ns t xs r at bound
       (λ w known rest k s. does_more program here (Named named u rest (at + length xs) k s) (OnStack tables number here code (AreRowsAt program ns t) place_in rest (at + length xs) k s) w _ r (h w known rest k s)
@@ -689,7 +689,7 @@ module _ (program : Program) (own : Option Procedure) (tables : Tables) (number 
                 (lengths_do k ns 0 (suc c) (at + 1) q (omega arith) (omega (arith, n)) w' lengths rest ks (cell_of w' v ∷ s))
                 (λ w2 up' vs m' p. record {
                   is = record { lengths = ns; are = p.is; many = refl; at = rows_grow program w' w2 up' ns t (source.place_in v) f.0; bound = λ b. bound };
-                  run = p.run ∙ ap (λ y. onward rest 0 q ks (pushed (map (cell_of w2) vs) (y ∷ s))) (f.1 ∙ spot_cell w' w2 up' (source.place_in v) f.0.shape f.0.there);
+                  run = p.run ∙ ap (λ y. onward rest 0 q ks (pushed (map (cell_of w2) vs) (y ∷ s))) (f.1 ∙ location_cell w' w2 up' (source.place_in v) f.0.shape f.0.there);
                 }),
           )
 

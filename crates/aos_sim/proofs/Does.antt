@@ -8,7 +8,7 @@ use Rattle.std.proofs.lemmas.List.{map-append}
 use Rattle.aos_base.specs.declared.limits.TheConstants.{MOST_SCALARS}
 use Rattle.aos_base.specs.declared.number.Width.TheVariants.{W64}
 use Rattle.aos_base.specs.Question.{Tree, Val, Asks, Traps, bind, feed, Reads, Stores, Copies, PutsText, ComparesTexts, Calls, Ends, Makes, Starts, Enters, Leaves, Awaits, PutsInt, PutsChar, PutsString, PutsNothing, PutsLn, Places, Lengths, Opens, Sizes, Tests, ByName}
-use Rattle.aos_base.specs.declared.place.Root.TheVariants.{Frame, Module, Object as ObjectRoot}
+use Rattle.aos_base.specs.declared.root.Root.TheVariants.{Frame, Module, Object as ObjectRoot}
 use Rattle.aos_base.specs.Rooted.{Made, by_number}
 use Rattle.aos_base.specs.Number.{array_lengths}
 use Rattle.aos_base.specs.Operators.{flag}
@@ -29,7 +29,7 @@ use Rattle.aos_typed.specs.Methods.{slots, own_numbers, body_type, is_active}
 use Rattle.aos_code.specs.Machine.{has_active_body}
 use Rattle.aos_typed.specs.Routines.{Routine, parameters_of, self_type, has_self, result_of, routines}
 use Rattle.aos_typed.specs.Sort.{Sort, Plain, Variable, Alias, Elements, Length, variable_shape}
-use Rattle.aos_typed.specs.Spot.{Spot}
+use Rattle.aos_typed.specs.Location.{Location}
 use Rattle.aos_typed.specs.Value.{Value, Int, Flag, Object, Place, number_of as number_of_value}
 use Rattle.aos_typed.specs.Typing.{Is, IsPlace, OnPlace, IsPlain, IsInteger, IsFlag, IsCharacter, HasLengths, nested}
 use Rattle.aos_typed.specs.Source.{module_shape, made_shape, object_place, length_in, known}
@@ -68,7 +68,7 @@ use Rattle.aos_sim.proofs.Types.{IsValueOf, number_cell, integer_is, character_i
 abbrev pub scheme : Program → Scheme Sort
 scheme p = record { modules = map (module_shape p) p.modules; made = made_shape p.types }
 
-abbrev pub addr_of : World Sort → Spot → Addr
+abbrev pub addr_of : World Sort → Location → Addr
 addr_of w p = record { root = p.root; cell = cell_at w p.root p.path }
 
 -- a length that there is
@@ -96,15 +96,15 @@ abbrev pub characters : ℕ → Shape Sort
 characters n = repeated n (One (Plain (id_of type.Char)))
 
 -- there are so many characters at a place
-abbrev pub HasCharacters : World Sort → Spot → ℕ → Type 0
+abbrev pub HasCharacters : World Sort → Location → ℕ → Type 0
 HasCharacters w p n = shape_at w p.root p.path ≡ Some (characters n)
 
 -- as many as this value says
-abbrev pub HasText : World Sort → Spot → Value → Type 0
+abbrev pub HasText : World Sort → Location → Value → Type 0
 HasText w p v = (n : ℕ) × (v ≡ Int (pos n)) × HasCharacters w p n
 
 -- and there is room for a 0X
-abbrev pub HasRoom : World Sort → Spot → Value → Type 0
+abbrev pub HasRoom : World Sort → Location → Value → Type 0
 HasRoom w p v = (n : ℕ) × (v ≡ Int (pos n)) × HasCharacters w p n × (0 < n)
 
 -- the predeclared types stand first
@@ -201,7 +201,7 @@ IsPlaceSort (Elements t ns) = Unit {0}
 IsPlaceSort (Length n) = ⊥
 
 -- what stands at a place has cells with numbers of 32 bits
-abbrev pub IsReached : World Sort → Spot → Type 0
+abbrev pub IsReached : World Sort → Location → Type 0
 IsReached w p = (s : Shape Sort) → shape_at w p.root p.path ≡ Some s → cell_at w p.root p.path + size s < 2 ^ 32
 
 -- so has all that stands below the roots of a world
@@ -247,25 +247,25 @@ module _ (program : Program) where
   placed w (Tests v t) = Tests (cell_of w v) t
 
   -- there is a scalar of this sort at a place
-  abbrev pub HasScalar : World Sort → Spot → Sort → Type 0
+  abbrev pub HasScalar : World Sort → Location → Sort → Type 0
   HasScalar w p k = shape_at w p.root p.path ≡ Some (One k)
 
   -- there is a variable of this type
-  abbrev pub HasPlace : World Sort → Spot → TType → Type 0
+  abbrev pub HasPlace : World Sort → Location → TType → Type 0
   HasPlace w p t = shape_at w p.root p.path ≡ Some (variable_shape program.types (id_of t))
 
   -- what stands at a place begins with a variable of this type
-  abbrev pub HasWhole : World Sort → Spot → TypeId → Type 0
+  abbrev pub HasWhole : World Sort → Location → TypeId → Type 0
   HasWhole w p t = (more : Shape Sort) × (shape_at w p.root p.path ≡ Some (join (variable_shape program.types t) more)) × EachSort IsPlain more
 
   -- What a call hands over for a parameter: a value, a place, or an open array's place and the lengths of its dimensions.
   abbrev pub Handles : (opens by_reference scalar : Bool) → World Sort → TypeId → List Value → Type 0
   Handles true b c w t us =
-      (p : Spot) × (ns : List ℕ) × (us ≡ Place p ∷ map (λ n. Int (pos n)) ns) × (length ns ≡ open_dimensions program.types t)
+      (p : Location) × (ns : List ℕ) × (us ≡ Place p ∷ map (λ n. Int (pos n)) ns) × (length ns ≡ open_dimensions program.types t)
       × IsPlace program w (Elements (open_element program.types t) ns) p × All IsLength ns
   Handles false true c w t us = (v : Value) × (us ≡ v ∷ []) × Is program w (alias_sort program.types t) v
   Handles false false true w t us = (v : Value) × (us ≡ v ∷ []) × Is program w (Plain t) v
-  Handles false false false w t us = (p : Spot) × (us ≡ Place p ∷ []) × HasWhole w p t
+  Handles false false false w t us = (p : Location) × (us ≡ Place p ∷ []) × HasWhole w p t
 
   abbrev pub HandlesFor : World Sort → Parameter → List Value → Type 0
   HandlesFor w a us =
@@ -379,8 +379,8 @@ knows_grows p own here w w' g k =
     }
 
 -- what is at a place is at the same cell in a world that has grown
-pub spot_cell : (w w' : World Sort) → Grows w w' → (p : Spot) (s : Shape Sort) → shape_at w p.root p.path ≡ Some s → cell_of w (Place p) ≡ cell_of w' (Place p)
-spot_cell w w' g p s h = ap (λ n. cell.Place p.root n p.type) (cell_grows w w' g p.root p.path s h)
+pub location_cell : (w w' : World Sort) → Grows w w' → (p : Location) (s : Shape Sort) → shape_at w p.root p.path ≡ Some s → cell_of w (Place p) ≡ cell_of w' (Place p)
+location_cell w w' g p s h = ap (λ n. cell.Place p.root n p.type) (cell_grows w w' g p.root p.path s h)
 
 pub bind_val : {Q V A : Type 0} (r : Tree Q V A) → bind r (λ a. Val a) ≡ r
 bind_val (Val a) = refl
@@ -408,13 +408,13 @@ module _ (program : Program) (here : Here) where
 
   module _ (w w' : World Sort) (g : Grows w w') where
     -- a place stays there, at its cell
-    pub place_grows : (p : Spot) (s : Shape Sort) → shape_at w p.root p.path ≡ Some s → shape_at w' p.root p.path ≡ Some s
+    pub place_grows : (p : Location) (s : Shape Sort) → shape_at w p.root p.path ≡ Some s → shape_at w' p.root p.path ≡ Some s
     place_grows p s h = shape_grows w w' g p.root p.path s h
 
-    pub addr_grows : (p : Spot) (s : Shape Sort) → shape_at w p.root p.path ≡ Some s → addr_of w p ≡ addr_of w' p
+    pub addr_grows : (p : Location) (s : Shape Sort) → shape_at w p.root p.path ≡ Some s → addr_of w p ≡ addr_of w' p
     addr_grows p s h = ap (λ n. record { root = p.root; cell = n }) (cell_grows w w' g p.root p.path s h)
 
-    whole_grows : (p : Spot) (t : TypeId) → HasWhole program w p t → HasWhole program w' p t
+    whole_grows : (p : Location) (t : TypeId) → HasWhole program w p t → HasWhole program w' p t
     whole_grows p t h = (h.0, place_grows p (join (variable_shape program.types t) h.0) h.1, h.2)
 
     pub object_grows : (v : Value) (m : Made) → IsObject w v m → IsObject w' v m
@@ -440,7 +440,7 @@ module _ (program : Program) (here : Here) where
     length_cell : (v : Value) (n : ℕ) → v ≡ Int (pos n) → cell_of w v ≡ cell_of w' v
     length_cell v n e = ap (cell_of w) e ∙ sym (ap (cell_of w') e)
 
-    text_grows : (p : Spot) (v : Value) → HasText w p v → HasText w' p v
+    text_grows : (p : Location) (v : Value) → HasText w p v → HasText w' p v
     text_grows p v h = (h.0, h.1, place_grows p (characters h.0) h.2)
 
     -- what is handed over
@@ -454,14 +454,14 @@ module _ (program : Program) (here : Here) where
     handles_cells : (o b c : Bool) (t : TypeId) (us : List Value) → Handles program o b c w t us → map (cell_of w) us ≡ map (cell_of w') us
     handles_cells true b c t us h =
         ap (map (cell_of w)) h.2
-        ∙ (λ i. spot_cell w w' g h.0 (nested h.1 (variable_shape program.types (open_element program.types t))) h.4 i ∷ (lengths_are w h.1 ∙ sym (lengths_are w' h.1)) i)
+        ∙ (λ i. location_cell w w' g h.0 (nested h.1 (variable_shape program.types (open_element program.types t))) h.4 i ∷ (lengths_are w h.1 ∙ sym (lengths_are w' h.1)) i)
         ∙ sym (ap (map (cell_of w')) h.2)
     handles_cells false true c t us h =
         ap (map (cell_of w)) h.1 ∙ ap (λ x. x ∷ []) ((values_kept program).cells w w' g (alias_sort program.types t) h.0 h.2) ∙ sym (ap (map (cell_of w')) h.1)
     handles_cells false false true t us h =
         ap (map (cell_of w)) h.1 ∙ ap (λ x. x ∷ []) ((values_kept program).cells w w' g (Plain t) h.0 h.2) ∙ sym (ap (map (cell_of w')) h.1)
     handles_cells false false false t us h =
-        ap (map (cell_of w)) h.1 ∙ ap (λ x. x ∷ []) (spot_cell w w' g h.0 (join (variable_shape program.types t) h.2.0) h.2.1) ∙ sym (ap (map (cell_of w')) h.1)
+        ap (map (cell_of w)) h.1 ∙ ap (λ x. x ∷ []) (location_cell w w' g h.0 (join (variable_shape program.types t) h.2.0) h.2.1) ∙ sym (ap (map (cell_of w')) h.1)
 
     pub given_grows : (as' : List Parameter) (vs : List Value) → Given program w as' vs → Given program w' as' vs
     given_grows [] vs h = h
@@ -558,7 +558,7 @@ module _ (program : Program) (here : Here) where
 
   -- Silent questions, where the frame's cells show its variables.
 
-  within_reached : (w : World Sort) → AreReached w → (p : Spot) → IsReached w p
+  within_reached : (w : World Sort) → AreReached w → (p : Location) → IsReached w p
   within_reached w reached p s e = by (w.shape p.root) refl e
     where
       by : (o : Option (Shape Sort)) → w.shape p.root ≡ o → option_and_then (inside p.path) o ≡ Some s → cell_at w p.root p.path + size s < 2 ^ 32
@@ -591,11 +591,11 @@ module _ (program : Program) (here : Here) where
 
   module _ (w : World Sort) (s : Shape Sort) (c : Content Value) (cells : List Cell) (at : w.shape (Frame here.below) ≡ Some s) (shown : Shown (Is program) cell_of w s c cells) (whole : IsWhole program w) (tables : Tables) (shaped : HasShapes program tables) where
     -- a scalar of the frame has a value, which is in its cell
-    pub record Noticed (p : Spot) (k : Sort) : Type 0 where
+    pub record Noticed (p : Location) (k : Sort) : Type 0 where
       pub is : Is program w k (known c p)
       pub cell : slice_get cells (addr_of w p).cell ≡ Some (cell_of w (known c p))
 
-    pub noticed : (p : Spot) (k : Sort) → p.root ≡ Frame here.below → HasScalar program w p k → Noticed p k
+    pub noticed : (p : Location) (k : Sort) → p.root ≡ Frame here.below → HasScalar program w p k → Noticed p k
     noticed p k root has =
         let here_is = ap w.shape root ∙ at in
         let way : inside p.path s ≡ Some (One k) = ap (option_and_then (inside p.path)) (sym here_is) ∙ has in
@@ -665,7 +665,7 @@ module _ (program : Program) (here : Here) where
       conforms : Conforms program w q v
       cell : noticed_as q ≡ Answered (cell_of w v)
 
-    places_noted : (p : Spot) → Valid program here w (Places p) → Noted (Places p) (known c p)
+    places_noted : (p : Location) → Valid program here w (Places p) → Noted (Places p) (known c p)
     places_noted p h =
         let k = h.1 in
         let n = noticed p k h.0 h.3 in
@@ -674,7 +674,7 @@ module _ (program : Program) (here : Here) where
           cell = ap (noted_as A) n.cell ∙ place_noted w k (known c p) h.2 n.is;
         }
 
-    lengths_noted : (p : Spot) → Valid program here w (Lengths p) → Noted (Lengths p) (known c p)
+    lengths_noted : (p : Location) → Valid program here w (Lengths p) → Noted (Lengths p) (known c p)
     lengths_noted p h =
         let n = noticed p (Length h.1) h.0 h.2 in
         record {

@@ -9,7 +9,7 @@ use Rattle.std.proofs.lemmas.Option.{slice_get-map}
 use Rattle.aos_base.specs.declared.number.Width.{Width}
 use Rattle.aos_base.specs.declared.number.Width.TheVariants.{W16, W32, W64}
 use Rattle.aos_base.specs.declared.number.Relation.{Relation}
-use Rattle.aos_base.specs.declared.place.Root.TheVariants.{Module as ModuleRoot}
+use Rattle.aos_base.specs.declared.root.Root.TheVariants.{Module as ModuleRoot}
 use Rattle.aos_base.specs.Number.{IsWithin}
 use Rattle.aos_base.specs.declared.operator.Unary.{Unary as UnaryOperator}
 use Rattle.aos_base.specs.declared.operator.Unary.TheVariants.{Neg, Abs, Not, Odd, Cap, Compl, Range}
@@ -40,7 +40,7 @@ use Rattle.aos_typed.specs.Typing.{nested, Is, IsPlain, Extends}
 use Rattle.aos_sim.proofs.Parts.{each_rest}
 use Rattle.aos_typed.specs.Value.{Value, Int, Object, Place, Sort as Kind, Character, literal_value, number_of, given as given_value, unary_sort, binary_sort, binary, element, ord}
 use Rattle.aos_typed.specs.Meaning.{Here, Doing, Found, length_at, text_length, place_of, rows_of, arguments_of, value_of, called as called_of}
-use Rattle.aos_typed.specs.Spot.{Spot}
+use Rattle.aos_typed.specs.Location.{Location}
 use Rattle.aos_typed.specs.WellTyped.{is_basic, is_procedural, is_value, is_reference, is_whole, Includes, Fits, IsLiteral, HasRange, taken, Gives as GivenOf, GivesOfTwo, NamesType, IsGiven, IsFilled, IsConstantText, IsOpening, IsByValue, IsLength, HaveLengths, IsPlaceOf, IsObjectAt, AreRows, AreArguments, IsCalled, IsOf, IsNamed}
 use Rattle.aos_code.specs.declared.instr.Cell.{Cell}
 use Rattle.aos_code.specs.declared.instr.Cell.TheVariants.{Num, Ref, Place as AsPlace}
@@ -56,7 +56,7 @@ use Rattle.aos_sim.proofs.First.{all_get}
 use Rattle.aos_sim.proofs.Extended.{record_base, open_some}
 use Rattle.aos_sim.proofs.References.{nil_value, no_procedure, made_reference, to_target, fitting_value, value_is_one, value_no_record, value_scalar}
 use Rattle.aos_sim.proofs.Objects.{object_target, deref_does, object_does, spread_does, is_does, guard_does, same_does, is_record_does, guard_place_does, typed_does}
-use Rattle.aos_sim.proofs.Does.{HasPredeclared, HasTypes, HasShapes, IsObject, IsSelf, alias_sort, HasScalar, HasWhole, Handles, HandlesFor, Given, addr_of, lengths_are, spot_cell, Does, place_grows, knows_grows, along, does_bind, does_more}
+use Rattle.aos_sim.proofs.Does.{HasPredeclared, HasTypes, HasShapes, IsObject, IsSelf, alias_sort, HasScalar, HasWhole, Handles, HandlesFor, Given, addr_of, lengths_are, location_cell, Does, place_grows, knows_grows, along, does_bind, does_more}
 use Rattle.aos_sim.proofs.Variables.{constant_there, constant_cell}
 use Rattle.aos_sim.proofs.Evaluates.{OfType, number_in, pushed, pushed-append, Pushed, OnTop, OnStack, OfSort, Brings, ComesTo, Remain, Evaluates, Yields, yields, evaluates, sorts_stay, front_does, piece_does, pieces_do, two_do, values_stay, operand_does, ends_at}
 use Rattle.aos_sim.proofs.Designators.{IsFound, HasFields, has_record, RowsHold, holds_exactly, holds_extension, filled_begins, longer_rows, AreFound, rows_cells, IsText, text_cells, counted_taken, Finds, FindsRows, Hands, FindsText, FindsRoom, places_stay, rows_remain, texts_remain, variable_does, local_does, passed_does, field_does, index_does, array_rows, constant_rows, opened_does, row_does, of_does, rows_text, rows_room}
@@ -169,7 +169,7 @@ module _ (program : Program) (own : Option Procedure) (tables : Tables) (number 
   Yielded t = OnStack tables number here code (OfSort program own tables number here code t) cell_of
 
   -- a variable of a scalar is one
-  pub scalar_found : HasTypes program → (t : TType) → is_value program.types t ≡ true → (w : World Sort) (p : Spot) (named : Type 0) → IsFound program named t w p → HasScalar program w p (Plain (id_of t))
+  pub scalar_found : HasTypes program → (t : TType) → is_value program.types t ≡ true → (w : World Sort) (p : Location) (named : Type 0) → IsFound program named t w p → HasScalar program w p (Plain (id_of t))
   scalar_found typed t value w p named found =
       found.there
       ∙ ap (λ z. Some z) (holds_exactly program typed (id_of t) found.shape (value_no_record program typed.predeclared t value) found.holds ∙ value_is_one program typed.predeclared t value)
@@ -234,7 +234,7 @@ module _ (program : Program) (own : Option Procedure) (tables : Tables) (number 
       (λ w' up v m p. record { is = more (ord v) (ord_is v p.is); run = p.run })
 
   -- a place of a scalar is read
-  read_does : HasTypes program → (named : Type 0) (t u : TType) (xs : List Instr) (r : Doing Spot) (at : ℕ) → is_value program.types u ≡ true → Fits program t u → Finds program own tables number here code named u xs r at → Yield t (xs ++ i.Load (kind_of program.types u) ∷ []) (bind r (λ p. ask (Reads u p))) at
+  read_does : HasTypes program → (named : Type 0) (t u : TType) (xs : List Instr) (r : Doing Location) (at : ℕ) → is_value program.types u ≡ true → Fits program t u → Finds program own tables number here code named u xs r at → Yield t (xs ++ i.Load (kind_of program.types u) ∷ []) (bind r (λ p. ask (Reads u p))) at
   read_does typed named t u xs r at value fits h w known rest k s =
       let q = at + length (xs ++ i.Load (kind_of program.types u) ∷ []) in
       let n : at + length xs + 1 ≡ q = omega (arith, length-append xs (i.Load (kind_of program.types u) ∷ [])) in
@@ -393,7 +393,7 @@ module _ (program : Program) (own : Option Procedure) (tables : Tables) (number 
       (λ w v vs is. refl) ha hb
 
   -- a variable, by its place
-  whole_does : HasTypes program → (p : Designator) (u : TType) (a : Parameter) (rest as' : List Parameter) (ca cb : List Instr) (ra : Doing Spot) (rb : Doing (List Value)) (at : ℕ) → as' ≡ a ∷ rest → IsGiven program own a p u → Finds program own tables number here code (NamesType program own p u) u ca ra at → Hands program own tables number here code rest cb rb (at + length ca) → Hands program own tables number here code as' (ca ++ cb) (bind ra (λ p. bind rb (λ vs. Val (Place p ∷ vs)))) at
+  whole_does : HasTypes program → (p : Designator) (u : TType) (a : Parameter) (rest as' : List Parameter) (ca cb : List Instr) (ra : Doing Location) (rb : Doing (List Value)) (at : ℕ) → as' ≡ a ∷ rest → IsGiven program own a p u → Finds program own tables number here code (NamesType program own p u) u ca ra at → Hands program own tables number here code rest cb rb (at + length ca) → Hands program own tables number here code as' (ca ++ cb) (bind ra (λ p. bind rb (λ vs. Val (Place p ∷ vs)))) at
   whole_does typed d u a rest as' ca cb ra rb at e given ha hb =
       let named = NamesType program own d u in
       let stays = places_stay program own tables number here code named u in
@@ -402,10 +402,10 @@ module _ (program : Program) (own : Option Procedure) (tables : Tables) (number 
       (λ w p vs is more. handled_one a rest as' e w (Place p ∷ []) vs (handles w p is given) more)
       (λ w p vs is. refl) ha hb
     where
-      alias : (w : World Sort) (p : Spot) (b : Bool) → is_record (row_of program.types (id_of a.of)) ≡ b → Is program w (if b then Variable (id_of a.of) else Alias (id_of a.of)) (Place p) → Is program w (alias_sort program.types (id_of a.of)) (Place p)
+      alias : (w : World Sort) (p : Location) (b : Bool) → is_record (row_of program.types (id_of a.of)) ≡ b → Is program w (if b then Variable (id_of a.of) else Alias (id_of a.of)) (Place p) → Is program w (alias_sort program.types (id_of a.of)) (Place p)
       alias w p b is h = subst (λ c. Is program w (if c then Variable (id_of a.of) else Alias (id_of a.of)) (Place p)) (sym is) h
 
-      handles : (w : World Sort) (p : Spot) → IsFound program (NamesType program own d u) u w p → IsGiven program own a d u → HandlesFor program w a (Place p ∷ [])
+      handles : (w : World Sort) (p : Location) → IsFound program (NamesType program own d u) u w p → IsGiven program own a d u → HandlesFor program w a (Place p ∷ [])
       handles w p is (inl (h, isnt)) =
           let t = id_of a.of in
           let one = is_scalar (row_of program.types t) in
@@ -433,7 +433,7 @@ module _ (program : Program) (own : Option Procedure) (tables : Tables) (number 
       handed_does (λ w p. HasWhole program w p t) (λ w p. place_in w p ∷ []) (λ p vs. Place p ∷ vs) as' rest (place_code program own (ModuleVar m l) at) cb (place_of program here (ModuleVar m l)) rb at
       (λ w w' g p h.
       let all = join (variable_shape program.types t) h.0 in
-      ((h.0, place_grows program here w w' g p all h.1, h.2), ap (λ c. c ∷ []) (spot_cell w w' g p all h.1)))
+      ((h.0, place_grows program here w w' g p all h.1, h.2), ap (λ c. c ∷ []) (location_cell w w' g p all h.1)))
       (λ w p vs h more.
       handled_one a rest as' e w (Place p ∷ []) vs
       (is_handled (is_open (row_of program.types t)) a.by_reference one false false false w t (Place p ∷ []) f.2.0 f.2.1 (no_scalar (row_of program.types t) (ap is_whole f.3)) (p, refl, h)) more)

@@ -2,8 +2,8 @@
 use Rattle.aos_base.specs.declared.kernel.LockName.{LockName}
 use Rattle.std.proofs.Common.{◌≡◌, ℕ, zero, suc, List, [], ◌∷◌, ◌++◌, map, Bool, true, false, Option, Some, None, if◌then◌else◌, refl, sym, append-nil}
 use Rattle.std.specs.Prelude.{unsigned_abs}
-use Rattle.aos_base.specs.declared.place.Root.{Root}
-use Rattle.aos_base.specs.declared.place.Root.TheVariants.{Frame as FrameRoot, Module as ModuleRoot, Object as ObjectRoot}
+use Rattle.aos_base.specs.declared.root.Root.{Root}
+use Rattle.aos_base.specs.declared.root.Root.TheVariants.{Frame as FrameRoot, Module as ModuleRoot, Object as ObjectRoot}
 use Rattle.aos_base.specs.Rooted.{Made, by_number}
 use Rattle.aos_base.specs.Question.{Val, Asks, Traps, feed, Reads, Stores, Copies, PutsText, ComparesTexts, Calls, Ends, Makes, Starts, Enters, Leaves, Awaits, PutsInt, PutsChar, PutsString, PutsLn, PutsNothing, Places, Lengths, Opens, Sizes, Tests}
 use Rattle.aos_base.specs.Number.{array_lengths}
@@ -13,7 +13,7 @@ use Rattle.aos_typed.specs.Program.{Repeat, Program}
 use Rattle.aos_typed.specs.Numbers.{id_of}
 use Rattle.aos_typed.specs.Routines.{Routine, routines}
 use Rattle.aos_typed.specs.Sort.{variable_shape}
-use Rattle.aos_typed.specs.Spot.{Spot}
+use Rattle.aos_typed.specs.Location.{Location}
 use Rattle.aos_typed.specs.Text.{text_in, with_text, fitted}
 use Rattle.aos_typed.specs.Value.{Value, Int, Flag, Char, Set, Object, Callable, Place, number_of, is_true}
 use Rattle.aos_typed.specs.Store.{Store, store_with, has_room, made_in}
@@ -59,11 +59,11 @@ module _ (following : List ℕ) where
   awaits_grown [] c f fs s = none s.made
   awaits_grown (l ∷ locks) c f fs s = none s.made
 
-  copies_grown : (c : Option (Content Value)) (p : Spot) (h : Top) → Grown h.store.made (copies following c p h).store.made
+  copies_grown : (c : Option (Content Value)) (p : Location) (h : Top) → Grown h.store.made (copies following c p h).store.made
   copies_grown None p h = none h.store.made
   copies_grown (Some c) p h = writes_grown p.root (placed p.path c) h.store
 
-  stores_text_grown : (text : Option (List ℕ)) (old : Option (Content Value)) (p : Spot) (f : Frame) (fs : List Frame) (s : Store) → Grown s.made (stores_text following text old p (top f fs s)).store.made
+  stores_text_grown : (text : Option (List ℕ)) (old : Option (Content Value)) (p : Location) (f : Frame) (fs : List Frame) (s : Store) → Grown s.made (stores_text following text old p (top f fs s)).store.made
   stores_text_grown None old p f fs s = none s.made
   stores_text_grown (Some cs) None p f fs s = none s.made
   stores_text_grown (Some cs) (Some old) p f fs s = writes_grown p.root (placed p.path (with_text cs old)) s

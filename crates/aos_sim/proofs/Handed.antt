@@ -3,7 +3,7 @@ use Rattle.std.proofs.Common.{append_assoc, append-nil, ◌≡◌, ℕ, suc, ◌
 use Rattle.std.specs.Prelude.{All, option_map, option_and_then}
 use Rattle.std.proofs.lemmas.List.{map-append, length-map, take_at, drop_at}
 use Rattle.std.proofs.lemmas.List.Elements.{All-tail}
-use Rattle.aos_base.specs.declared.place.Root.TheVariants.{Frame as FrameRoot}
+use Rattle.aos_base.specs.declared.root.Root.TheVariants.{Frame as FrameRoot}
 use Rattle.aos_base.specs.Rooted.{Made, Rooted, load_all}
 use Rattle.aos_types.specs.declared.row.TypeId.{TypeId}
 use Rattle.aos_types.specs.declared.row.TypeRow.{TypeRow}
@@ -18,7 +18,7 @@ use Rattle.aos_typed.specs.Program.{Parameter, Program}
 use Rattle.aos_typed.specs.Numbers.{id_of}
 use Rattle.aos_typed.specs.Open.{open_dimensions, open_element}
 use Rattle.aos_typed.specs.Sort.{Sort, Plain, Elements, Length, variable_shape}
-use Rattle.aos_typed.specs.Spot.{Spot}
+use Rattle.aos_typed.specs.Location.{Location}
 use Rattle.aos_typed.specs.Value.{Value, Int, Place}
 use Rattle.aos_typed.specs.Typing.{Is, IsPlain, nested}
 use Rattle.aos_typed.specs.Handed as H
@@ -209,12 +209,12 @@ module _ (program : Program) (made : List Made) (frames : List (Shape Sort)) (x 
       record { fits = (values_kept program).is now w up k v h; same = ap (λ c. c ∷ []) ((values_kept program).cells now w up k v h) }
 
   -- what stands at a place, so many cells
-  record Found (p : Spot) (s : Shape Sort) (n : ℕ) : Type 0 where
+  record Found (p : Location) (s : Shape Sort) (n : ℕ) : Type 0 where
     cells : List Cell
     there : I.whole_at ps n (cell_of now (Place p)) y ≡ Some cells
     shown : IsShown s (H.content_at rows here x (Place p)) cells
 
-  found : (p : Spot) (s : Shape Sort) (n : ℕ) → size s ≡ n → shape_at now p.root p.path ≡ Some s → Found p s n
+  found : (p : Location) (s : Shape Sort) (n : ℕ) → size s ≡ n → shape_at now p.root p.path ≡ Some s → Found p s n
   found p s n many at =
       let a = whole_alike (Is program) cell_of IsPlain (values_kept program) (scheme program) made frames x y w up p.root p.path s shows at in
       let long = shown_long (Is program) cell_of w s a.inner a.cells a.shown ∙ many in
@@ -225,12 +225,12 @@ module _ (program : Program) (made : List Made) (frames : List (Shape Sort)) (x 
       }
 
   -- the parts of a shape with which it begins
-  record Begun (p : Spot) (s : Shape Sort) (n : ℕ) : Type 0 where
+  record Begun (p : Location) (s : Shape Sort) (n : ℕ) : Type 0 where
     cells : List Cell
     there : I.whole_at ps n (cell_of now (Place p)) y ≡ Some cells
     shown : IsShown s (cut s (H.content_at rows here x (Place p))) cells
 
-  begun : (p : Spot) (s more : Shape Sort) (n : ℕ) → join s Nothing ≡ s → size s ≡ n → shape_at now p.root p.path ≡ Some (join s more) → Begun p s n
+  begun : (p : Location) (s more : Shape Sort) (n : ℕ) → join s Nothing ≡ s → size s ≡ n → shape_at now p.root p.path ≡ Some (join s more) → Begun p s n
   begun p s more n ends many at =
       let a = first_alike (Is program) cell_of IsPlain (values_kept program) (scheme program) made frames x y w up p.root p.path s more ends shows at in
       let long = shown_long (Is program) cell_of w s (cut s a.inner) a.cells a.shown ∙ many in
@@ -321,7 +321,7 @@ module _ (program : Program) (made : List Made) (frames : List (Shape Sort)) (x 
     opening v ns long lengths r =
         (ns, long, lengths, ap (λ l. Pair (One (Elements of l)) (row (map (λ n. One (Length n)) l))) (naturals_of ns))
 
-    module _ (p : Spot) (ns : List ℕ) (rest : List Value) (long : length ns ≡ many) (is : Is program now (Elements of ns) (Place p)) (lengths : All IsLength ns) where
+    module _ (p : Location) (ns : List ℕ) (rest : List Value) (long : length ns ≡ many) (is : Is program now (Elements of ns) (Place p)) (lengths : All IsLength ns) where
       abbrev first : List Value
       first = lengths_of ns
 

@@ -15,7 +15,7 @@ use Rattle.aos_code.specs.Machine.{machine, first_state as first_of}
 use Rattle.aos_concurrency.specs.Simulates.{Simulates, Matches}
 use Rattle.aos_concurrency.specs.Regions.{Outside}
 use Rattle.aos_concurrency.proofs.Lines.{found_on}
-use Rattle.aos_concurrency.proofs.Spots.{runs_there}
+use Rattle.aos_concurrency.proofs.LocalStates.{runs_there}
 use Rattle.aos_concurrency.proofs.Works.{runs_at}
 use Rattle.aos_sim.specs.Shows.{IsCodeOf}
 use Rattle.aos_sim.specs.Judges.{JudgesAlike, JudgesAsProgram}

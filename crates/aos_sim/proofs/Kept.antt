@@ -11,7 +11,7 @@ use Rattle.aos_types.specs.Shape.{join}
 use Rattle.aos_types.specs.World.{World, MadeAlike, Grows}
 use Rattle.aos_typed.specs.Program.{Procedure, Program}
 use Rattle.aos_typed.specs.Sort.{Sort, Plain, Variable, Alias, Elements, Length, variable_shape, object_shape}
-use Rattle.aos_typed.specs.Spot.{Spot}
+use Rattle.aos_typed.specs.Location.{Location}
 use Rattle.aos_typed.specs.Value.{Value, Int, Flag, Char, Set, Object, Callable, Place}
 use Rattle.aos_typed.specs.Open.{first_same}
 use Rattle.aos_typed.specs.Typing.{id_of_made, nested, Extends, IsBasic, Refers, IsReference, IsInstance, IsCalledBy, IsCallable, pattern_at, IsPlainly, IsPlace, OnPlace, Is, IsPlain}
@@ -78,7 +78,7 @@ module _ (program : Program) where
     plain_kept (Length n) x p h = absurd p
 
   module _ (w v : World Sort) (g : Grows w v) where
-    place_kept : (k : Sort) (p : Spot) → IsPlace program w k p → IsPlace program v k p
+    place_kept : (k : Sort) (p : Location) → IsPlace program w k p → IsPlace program v k p
     place_kept (Plain t) p h = absurd h
     place_kept (Variable t) p h =
         record {
@@ -108,7 +108,7 @@ module _ (program : Program) where
     is_kept (Length n) x h = h
 
     -- a place keeps its cell
-    place_cell : (k : Sort) (p : Spot) → IsPlace program w k p → cell_of w (Place p) ≡ cell_of v (Place p)
+    place_cell : (k : Sort) (p : Location) → IsPlace program w k p → cell_of w (Place p) ≡ cell_of v (Place p)
     place_cell (Plain t) p h = absurd h
     place_cell (Variable t) p h = ap (λ n. cell.Place p.root n p.type) (cell_grows w v g p.root p.path (join (object_shape program.types (id_of_made p.type)) h.more) h.there)
     place_cell (Alias t) p h = ap (λ n. cell.Place p.root n p.type) (cell_grows w v g p.root p.path (variable_shape program.types t) h)
@@ -116,7 +116,7 @@ module _ (program : Program) where
     place_cell (Length n) p h = absurd h
 
     -- no plain value is a place
-    no_basic : (b : Basic) (p : Spot) → IsBasic b (Place p) → ⊥
+    no_basic : (b : Basic) (p : Location) → IsBasic b (Place p) → ⊥
     no_basic basic.ShortInt p h = h
     no_basic basic.Integer p h = h
     no_basic basic.LongInt p h = h
@@ -127,7 +127,7 @@ module _ (program : Program) where
     no_basic basic.Nil p h = absurd (cc)
     no_basic (basic.Text n) p h = absurd (cc)
 
-    no_plain : (t : TypeId) (r : Option TypeRow) (p : Spot) → IsPlainly program w t r (Place p) → ⊥
+    no_plain : (t : TypeId) (r : Option TypeRow) (p : Location) → IsPlainly program w t r (Place p) → ⊥
     no_plain t None p h = absurd (cc)
     no_plain t (Some (row.Basic b)) p h = no_basic b p h
     no_plain t (Some (row.Array n of)) p h = absurd (cc)

@@ -26,7 +26,7 @@ use Rattle.aos_typed.specs.Open.{open_by, open_dimensions, first_same}
 use Rattle.aos_layout.specs.Layout.{leads_to, is_made}
 use Rattle.aos_typed.specs.Program.{Place, Expr, Make, With, WithRecord, Stats, Procedure, Program}
 use Rattle.aos_typed.specs.Sort.{Sort, Plain}
-use Rattle.aos_typed.specs.Spot.{Spot}
+use Rattle.aos_typed.specs.Location.{Location}
 use Rattle.aos_typed.specs.Typing.{Extends, HasLengths}
 use Rattle.aos_typed.specs.Value.{Value, number_of}
 use Rattle.aos_typed.specs.Meaning.{Here, Doing, Item, After, Into, items_of, place_of, value_of, values_of}
@@ -292,10 +292,10 @@ module _ (program : Program) (own : Option Procedure) (tables : Tables) (number 
                 (ap (λ z. onward (i.Store R ∷ rest) 0 (p + 1) k (cell_of w3 v ∷ (z ∷ []))) stay.1) h3 (subst Carried len c),
           )))))
         where
-          made : Spot → List Value → Doing After
+          made : Location → List Value → Doing After
           made s vs = bind (ask (Makes (suc t) vs)) (λ o. bind (ask (Stores s o)) (λ _. Val (Into [])))
 
-          stores : (w3 : World Sort) (u : TType) (a : Spot) (named : Type 0) → IsFound program named u w3 a → target program.types u ≡ Some (id_of (type.Named t)) → (v : Value) (ls : List ℕ) → IsObject w3 v (record { type = suc t; lengths = ls }) → HasLengths program (row_of program.types (id_of (type.Named t))) (record { type = suc t; lengths = ls }) → (m : Run) (rest : List Instr) (p : ℕ) → m ≡ onward (i.Store R ∷ rest) 0 p k (cell_of w3 v ∷ (place_in w3 a ∷ [])) → drop (p + 1) code ≡ rest → Carried (p + 1) → Does program here (Leaves after) w3 m (bind (ask (Stores a v)) (λ _. Val (Into [])))
+          stores : (w3 : World Sort) (u : TType) (a : Location) (named : Type 0) → IsFound program named u w3 a → target program.types u ≡ Some (id_of (type.Named t)) → (v : Value) (ls : List ℕ) → IsObject w3 v (record { type = suc t; lengths = ls }) → HasLengths program (row_of program.types (id_of (type.Named t))) (record { type = suc t; lengths = ls }) → (m : Run) (rest : List Instr) (p : ℕ) → m ≡ onward (i.Store R ∷ rest) 0 p k (cell_of w3 v ∷ (place_in w3 a ∷ [])) → drop (p + 1) code ≡ rest → Carried (p + 1) → Does program here (Leaves after) w3 m (bind (ask (Stores a v)) (λ _. Val (Into [])))
           stores w3 u a named is to v ls obj lengths m rest p run there_after cont =
               let id = id_of (type.Named t) in
               let value : is_value program.types u ≡ true = reference_value program u (or_second (is_any u) (ap is_some to)) in

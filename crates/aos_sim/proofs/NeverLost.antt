@@ -27,9 +27,9 @@ use Rattle.aos_typed.specs.declared.tree.TType.TheVariants as type
 use Rattle.aos_types.specs.Extension.{comes_to}
 use Rattle.aos_typed.specs.Numbers.{id_of, id_of_made}
 use Rattle.aos_typed.specs.Sort.{variable_shape}
-use Rattle.aos_typed.specs.Spot.{Spot}
+use Rattle.aos_typed.specs.Location.{Location}
 use Rattle.aos_typed.specs.Text.{text_in, fitted}
-use Rattle.aos_typed.specs.Value.{Value, Int, Flag, Char, Set, Object, Callable, Place as Spotted, number_of, Sort, Integer, Character, Elements, element, given, unary_sort, binary_sort, is_true}
+use Rattle.aos_typed.specs.Value.{Value, Int, Flag, Char, Set, Object, Callable, Place as PlaceValue, number_of, Sort, Integer, Character, Elements, element, given, unary_sort, binary_sort, is_true}
 use Rattle.aos_typed.specs.Store.{Store, has_room, made_in}
 use Rattle.aos_typed.specs.Routines.{Routine, routines}
 use Rattle.aos_typed.specs.Meaning.{Here, Question, Doing, object_in, by_number as by_object, dereferenced, sizes_from, spread, is_instance, guarded, has_type, record_guarded, place_in, dispatched, calls as calls_of, receiver_of, called, Item, Do, Rounds, Round, Until, Region, End, Gives as GivesItem, After, Into, Exits, Returns, leave, leave_all, is_in, element_of, Found, row_at, lengths_from, place_of, rows_of, arguments_of, value_of, values_of, changed, arms_of, case_of, out_of, stat_of, item_of, bound, bound_to, carried_out, initialized, procedure_in}
@@ -177,7 +177,7 @@ either_comes : {A : Type 0} (c : Bool) (t u : Doing A) → Comes t → Comes u �
 either_comes true t u h k = h
 either_comes false t u h k = k
 
-element_comes : (n : ℕ) (v : Value) (s : Spot) → Comes (element_of n v s)
+element_comes : (n : ℕ) (v : Value) (s : Location) → Comes (element_of n v s)
 element_comes n v s = by (natural n (number_of v)) refl
   where
     by : (o : Option ℕ) → natural n (number_of v) ≡ o → Comes (element_of n v s)
@@ -226,7 +226,7 @@ instance_comes v t = nil_comes (object_in v) (Val (Flag false)) (ask (Tests v (s
 guarded_comes : (v : Value) (t : ℕ) → Comes (guarded v t)
 guarded_comes v t = nil_comes (object_in v) (Traps 3 0) _ (omega arith) (λ b. either_comes (is_true b) (Val v) (Traps 3 0) tt (omega arith))
 
-record_comes : (rows : List TypeRow) (s : Spot) (t : ℕ) → Comes (record_guarded rows s t)
+record_comes : (rows : List TypeRow) (s : Location) (t : ℕ) → Comes (record_guarded rows s t)
 record_comes rows s t = either_comes (has_type rows s t) (Val s) (Traps 3 0) tt (omega arith)
 
 -- calls
@@ -467,17 +467,17 @@ module _ (following : List ℕ) where
   starts_known (Char c) f fs s = tt
   starts_known (Set x) f fs s = tt
   starts_known (Callable p o) f fs s = tt
-  starts_known (Spotted p) f fs s = tt
+  starts_known (PlaceValue p) f fs s = tt
 
   awaits_known : (locks : List LockName) (c : ℕ) (f : Frame) (fs : List Frame) (s : Store) → Known (awaits following locks c (top f fs s))
   awaits_known [] c f fs s = tt
   awaits_known (l ∷ locks) c f fs s = tt
 
-  copies_known : (c : Option (Content Value)) (p : Spot) (h : Top) → Known (copies following c p h)
+  copies_known : (c : Option (Content Value)) (p : Location) (h : Top) → Known (copies following c p h)
   copies_known None p h = tt
   copies_known (Some c) p h = tt
 
-  stores_text_known : (text : Option (List ℕ)) (old : Option (Content Value)) (p : Spot) (f : Frame) (fs : List Frame) (s : Store) → Known (stores_text following text old p (top f fs s))
+  stores_text_known : (text : Option (List ℕ)) (old : Option (Content Value)) (p : Location) (f : Frame) (fs : List Frame) (s : Store) → Known (stores_text following text old p (top f fs s))
   stores_text_known None old p f fs s = omega arith
   stores_text_known (Some cs) None p f fs s = tt
   stores_text_known (Some cs) (Some old) p f fs s = tt

@@ -24,7 +24,7 @@ use Rattle.aos_typed.specs.Program.{Place, Arguments, NoMore, Scalar, Whole, Ope
 use Rattle.aos_typed.specs.Operands.{operands}
 use Rattle.aos_typed.specs.Routines.{parameters_of}
 use Rattle.aos_typed.specs.Sort.{Sort, Plain}
-use Rattle.aos_typed.specs.Spot.{Spot}
+use Rattle.aos_typed.specs.Location.{Location}
 use Rattle.aos_typed.specs.Typing.{Extends, HasLengths}
 use Rattle.aos_typed.specs.Value.{Value, Object}
 use Rattle.aos_typed.specs.Meaning.{Here, Doing, Item, After, Into, place_of, arguments_of, initialized, carried_out}
@@ -193,7 +193,7 @@ module _ (program : Program) (own : Option Procedure) (tables : Tables) (number 
             (o, refl, made, there, record { of = t; body = b; made = is_made; has = is_body; active = active }) behind cont
         by false active e = called_by_creator m e
 
-  module _ (t : ℕ) (object : is_object (row_of program.types (id_of (type.Named t))) ≡ true) (room : Fits (suc d)) (a : Spot) (names : Type 0) (o : ℕ) where
+  module _ (t : ℕ) (object : is_object (row_of program.types (id_of (type.Named t))) ≡ true) (room : Fits (suc d)) (a : Location) (names : Type 0) (o : ℕ) where
     abbrev object_id : TypeId
     object_id = id_of (type.Named t)
 
@@ -337,7 +337,7 @@ module _ (program : Program) (own : Option Procedure) (tables : Tables) (number 
               (ap (λ l. onward l 0 (pn + 1) k' (Ref (suc o) ∷ s)) (append_assoc init store rest) ∙ ap (λ z. onward (init ++ (store ++ rest)) 0 (pn + 1) k' (Ref (suc o) ∷ (z ∷ []))) stay.1)),
         )))))
       where
-        making : ℕ → Spot → List Value → Doing After
+        making : ℕ → Location → List Value → Doing After
         making t s vs = bind (ask (Makes (suc t) [])) (λ o. bind (initialized program (initializer program t) t o vs) (λ _. bind (ask (Stores s o)) (λ _. then_done (carried_out program (body_type program t) o))))
 
         none : (ns : List ℕ) → Some [] ≡ Some ns → ns ≡ []

@@ -5,7 +5,7 @@ use Rattle.std.proofs.Common.{◌⊎◌, inl, inr}
 use Rattle.std.specs.Prelude.{All, ◌==◌, nat_eq, slice_get, option_and_then}
 use Rattle.std.specs.Option.{unwrap_or}
 use Rattle.std.proofs.lemmas.Bool.{false≢true, lt-ltb, eq-eqb}
-use Rattle.aos_base.specs.declared.place.Root.TheVariants.{Object as ObjectRoot}
+use Rattle.aos_base.specs.declared.root.Root.TheVariants.{Object as ObjectRoot}
 use Rattle.aos_base.specs.Operators.{flag}
 use Rattle.aos_base.specs.Question.{Val, Traps, bind}
 use Rattle.aos_base.specs.Rooted.{Made}
@@ -24,7 +24,7 @@ use Rattle.aos_typed.specs.Open.{open_dimensions, open_element}
 use Rattle.aos_typed.specs.Program.{Procedure, Program}
 use Rattle.aos_typed.specs.Sort.{Sort, Plain, variable_shape, object_shape}
 use Rattle.aos_typed.specs.Source.{object_place, made_shape}
-use Rattle.aos_typed.specs.Spot.{Spot, OnHeap}
+use Rattle.aos_typed.specs.Location.{Location, OnHeap}
 use Rattle.aos_types.specs.Content.{EachSort}
 use Rattle.aos_typed.specs.Typing.{Is, IsPlain, IsReference, Extends, HasLengths, Names, OnPlace, nested}
 use Rattle.aos_typed.specs.Value.{Value, Int, Flag, Object, is_true}
@@ -41,14 +41,14 @@ use Rattle.aos_sim.proofs.Runs.{Run, Onward, Tables, on_run, runs, at_cell, at_e
 use Rattle.aos_sim.proofs.Types.{IsValueOf, number_cell}
 use Rattle.aos_sim.proofs.Parts.{each_nested, each_rest, variable_plain, whole_ends, own_contents}
 use Rattle.aos_sim.proofs.Extended.{object_fields, begins_object, object_made, record_no_object, record_extension, record_made, array_made, rows_made, open_made}
-use Rattle.aos_sim.proofs.Does.{HasTypes, HasShapes, IsObject, IsReached, Does, does_bind, object_grows, spot_cell}
+use Rattle.aos_sim.proofs.Does.{HasTypes, HasShapes, IsObject, IsReached, Does, does_bind, object_grows, location_cell}
 use Rattle.aos_sim.proofs.References.{IsMadeAs, nil_or, made_reference, some_object, of_target, to_target, to_any, comes_same}
 use Rattle.aos_sim.proofs.Evaluates.{OfSort, ComesTo, OnStack, Pushed, Yields, Evaluates, pushed, piece_does, pieces_do, sorts_stay}
 use Rattle.aos_sim.proofs.Designators.{IsFound, HasFields, AreRowsAt, Named, Finds, WithRows, FindsRows, record_whole, variable_holds, holds_record, rows_hold, names_hold, names_found, rows_grow}
 
 -- what an object is made as
-abbrev pub spot_of : ℕ → Made → Spot
-spot_of o m = record { root = ObjectRoot o; path = []; type = m.type; of = OnHeap }
+abbrev pub location_of : ℕ → Made → Location
+location_of o m = record { root = ObjectRoot o; path = []; type = m.type; of = OnHeap }
 
 pub some_same : {A : Type 0} (x y : A) → Some x ≡ Some y → x ≡ y
 some_same x y e = cc
@@ -89,8 +89,8 @@ module _ (program : Program) (own : Option Procedure) (tables : Tables) (number 
   made_so w o m e = record { number = o; is = refl; made = e }
 
   -- the place of what it holds
-  module _ (typed : HasTypes program) (w : World Sort) (o : ℕ) (m : Made) (t : TType) (extends : comes_to rows (id_of_made m.type) (id_of t) ≡ true) (whole : is_whole (row_of rows (id_of t)) ≡ true) (shape : w.shape (ObjectRoot o) ≡ Some (made_shape rows m)) (reached : IsReached w (spot_of o m)) where
-    object_names : is_record (row_of rows (id_of t)) ≡ true → Names program w (id_of t) (spot_of o m)
+  module _ (typed : HasTypes program) (w : World Sort) (o : ℕ) (m : Made) (t : TType) (extends : comes_to rows (id_of_made m.type) (id_of t) ≡ true) (whole : is_whole (row_of rows (id_of t)) ≡ true) (shape : w.shape (ObjectRoot o) ≡ Some (made_shape rows m)) (reached : IsReached w (location_of o m)) where
+    object_names : is_record (row_of rows (id_of t)) ≡ true → Names program w (id_of t) (location_of o m)
     object_names is =
         let d = id_of_made m.type in
         let dynamic = record_extension program typed d (id_of t) is extends in
@@ -103,11 +103,11 @@ module _ (program : Program) (own : Option Procedure) (tables : Tables) (number 
               ∙ ap (λ s. Some s) (record_made program typed m (id_of t) extends is ∙ sym same ∙ sym (whole_ends rows typed.ranked d (record_whole (row_of rows d) dynamic)) ∙ ap (λ s. join s Nothing) same);
         }
 
-    object_found : IsFound program (is_record (row_of rows (id_of t)) ≡ true) t w (spot_of o m)
+    object_found : IsFound program (is_record (row_of rows (id_of t)) ≡ true) t w (location_of o m)
     object_found = by (is_record (row_of rows (id_of t))) refl
       where
-        by : (b : Bool) → is_record (row_of rows (id_of t)) ≡ b → IsFound program (is_record (row_of rows (id_of t)) ≡ true) t w (spot_of o m)
-        by true is = names_found program own tables number here code typed (is_record (row_of rows (id_of t)) ≡ true) t w (spot_of o m) is (object_names is) reached
+        by : (b : Bool) → is_record (row_of rows (id_of t)) ≡ b → IsFound program (is_record (row_of rows (id_of t)) ≡ true) t w (location_of o m)
+        by true is = names_found program own tables number here code typed (is_record (row_of rows (id_of t)) ≡ true) t w (location_of o m) is (object_names is) reached
         by false isnt =
             let there : shape_at w (ObjectRoot o) [] ≡ Some (variable_shape rows (id_of t)) = ap (option_and_then (inside [])) shape ∙ ap (λ s. Some s) (array_made program typed m (id_of t) extends whole isnt) in
             record {
@@ -120,7 +120,7 @@ module _ (program : Program) (own : Option Procedure) (tables : Tables) (number 
             }
 
   -- what is so of the place of each object of a type is so of what is found behind a reference
-  deref_goes : (P : World Sort → Spot → Type 0) (u t : TType) → ((w : World Sort) (o : ℕ) (m : Made) → comes_to rows (id_of_made m.type) (id_of t) ≡ true → w.shape (ObjectRoot o) ≡ Some (made_shape rows m) → IsReached w (spot_of o m) → P w (spot_of o m)) → (xs : List Instr) (r : Doing Value) (at : ℕ) → target rows u ≡ Some (id_of t) → Yields program own tables number here code u xs r at → ComesTo program own tables number here code P place_in (xs ++ i.Deref 0 ∷ []) (bind r (λ v. dereferenced v)) at
+  deref_goes : (P : World Sort → Location → Type 0) (u t : TType) → ((w : World Sort) (o : ℕ) (m : Made) → comes_to rows (id_of_made m.type) (id_of t) ≡ true → w.shape (ObjectRoot o) ≡ Some (made_shape rows m) → IsReached w (location_of o m) → P w (location_of o m)) → (xs : List Instr) (r : Doing Value) (at : ℕ) → target rows u ≡ Some (id_of t) → Yields program own tables number here code u xs r at → ComesTo program own tables number here code P place_in (xs ++ i.Deref 0 ∷ []) (bind r (λ v. dereferenced v)) at
   deref_goes P u t so xs r at to h w known rest k s =
       let x = i.Deref 0 in
       let p = at + length xs in
@@ -130,7 +130,7 @@ module _ (program : Program) (own : Option Procedure) (tables : Tables) (number 
       piece_does program own tables number here code (OfSort program own tables number here code u) cell_of Q (λ v. dereferenced v) xs (x ∷ []) r at rest k s h w known
       (λ w1 up v m is e. by p q behind w1 v m (nil_or program w1 (Extends program (id_of t)) v (of_target program w1 u (id_of t) v to is)) e)
     where
-      Reached : ℕ → World Sort → Spot → Run → Type 0
+      Reached : ℕ → World Sort → Location → Run → Type 0
       Reached q = OnStack tables number here code P place_in rest q k s
 
       placed_so : (w2 : World Sort) (o : ℕ) (made : Made) (q p : ℕ) → p + 1 ≡ q → comes_to rows (id_of_made made.type) (id_of t) ≡ true → w2.shape (ObjectRoot o) ≡ Some (made_shape rows made) → (y : Value) → y ≡ object_place o (Some made) → OnPlace (IsReached w2) y → Reached q w2 (source.place_in y) (onward rest 0 (p + 1) k (at_cell 0 (cell_of w2 y) ∷ s))
@@ -166,7 +166,7 @@ module _ (program : Program) (own : Option Procedure) (tables : Tables) (number 
   pub object_does : HasTypes program → (t : TType) (xs : List Instr) (r : Doing Value) (at : ℕ) → is_object (row_of rows (id_of t)) ≡ true → Yields program own tables number here code t xs r at → ComesTo program own tables number here code (HasFields program (id_of t)) place_in (xs ++ i.Deref 0 ∷ []) (bind r (λ v. dereferenced v)) at
   object_does typed t xs r at is h = deref_goes (HasFields program (id_of t)) t t fields xs r at (object_target rows (id_of t) (row_of rows (id_of t)) is) h
     where
-      fields : (w : World Sort) (o : ℕ) (m : Made) → comes_to rows (id_of_made m.type) (id_of t) ≡ true → w.shape (ObjectRoot o) ≡ Some (made_shape rows m) → IsReached w (spot_of o m) → HasFields program (id_of t) w (spot_of o m)
+      fields : (w : World Sort) (o : ℕ) (m : Made) → comes_to rows (id_of_made m.type) (id_of t) ≡ true → w.shape (ObjectRoot o) ≡ Some (made_shape rows m) → IsReached w (location_of o m) → HasFields program (id_of t) w (location_of o m)
       fields w o m ext shape reached =
           let has = object_fields (row_of rows (id_of t)) is in
           let d = id_of_made m.type in
@@ -212,7 +212,7 @@ module _ (program : Program) (own : Option Procedure) (tables : Tables) (number 
       Reached q = WithRows program own tables number here code (Unit {0}) j t rest q k s
 
       -- the place of its elements
-      elements_at : (w2 : World Sort) (o : ℕ) (made : Made) → id_of_made made.type ≡ u → w2.shape (ObjectRoot o) ≡ Some (made_shape rows made) → IsReached w2 (spot_of o made) → AreRowsAt program made.lengths t w2 (record (spot_of o made) { type = 0 })
+      elements_at : (w2 : World Sort) (o : ℕ) (made : Made) → id_of_made made.type ≡ u → w2.shape (ObjectRoot o) ≡ Some (made_shape rows made) → IsReached w2 (location_of o made) → AreRowsAt program made.lengths t w2 (record (location_of o made) { type = 0 })
       elements_at w2 o made same shape reached =
           let s = nested made.lengths (variable_shape rows (id_of t)) in
           let is : made_shape rows made ≡ s = open_made rows made (row_of rows (id_of_made made.type)) (ap (λ y. is_open (row_of rows y)) same ∙ opens)
@@ -227,18 +227,18 @@ module _ (program : Program) (own : Option Procedure) (tables : Tables) (number 
           subst (λ z. OnPlace (IsReached w2) z → Does program here (Reached q) w2 (if_as_many tables j (cell_of w2 z) (asks_sizes (cell.Ref (suc o)) 0 j (λ st. onward rest 0 (p + 1) k st) (at_elements (cell_of w2 z) ∷ s))) (bind (sizes_from (Object (suc o)) 0 j) (λ ns. found (record (source.place_in z) { type = 0 }) ns))) (sym is)
           (λ on.
           let at = elements_at w2 (suc o) made same shape on in
-          let spot : Spot = record (spot_of (suc o) made) { type = 0 } in
-          let st : Stack = place_in w2 spot ∷ s in
+          let location : Location = record (location_of (suc o) made) { type = 0 } in
+          let st : Stack = place_in w2 location ∷ s in
           let go : Stack → Run = λ st. onward rest 0 (p + 1) k st in
           let as_many : nat_eq j (tables.dimensions made.type) ≡ true = eq-eqb j (tables.dimensions made.type) (many ∙ sym (shaped.dimensions made.type ∙ ap (open_dimensions rows) same)) in
-          subst (λ b. Does program here (Reached q) w2 (if b then asks_sizes (cell.Ref (suc o)) 0 j go st else Traps 16 0) (bind (sizes_from (Object (suc o)) 0 j) (λ ns. found spot ns))) (sym as_many)
-          (subst (λ n. Does program here (Reached q) w2 (asks_sizes (cell.Ref (suc o)) 0 n go st) (bind (sizes_from (Object (suc o)) 0 n) (λ ns. found spot ns))) long
-          (does_bind program here (WithSizes made.lengths go st) (Reached q) w2 (asks_sizes (cell.Ref (suc o)) 0 (length made.lengths) go st) (sizes_from (Object (suc o)) 0 (length made.lengths)) (λ ns. found spot ns)
+          subst (λ b. Does program here (Reached q) w2 (if b then asks_sizes (cell.Ref (suc o)) 0 j go st else Traps 16 0) (bind (sizes_from (Object (suc o)) 0 j) (λ ns. found location ns))) (sym as_many)
+          (subst (λ n. Does program here (Reached q) w2 (asks_sizes (cell.Ref (suc o)) 0 n go st) (bind (sizes_from (Object (suc o)) 0 n) (λ ns. found location ns))) long
+          (does_bind program here (WithSizes made.lengths go st) (Reached q) w2 (asks_sizes (cell.Ref (suc o)) 0 (length made.lengths) go st) (sizes_from (Object (suc o)) 0 (length made.lengths)) (λ ns. found location ns)
           (sizes_do o made go made.lengths 0 (λ i. let z : i ≡ 0 + i = omega arith in ap (slice_get made.lengths) z) (omega arith) w2 there st)
           (λ w3 up vs m h. record {
-            is = record { lengths = made.lengths; are = h.0; many = long; at = rows_grow program w2 w3 up made.lengths t spot at; bound = λ b. lengths };
+            is = record { lengths = made.lengths; are = h.0; many = long; at = rows_grow program w2 w3 up made.lengths t location at; bound = λ b. lengths };
             run = h.1 ∙ ap (λ n. onward rest 0 n k (pushed (map (cell_of w3) vs) st)) behind
-                ∙ ap (λ c. onward rest 0 q k (pushed (map (cell_of w3) vs) (c ∷ s))) (spot_cell w2 w3 up spot at.shape at.there);
+                ∙ ap (λ c. onward rest 0 q k (pushed (map (cell_of w3) vs) (c ∷ s))) (location_cell w2 w3 up location at.shape at.there);
           })))) reached
 
       by : (p q : ℕ) → p + 1 ≡ q → (w1 : World Sort) (y : Value) (m : Run) → (y ≡ Object 0) ⊎ IsMadeAs program w1 (Extends program u) y → m ≡ onward (i.OpenRef j ∷ rest) 0 p k (cell_of w1 y ∷ s) → Does program here (Reached q) w1 m (spread y j)
@@ -369,7 +369,7 @@ module _ (program : Program) (own : Option Procedure) (tables : Tables) (number 
 
   module _ (shaped : HasShapes program tables) where
     -- IS of one
-    pub is_record_does : (named : Type 0) (u : TType) (t n : ℕ) (xs : List Instr) (r : Doing Spot) (at : ℕ) → n ≡ suc t → Finds program own tables number here code named u xs r at → Evaluates program own tables number here code type.Boolean (xs ++ i.IsPlace n ∷ []) (bind r (λ p. Val (Flag (has_type rows p t)))) at
+    pub is_record_does : (named : Type 0) (u : TType) (t n : ℕ) (xs : List Instr) (r : Doing Location) (at : ℕ) → n ≡ suc t → Finds program own tables number here code named u xs r at → Evaluates program own tables number here code type.Boolean (xs ++ i.IsPlace n ∷ []) (bind r (λ p. Val (Flag (has_type rows p t)))) at
     is_record_does named u t n xs r at suc_is h w known rest k s =
         let x = i.IsPlace n in
         let p = at + length xs in
@@ -384,7 +384,7 @@ module _ (program : Program) (own : Option Procedure) (tables : Tables) (number 
         })
 
     -- a guard of one
-    pub guard_place_does : HasTypes program → (named : Type 0) (u : TType) (t n : ℕ) (xs : List Instr) (r : Doing Spot) (at : ℕ) → n ≡ suc t → named → is_record (row_of rows (id_of (type.Named t))) ≡ true → Finds program own tables number here code named u xs r at → Finds program own tables number here code (is_record (row_of rows (id_of (type.Named t))) ≡ true) (type.Named t) (xs ++ i.GuardPlace n ∷ []) (bind r (λ p. record_guarded rows p t)) at
+    pub guard_place_does : HasTypes program → (named : Type 0) (u : TType) (t n : ℕ) (xs : List Instr) (r : Doing Location) (at : ℕ) → n ≡ suc t → named → is_record (row_of rows (id_of (type.Named t))) ≡ true → Finds program own tables number here code named u xs r at → Finds program own tables number here code (is_record (row_of rows (id_of (type.Named t))) ≡ true) (type.Named t) (xs ++ i.GuardPlace n ∷ []) (bind r (λ p. record_guarded rows p t)) at
     guard_place_does typed named u t n xs r at suc_is has_name is_rec h w known rest k s =
         let x = i.GuardPlace n in
         let p = at + length xs in
@@ -393,13 +393,13 @@ module _ (program : Program) (own : Option Procedure) (tables : Tables) (number 
         piece_does program own tables number here code (IsFound program named u) place_in (Reached q) (λ p. record_guarded rows p t) xs (x ∷ []) r at rest k s h w known
         (λ w1 up a m is e. by p q behind w1 a m is (has_type rows a t) refl (e ∙ ap (λ j. onward (i.GuardPlace j ∷ rest) 0 p k (place_in w1 a ∷ s)) suc_is))
       where
-        Reached : ℕ → World Sort → Spot → Run → Type 0
+        Reached : ℕ → World Sort → Location → Run → Type 0
         Reached q = Named program own tables number here code (is_record (row_of rows (id_of (type.Named t))) ≡ true) (type.Named t) rest q k s
 
-        ran : ℕ → World Sort → Spot → Bool → Run
+        ran : ℕ → World Sort → Location → Bool → Run
         ran p w1 a b = on_run tables (if b then Goes 0 (place_in w1 a ∷ s) else Stops (Fails 3 0)) (onward rest) p k
 
-        by : (p q : ℕ) → p + 1 ≡ q → (w1 : World Sort) (a : Spot) (m : Run) → IsFound program named u w1 a → (b : Bool) → has_type rows a t ≡ b → m ≡ onward (i.GuardPlace (suc t) ∷ rest) 0 p k (place_in w1 a ∷ s) → Does program here (Reached q) w1 m (record_guarded rows a t)
+        by : (p q : ℕ) → p + 1 ≡ q → (w1 : World Sort) (a : Location) (m : Run) → IsFound program named u w1 a → (b : Bool) → has_type rows a t ≡ b → m ≡ onward (i.GuardPlace (suc t) ∷ rest) 0 p k (place_in w1 a ∷ s) → Does program here (Reached q) w1 m (record_guarded rows a t)
         by p q behind w1 a m is b e f =
             subst (λ c. Does program here (Reached q) w1 m (if c then Val a else Traps 3 0)) (sym e)
             (goes b e (f ∙ ap (ran p w1 a) (shaped.extend a.type t ∙ e)))
@@ -424,7 +424,7 @@ module _ (program : Program) (own : Option Procedure) (tables : Tables) (number 
                 }
 
   -- a record gets the name of its type
-  pub typed_does : HasTypes program → (named : Type 0) (t n : ℕ) (xs : List Instr) (r : Doing Spot) (at : ℕ) → n ≡ suc t → is_record (row_of rows (id_of (type.Named t))) ≡ true → Finds program own tables number here code named (type.Named t) xs r at → Finds program own tables number here code (is_record (row_of rows (id_of (type.Named t))) ≡ true) (type.Named t) (xs ++ i.Offset 0 n ∷ []) (bind r (λ p. Val (record p { type = suc t }))) at
+  pub typed_does : HasTypes program → (named : Type 0) (t n : ℕ) (xs : List Instr) (r : Doing Location) (at : ℕ) → n ≡ suc t → is_record (row_of rows (id_of (type.Named t))) ≡ true → Finds program own tables number here code named (type.Named t) xs r at → Finds program own tables number here code (is_record (row_of rows (id_of (type.Named t))) ≡ true) (type.Named t) (xs ++ i.Offset 0 n ∷ []) (bind r (λ p. Val (record p { type = suc t }))) at
   typed_does typed named t n xs r at suc_is is_rec h w known rest k s =
       let x = i.Offset 0 n in
       let p = at + length xs in
@@ -434,7 +434,7 @@ module _ (program : Program) (own : Option Procedure) (tables : Tables) (number 
       let has_name = is_record (row_of rows id) ≡ true in
       piece_does program own tables number here code (IsFound program named (type.Named t)) place_in (Named program own tables number here code has_name (type.Named t) rest q k s) (λ p. Val (record p { type = suc t })) xs (x ∷ []) r at rest k s h w known
       (λ w1 up a m is e.
-      let a' : Spot = record a { type = suc t } in
+      let a' : Location = record a { type = suc t } in
       let cell_is = cell_at w1 a.root a.path in
       let holds = holds_record program typed id is.shape is_rec is.holds in
       let same = own_contents rows id (record_no_object (row_of rows id) is_rec) in

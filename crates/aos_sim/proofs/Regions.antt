@@ -6,8 +6,8 @@ use Rattle.std.specs.List.{list_any}
 use Rattle.aos_base.specs.declared.kernel.LockName.{LockName}
 use Rattle.aos_base.specs.declared.kernel.Did.{Did}
 use Rattle.aos_base.specs.declared.kernel.Did.TheVariants.{Went, Ended, Enter, Leave, Await, Start, Trapped}
-use Rattle.aos_base.specs.declared.place.Root.{Root}
-use Rattle.aos_base.specs.declared.place.Root.TheVariants.{Frame as FrameRoot, Module as ModuleRoot, Object as ObjectRoot}
+use Rattle.aos_base.specs.declared.root.Root.{Root}
+use Rattle.aos_base.specs.declared.root.Root.TheVariants.{Frame as FrameRoot, Module as ModuleRoot, Object as ObjectRoot}
 use Rattle.aos_base.specs.Number.{holds, array_lengths}
 use Rattle.aos_base.specs.Rooted.{Made, by_number, change_from_last}
 use Rattle.aos_base.specs.Question.{Val, Asks, Traps, bind, feed, Reads, Stores, Copies, PutsText, ComparesTexts, Calls, Ends, Makes, Starts, Enters, Leaves, Awaits, PutsInt, PutsChar, PutsString, PutsLn, PutsNothing, Places, Lengths, Opens, Sizes, Tests}
@@ -19,7 +19,7 @@ use Rattle.aos_typed.specs.Program.{Read, Stat, Assign, Copy, PutText, If, Case,
 use Rattle.aos_typed.specs.Numbers.{id_of}
 use Rattle.aos_typed.specs.Routines.{Routine, routines}
 use Rattle.aos_typed.specs.Sort.{variable_shape}
-use Rattle.aos_typed.specs.Spot.{Spot}
+use Rattle.aos_typed.specs.Location.{Location}
 use Rattle.aos_typed.specs.Text.{text_in, fitted}
 use Rattle.aos_typed.specs.Value.{Value, Int, Flag, Char, Set, Object, Callable, Place, number_of, is_true}
 use Rattle.aos_typed.specs.Store.{Store, has_room, made_in, type_of_object}
@@ -313,11 +313,11 @@ module _ (following : List ℕ) where
   awaits_keep [] c f fs s e h = record { regions = refl; at = tt }
   awaits_keep (l ∷ locks) c f fs s e h = record { regions = refl; at = (h, (locks, e)) }
 
-  copies_keep : (c : Option (Content Value)) (q : Spot) (f : Frame) (fs : List Frame) (s : Store) → Keeps (regions_of (f ∷ fs)) (copies following c q (top f fs s))
+  copies_keep : (c : Option (Content Value)) (q : Location) (f : Frame) (fs : List Frame) (s : Store) → Keeps (regions_of (f ∷ fs)) (copies following c q (top f fs s))
   copies_keep None q f fs s = record { regions = refl; at = tt }
   copies_keep (Some c) q f fs s = record { regions = with_same q.root _ (answered done f ∷ fs); at = tt }
 
-  stores_text_keep : (text : Option (List ℕ)) (old : Option (Content Value)) (q : Spot) (f : Frame) (fs : List Frame) (s : Store) → Keeps (regions_of (f ∷ fs)) (stores_text following text old q (top f fs s))
+  stores_text_keep : (text : Option (List ℕ)) (old : Option (Content Value)) (q : Location) (f : Frame) (fs : List Frame) (s : Store) → Keeps (regions_of (f ∷ fs)) (stores_text following text old q (top f fs s))
   stores_text_keep None old q f fs s = record { regions = refl; at = tt }
   stores_text_keep (Some cs) None q f fs s = record { regions = refl; at = tt }
   stores_text_keep (Some cs) (Some old) q f fs s = record { regions = with_same q.root _ (answered done f ∷ fs); at = tt }

@@ -16,7 +16,7 @@ use Rattle.aos_types.specs.Extension.{comes_to}
 use Rattle.aos_typed.specs.Methods.{method_number}
 use Rattle.aos_typed.specs.Numbers.{id_of, id_of_made, procedure_number}
 use Rattle.aos_typed.specs.Program.{Place, ModuleVar, Local, Passed, Field, Index, Of, Deref, Typed, Guarded, Rows, Known, Opened, Row, Spread, Longer, Arguments, NoMore, Scalar, Whole, Opening, Plain, Dispatched, Upper, Expr, Lit, SelfRef, Read, Unary, Binary, And, Or, Element, Ord, Chr, CompareTexts, Len, LenBehind, Function, Same, Is, IsRecord, Guard, Had, Program, Callee, Through, ProcedureOf, MethodOf, SameProcedure}
-use Rattle.aos_typed.specs.Spot.{Spot}
+use Rattle.aos_typed.specs.Location.{Location}
 use Rattle.aos_typed.specs.Value.{Value, Int, Flag, Object, Place as PlaceValue, number_of, Sort, Character, given, unary_sort, binary_sort, unary, binary, element, ord, chr, is_true, Callable}
 use Rattle.aos_typed.specs.Meaning.{Here, Question, Doing, Found, found, After, Into, place_in, own_place, part_of, field_of, dispatched, sent, element_of, row_at, length_at, text_length, object_in, by_number, dereferenced, sizes_from, spread, is_instance, guarded, has_type, record_guarded, lengths_from, place_of, rows_of, arguments_of, value_of, applied, are_one, bound, bound_to, instance_in, on_instance, procedure_in}
 use Rattle.aos_typed.specs.Source.{known, length_in, object_place, has_type_in}
@@ -91,7 +91,7 @@ binary_silent op x y = given_silent (binary_sort op) (binary_of op (number_of x)
 chr_silent : (x : Value) → is_asking {Q = Question} {V = Value} (chr x) ≡ false
 chr_silent x = given_silent Character (unary_of (Range (pos 0) (pos 255)) (number_of x))
 
-element_silent : (n : ℕ) (x : Value) (s : Spot) → is_asking (element_of n x s) ≡ false
+element_silent : (n : ℕ) (x : Value) (s : Location) → is_asking (element_of n x s) ≡ false
 element_silent n x s = by (natural n (number_of x)) refl
   where
     by : (o : Option ℕ) → natural n (number_of x) ≡ o → is_asking (element_of n x s) ≡ false
@@ -219,7 +219,7 @@ module _ (p : Program) (made : ℕ → Option Made) (c : Content Value) where
 
   spread_silent : (v : Value) (j : ℕ) → is_asking (settled p made c (spread v j)) ≡ false
   spread_silent v j =
-      let s : Spot = record (place_in (object_place (object_in v) (made (object_in v)))) { type = 0 } in
+      let s : Location = record (place_in (object_place (object_in v) (made (object_in v)))) { type = 0 } in
       let lengths = sizes_from v 0 j in
       nil_silent (object_in v) (Traps 1 0) _ refl
       (ap is_asking (settled_bind lengths (λ ns. found s ns)) ∙ none_asks (S lengths) (λ ns. found s ns) (sizes_silent v 0 j) (λ ns. refl))
@@ -266,7 +266,7 @@ module _ (p : Program) (made : ℕ → Option Made) (c : Content Value) where
       let d = (place_in (object_place (object_in v) (made (object_in v)))).type in
       nil_silent (object_in v) (Traps 1 0) _ refl (settled_silent (bound_to p v t k d) (bound_to_silent v t k d))
 
-  record_silent : (s : Spot) (t : ℕ) → is_asking (record_guarded p.types s t) ≡ false
+  record_silent : (s : Location) (t : ℕ) → is_asking (record_guarded p.types s t) ≡ false
   record_silent s t = either_silent (has_type p.types s t) (Val s) (Traps 3 0) refl refl
 
   module _ (here : Here) where
@@ -285,7 +285,7 @@ module _ (p : Program) (made : ℕ → Option Made) (c : Content Value) where
         ap is_asking (settled_bind lengths (λ ns. found s ns)) ∙ none_asks (S lengths) (λ ns. found s ns) (lengths_silent k 0 j) (λ ns. refl)
 
     module _ (v : Value) where
-      abbrev place : Place → Doing Spot
+      abbrev place : Place → Doing Location
       place = place_of p here
 
       abbrev rows : Rows → Doing Found
@@ -363,7 +363,7 @@ module _ (p : Program) (made : ℕ → Option Made) (c : Content Value) where
         one_index (Passed k) asks = absurd (cc asks)
         one_index (Field q t k) asks = on_one v (place q) (place (first_place q)) (λ s. Val (field_of p.types (id_of t) k s)) (λ s. refl) (one_index q) asks
         one_index (Index q n t e) asks =
-            let at : Expr → Spot → Doing Spot = λ d s. bind (value d) (λ x. element_of n x s) in
+            let at : Expr → Location → Doing Location = λ d s. bind (value d) (λ x. element_of n x s) in
             on_both place v (place q) (place (first_place q)) (at e) (at (first_value e)) (Index (first_place q) n t e) (Index q n t (first_value e)) refl refl (one_index q)
             (λ s. on_one v (value e) (value (first_value e)) (λ x. element_of n x s) (λ x. element_silent n x s) (one_read e)) asks
         one_index (Of r) asks = on_one v (rows r) (rows (first_row r)) (λ x. Val x.place) (λ x. refl) (one_row r) asks
@@ -390,7 +390,7 @@ module _ (p : Program) (made : ℕ → Option Made) (c : Content Value) where
             on_both arguments v (value e) (value (first_value e)) (after more) (after (first_argument more)) (Scalar (first_value e) more) (Scalar e (first_argument more)) refl refl (one_read e)
             (λ x. on_one v (arguments more) (arguments (first_argument more)) (λ vs. Val (x ∷ vs)) (λ vs. refl) (one_argument more)) asks
         one_argument (Whole q more) asks =
-            let after : Arguments → Spot → Doing (List Value) = λ us s. bind (arguments us) (λ vs. Val (PlaceValue s ∷ vs)) in
+            let after : Arguments → Location → Doing (List Value) = λ us s. bind (arguments us) (λ vs. Val (PlaceValue s ∷ vs)) in
             on_both arguments v (place q) (place (first_place q)) (after more) (after (first_argument more)) (Whole (first_place q) more) (Whole q (first_argument more)) refl refl (one_index q)
             (λ s. on_one v (arguments more) (arguments (first_argument more)) (λ vs. Val (PlaceValue s ∷ vs)) (λ vs. refl) (one_argument more)) asks
         one_argument (Opening r more) asks =
@@ -471,12 +471,12 @@ statement_rewrites p here made c e onward ls asked =
     all_fed p made c (value_of p here) (with_first p here made c) (rewritten p here made c) (λ x. refl) (λ l ls x. refl) (one_read p made c here) (λ t. bind t onward) (λ t a. asks_before t onward a) (λ v t a. fed_before v t onward a) e ls asked
 
 -- what an assignment goes on with behind its designator
-abbrev stored : Program → Here → Expr → Spot → Doing After
+abbrev stored : Program → Here → Expr → Location → Doing After
 stored p here e s = bind (value_of p here e) (λ v. bind (ask (Stores s v)) (λ _. Val (Into [])))
 
 pub assigned_rewrites : AssignedRewrites
 assigned_rewrites p here made c at t q e ls asked =
-    let next : Spot → Doing After = λ s. settled p made c (stored p here e s) in
+    let next : Location → Doing After = λ s. settled p made c (stored p here e s) in
     ap (feed ls) (settled_bind p made c (place_of p here q) (stored p here e))
     ∙ all_fed p made c (place_of p here) (with_first_index p here made c) (rewritten_place p here made c) (λ x. refl) (λ l ls x. refl) (one_index p made c here) (λ r. bind r next) (λ r a. asks_before r next a) (λ v r a. fed_before v r next a) q ls asked
     ∙ sym (settled_bind p made c (place_of p here (rewritten_place p here made c ls q)) (stored p here e))

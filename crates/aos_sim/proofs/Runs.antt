@@ -6,7 +6,7 @@ use Rattle.std.specs.Prelude.{ℤ, pos, nat_eq, Option, None, is_some, slice_get
 use Rattle.aos_base.specs.declared.text.Pos.{Pos}
 use Rattle.aos_base.specs.Question.{Tree, Val, Asks, Traps, feed, Reads, Stores, Copies, PutsText, ComparesTexts, ByName, Calls, Ends, Makes, Starts, Enters, Leaves, Awaits, PutsInt, PutsChar, PutsString, PutsNothing, PutsLn, Places, Lengths, Opens, Sizes, Tests}
 use Rattle.aos_base.specs.Rooted.{Made}
-use Rattle.aos_base.specs.declared.place.Root.TheVariants.{Object as ObjectRoot}
+use Rattle.aos_base.specs.declared.root.Root.TheVariants.{Object as ObjectRoot}
 use Rattle.aos_base.specs.Operators.{flag}
 use Rattle.aos_typed.specs.Program.{Program}
 use Rattle.aos_typed.specs.Numbers.{id_of_made}

@@ -16,7 +16,7 @@ use Rattle.aos_typed.specs.Program.{Place, Rows, Arguments, Callee, Expr, Call, 
 use Rattle.aos_typed.specs.Numbers.{id_of}
 use Rattle.aos_typed.specs.Routines.{result_of}
 use Rattle.aos_typed.specs.Sort.{Sort, Plain, variable_shape}
-use Rattle.aos_typed.specs.Spot.{Spot}
+use Rattle.aos_typed.specs.Location.{Location}
 use Rattle.aos_typed.specs.Value.{Value, Int, Flag, is_true}
 use Rattle.aos_typed.specs.Meaning as source
 use Rattle.aos_typed.specs.Meaning.{Here, Doing, Found, text_length, Item, After, Into, Returns, leave, leave_all, items_of, block_items, body_items, place_of, rows_of, value_of, called as called_of, stat_of, out_of, pos_of}
@@ -174,7 +174,7 @@ module _ (program : Program) (own : Option Procedure) (tables : Tables) (number 
     last_asks q w m p rest e ok there c = ((λ x. onward rest 0 (p + 1) k []), e, ok, λ w' up v a. goes_on (p + 1) rest there c)
 
     -- a value above the place that it's stored at
-    pub store_asks : HasTypes program → (t : TType) (w : World Sort) (a : Spot) (rest : List Instr) (p : ℕ) (v : Value) → is_value program.types t ≡ true → Is program w (Plain (id_of t)) v → runs tables number here code (i.Store (kind_of program.types t) ∷ rest) 0 p k (cell_of w v ∷ (place_in w a ∷ [])) ≡ Asks (placed program w (Stores a v)) (λ x. runs tables number here code rest 0 (p + 1) k [])
+    pub store_asks : HasTypes program → (t : TType) (w : World Sort) (a : Location) (rest : List Instr) (p : ℕ) (v : Value) → is_value program.types t ≡ true → Is program w (Plain (id_of t)) v → runs tables number here code (i.Store (kind_of program.types t) ∷ rest) 0 p k (cell_of w v ∷ (place_in w a ∷ [])) ≡ Asks (placed program w (Stores a v)) (λ x. runs tables number here code rest 0 (p + 1) k [])
     store_asks typed t w a rest p v value is = rw (stored_kind program typed.predeclared t value w v is) refl
 
     -- a statement whose code comes to two operands and does its work with its last instruction, which asks
@@ -313,7 +313,7 @@ module _ (program : Program) (own : Option Procedure) (tables : Tables) (number 
           (room_found program own tables number here code typed shaped to has.typed.1 has.typed.2 pb)
           (λ w' a b ia ib. ((ia, ib), λ rest p. puts w' a.place b.place (text_length a) (text_length b) ia.0 ib.0 ia.1 ib.1 strict rest p))
         where
-          puts : (w' : World Sort) (a b : Spot) (v u : Value) (n m : ℕ) → v ≡ Int (pos n) → u ≡ Int (pos m) → (strict : Bool) (rest : List Instr) (p : ℕ) → onward (i.PutText strict ∷ rest) 0 p k (cell_of w' u ∷ (place_in w' b ∷ (cell_of w' v ∷ (place_in w' a ∷ [])))) ≡ Asks (PutsText strict (addr_of w' a) (cell_of w' v) (addr_of w' b) (cell_of w' u)) (λ y. onward rest 0 (p + 1) k [])
+          puts : (w' : World Sort) (a b : Location) (v u : Value) (n m : ℕ) → v ≡ Int (pos n) → u ≡ Int (pos m) → (strict : Bool) (rest : List Instr) (p : ℕ) → onward (i.PutText strict ∷ rest) 0 p k (cell_of w' u ∷ (place_in w' b ∷ (cell_of w' v ∷ (place_in w' a ∷ [])))) ≡ Asks (PutsText strict (addr_of w' a) (cell_of w' v) (addr_of w' b) (cell_of w' u)) (λ y. onward rest 0 (p + 1) k [])
           puts w' a b v u n m e f strict rest p = rw (e, f) refl
 
       pub out_does : (there : Pos) (call : Call) → StatementDoes program own tables number here code x d k after (Out there call)
@@ -362,7 +362,7 @@ module _ (program : Program) (own : Option Procedure) (tables : Tables) (number 
           (text_found program own tables number here code typed shaped r has.typed (at + 1)) w known
           (λ w' up a m is e. last_asks (PutsString a.place (text_length a)) w' m p rest (e ∙ puts_string w' a.place (text_length a) is.0 is.1 rest p) is (drop_next p code i.OutString rest h2) (subst Carried len c)))
         where
-          puts_string : (w' : World Sort) (a : Spot) (v : Value) (n : ℕ) → v ≡ Int (pos n) → (rest : List Instr) (p : ℕ) → onward (i.OutString ∷ rest) 0 p k (cell_of w' v ∷ (place_in w' a ∷ [])) ≡ Asks (PutsString (addr_of w' a) (cell_of w' v)) (λ y. onward rest 0 (p + 1) k [])
+          puts_string : (w' : World Sort) (a : Location) (v : Value) (n : ℕ) → v ≡ Int (pos n) → (rest : List Instr) (p : ℕ) → onward (i.OutString ∷ rest) 0 p k (cell_of w' v ∷ (place_in w' a ∷ [])) ≡ Asks (PutsString (addr_of w' a) (cell_of w' v)) (λ y. onward rest 0 (p + 1) k [])
           puts_string w' a v n e rest p = rw e refl
 
       -- a condition that is FALSE is a trap

@@ -13,7 +13,7 @@ use Rattle.aos_types.specs.World.{World, read, write}
 use Rattle.aos_typed.specs.declared.tree.TType.TheVariants as type
 use Rattle.aos_typed.specs.Program.{Program}
 use Rattle.aos_typed.specs.Sort.{Sort}
-use Rattle.aos_typed.specs.Spot.{Spot}
+use Rattle.aos_typed.specs.Location.{Location}
 use Rattle.aos_typed.specs.Text as S
 use Rattle.aos_typed.specs.Text.{codes_in, with_text}
 use Rattle.aos_typed.specs.Value.{Value, Char}
@@ -152,13 +152,13 @@ module _ (program : Program) (predeclared : HasPredeclared program) (made : List
   now = world_of program made frames
 
   -- what stands at a place of so many characters, and its first cells
-  record Characters (p : Spot) (n m : ℕ) : Type 0 where
+  record Characters (p : Location) (n m : ℕ) : Type 0 where
     inner : Content Value
     source : read p.root p.path x ≡ Some inner
     codes : CodesOf program predeclared now n inner
     image : I.cells_at m (addr_of now p) y ≡ Some (take m (I.character_cells following codes.codes))
 
-  characters_at : (p : Spot) (n m : ℕ) → HasCharacters now p n → m ≤ n → Characters p n m
+  characters_at : (p : Location) (n m : ℕ) → HasCharacters now p n → m ≤ n → Characters p n m
   characters_at p n m h few =
       let s = size_characters n in
       let a = loads_alike (Is program) cell_of IsPlain (values_kept program) (scheme program) made frames x y m (characters n) p.root p.path shows h (omega (arith, few, s)) in
@@ -174,13 +174,13 @@ module _ (program : Program) (predeclared : HasPredeclared program) (made : List
       }
 
   -- the same text is at a place of so many characters in both
-  pub record TextAlike (p : Spot) (n : ℕ) : Type 0 where
+  pub record TextAlike (p : Location) (n : ℕ) : Type 0 where
     pub text : List ℕ
     pub codes : AreCodes text
     pub source : S.text_in (read p.root p.path x) ≡ text
     pub image : I.text_at following (addr_of now p) (Num (pos n)) y ≡ Some text
 
-  pub text_alike : (p : Spot) (n : ℕ) → HasCharacters now p n → TextAlike p n
+  pub text_alike : (p : Location) (n : ℕ) → HasCharacters now p n → TextAlike p n
   text_alike p n h =
       let a = characters_at p n n h (omega arith) in
       let c = a.codes in
@@ -195,13 +195,13 @@ module _ (program : Program) (predeclared : HasPredeclared program) (made : List
       }
 
   -- these characters are stored in both at a place that has as many or more
-  pub record StoredAlike (p : Spot) (cs : List ℕ) : Type 0 where
+  pub record StoredAlike (p : Location) (cs : List ℕ) : Type 0 where
     pub old : Content Value
     pub source : read p.root p.path x ≡ Some old
     pub there : is_some (I.cells_at (length cs) (addr_of now p) y) ≡ true
     pub alike : Shows (Is program) cell_of (scheme program) made frames (write p.root p.path (with_text cs old) x) (store_all p.root (addr_of now p).cell (I.character_cells following cs) y)
 
-  pub stored_alike : (p : Spot) (n : ℕ) (cs : List ℕ) → HasCharacters now p n → Within n cs → StoredAlike p cs
+  pub stored_alike : (p : Location) (n : ℕ) (cs : List ℕ) → HasCharacters now p n → Within n cs → StoredAlike p cs
   stored_alike p n cs h fit =
       let q = at_place (Is program) cell_of IsPlain (values_kept program) (scheme program) made frames x y p.root p.path (characters n) shows h in
       let c = codes_of program predeclared now n q.inner q.fits in

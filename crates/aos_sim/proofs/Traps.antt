@@ -10,7 +10,7 @@ use Rattle.aos_base.specs.declared.kernel.Did.TheVariants.{Went, Ended, Enter, L
 use Rattle.aos_base.specs.declared.kernel.Event.TheVariants as event
 use Rattle.aos_base.specs.declared.kernel.Outcome.TheVariants as outcome_is
 use Rattle.aos_base.specs.Lock.{Wants, Entry, Condition, Waiting, Heir, Nobody, Entrant, Waiter, Trapping, heir, judged, served, first_waiter, entering, first_entrant, or_else}
-use Rattle.aos_base.specs.Book.{Place, On, At, Next, Runs, WillTrap, Unwinds, Gone, Activity, Where, Book, TrapRow, put, tell, waiting, stands, ready, next_is, owned_by, counted, trapped, ended, restarted, born, on_worker, first_ready, is_full, may_restart, outcome, first_book}
+use Rattle.aos_base.specs.Book.{RunState, On, At, Next, Runs, WillTrap, Unwinds, Gone, Activity, Where, Book, TrapRow, put, tell, waiting, stands, ready, next_is, owned_by, counted, trapped, ended, restarted, born, on_worker, first_ready, is_full, may_restart, outcome, first_book}
 use Rattle.aos_base.specs.Machine.{Choice, Step, Tick, Machine, State, start_of, on_book, go_past, pass, release, trap, enter, await, start, serve, turned, finish, turn_by, dispatch, step_of, tick_of, happens_in, if_going, happens, execution}
 
 module _ (P : ℕ → Type 0) where
@@ -113,7 +113,7 @@ module _ (P : ℕ → Type 0) where
   unfolding born
   born_with priority b h = record { rows = h.rows; due = due_put b.activity b.started _ h.due tt }
 
-  stands_with : (a : ℕ) (place : Place) (b : Book) → TrapsWith b → TrapsWith (stands a place b)
+  stands_with : (a : ℕ) (place : RunState) (b : Book) → TrapsWith b → TrapsWith (stands a place b)
   unfolding stands
   stands_with a place b h = record { rows = h.rows; due = h.due }
 

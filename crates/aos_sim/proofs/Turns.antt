@@ -8,7 +8,7 @@ use Rattle.aos_base.specs.declared.limits.TheConstants.{MOST_FRAME_SCALARS, MOST
 use Rattle.aos_base.specs.declared.number.Relation.{Relation}
 use Rattle.aos_base.specs.declared.number.Width.TheVariants.{W64}
 use Rattle.aos_base.specs.Number.{holds, array_lengths}
-use Rattle.aos_base.specs.declared.place.Root.TheVariants.{Frame as FrameRoot}
+use Rattle.aos_base.specs.declared.root.Root.TheVariants.{Frame as FrameRoot}
 use Rattle.aos_base.specs.Text.{order}
 use Rattle.aos_base.specs.declared.text.Pos.{Pos}
 use Rattle.aos_base.specs.declared.kernel.Did.{Did}
@@ -26,7 +26,7 @@ use Rattle.aos_typed.specs.Routines.{Routine, self_type, has_self, result_of, ro
 use Rattle.aos_typed.specs.Open.{open_dimensions}
 use Rattle.aos_typed.specs.Numbers.{id_of, id_of_made}
 use Rattle.aos_typed.specs.Sort.{Sort, Plain, variable_shape}
-use Rattle.aos_typed.specs.Spot.{Spot}
+use Rattle.aos_typed.specs.Location.{Location}
 use Rattle.aos_typed.specs.Text.{with_text, fitted}
 use Rattle.aos_typed.specs.Value.{Value, Int, Flag, Char, Object, number_of, is_true}
 use Rattle.aos_typed.specs.Typing.{Is, IsPlain, IsInteger, HasLengths}
@@ -46,7 +46,7 @@ use Rattle.aos_code.specs.Memory.{Memory, has_room as memory_room, with_object a
 use Rattle.aos_code.specs.Silent.{Stack, Keeps, Question, Begins, Fails, Decides, Stop, Work, Ended, silent}
 use Rattle.aos_code.specs.Machine as I
 use Rattle.aos_code.specs.Machine.{first_cell, code_of}
-use Rattle.aos_concurrency.specs.Spot.{GoesPast}
+use Rattle.aos_concurrency.specs.LocalState.{GoesPast}
 use Rattle.aos_concurrency.specs.Regions.{times, Outside}
 use Rattle.aos_concurrency.specs.Simulates.{SameTurn}
 use Rattle.aos_places.specs.Shows.{Shows}
@@ -445,11 +445,11 @@ module _ (program : Program) (image : Image) where
       shows : Shows (Is program) cell_of (scheme program) s.made shapes_now variables cells
       shows = record { of_frames = shown; of_modules = stores.of_modules; of_objects = stores.of_objects }
 
-      abbrev read_at : (p : Spot) (z : Sort) → shape_at now p.root p.path ≡ Some (One z) → ReadAlike (Is program) cell_of IsPlain (values_kept program) (scheme program) s.made shapes_now variables cells p.root p.path z
+      abbrev read_at : (p : Location) (z : Sort) → shape_at now p.root p.path ≡ Some (One z) → ReadAlike (Is program) cell_of IsPlain (values_kept program) (scheme program) s.made shapes_now variables cells p.root p.path z
       read_at p z e = read_alike (Is program) cell_of IsPlain (values_kept program) (scheme program) s.made shapes_now variables cells p.root p.path z shows e
 
       -- a scalar is read
-      reads_alike : (u : TType) (a : Spot) (x : Asking (Reads u a)) → Alike (S.answer program ms (Reads u a) (S.top top fs s)) (I.answer ps shapes types (placed program now (Reads u a)) (I.asker x.at x.keeps x.stack low gs mem))
+      reads_alike : (u : TType) (a : Location) (x : Asking (Reads u a)) → Alike (S.answer program ms (Reads u a) (S.top top fs s)) (I.answer ps shapes types (placed program now (Reads u a)) (I.asker x.at x.keeps x.stack low gs mem))
       reads_alike u a x =
           let r = read_at a (Plain (id_of u)) x.valid.1 in
           let source : Value → S.Turned = λ v. S.goes_on ms (S.answered v top ∷ fs) s in
@@ -461,7 +461,7 @@ module _ (program : Program) (image : Image) where
           (went s mem [] false Went _ _ (λ z. z) (answered_now (Reads u a) x r.value r.is (cell_of now r.value ∷ x.stack) refl))))
 
       -- a scalar is stored
-      stores_alike : (a : Spot) (v : Value) (x : Asking (Stores a v)) → Alike (S.answer program ms (Stores a v) (S.top top fs s)) (I.answer ps shapes types (placed program now (Stores a v)) (I.asker x.at x.keeps x.stack low gs mem))
+      stores_alike : (a : Location) (v : Value) (x : Asking (Stores a v)) → Alike (S.answer program ms (Stores a v) (S.top top fs s)) (I.answer ps shapes types (placed program now (Stores a v)) (I.asker x.at x.keeps x.stack low gs mem))
       stores_alike a v x =
           let sort = x.valid.0 in
           let r = read_at a sort x.valid.2 in
@@ -474,7 +474,7 @@ module _ (program : Program) (image : Image) where
           (written program image shaped a.root (placed_at a.path (Scalar v)) (spliced (addr_of now a).cell (cell ∷ [])) s mem ms ps (S.answered S.done top ∷ fs) (I.behind ps x.at x.keeps x.stack low ∷ gs) stores.made stores.few follows h (marked, marks) new))
 
       -- a whole record or array is copied
-      copies_alike : (u : TType) (from to : Spot) (x : Asking (Copies u from to)) → Alike (S.answer program ms (Copies u from to) (S.top top fs s)) (I.answer ps shapes types (placed program now (Copies u from to)) (I.asker x.at x.keeps x.stack low gs mem))
+      copies_alike : (u : TType) (from to : Location) (x : Asking (Copies u from to)) → Alike (S.answer program ms (Copies u from to) (S.top top fs s)) (I.answer ps shapes types (placed program now (Copies u from to)) (I.asker x.at x.keeps x.stack low gs mem))
       copies_alike u from to x =
           let c = copied_alike program s.made shapes_now variables cells shows u from to x.valid.0 x.valid.1 in
           let shape = variable_shape program.types (id_of u) in
@@ -487,14 +487,14 @@ module _ (program : Program) (image : Image) where
           (written program image shaped to.root (placed_at to.path (overlay shape c.new c.old)) (spliced (addr_of now to).cell c.cells) s mem ms ps (S.answered S.done top ∷ fs) (I.behind ps x.at x.keeps x.stack low ∷ gs) stores.made stores.few follows h (marked, marks) c.alike)))
 
       -- the text at a place, which both find
-      text_both : (p : Spot) (n : ℕ) → HasCharacters now p n → TextAlike program typed.predeclared s.made shapes_now variables cells shows ps p n
+      text_both : (p : Location) (n : ℕ) → HasCharacters now p n → TextAlike program typed.predeclared s.made shapes_now variables cells shows ps p n
       text_both p n h = text_alike program typed.predeclared s.made shapes_now variables cells shows ps p n h
 
-      text_found : (p : Spot) (v : Value) (h : HasText now p v) → I.text_at ps (addr_of now p) (cell_of now v) cells ≡ Some (text_both p h.0 h.2).text
+      text_found : (p : Location) (v : Value) (h : HasText now p v) → I.text_at ps (addr_of now p) (cell_of now v) cells ≡ Some (text_both p h.0 h.2).text
       text_found p v h = ap (λ z. I.text_at ps (addr_of now p) (cell_of now z) cells) h.1 ∙ (text_both p h.0 h.2).image
 
       -- what is stored of a text, where there is room for it
-      text_stored : (strict : Bool) (from : Spot) (n : Value) (to : Spot) (room : Value) (x : Asking (PutsText strict from n to room)) (m : ℕ) → HasCharacters now to m → 0 < m → (text : List ℕ) → AreCodes text → (o : Option (List ℕ)) → fitted strict m text ≡ o →
+      text_stored : (strict : Bool) (from : Location) (n : Value) (to : Location) (room : Value) (x : Asking (PutsText strict from n to room)) (m : ℕ) → HasCharacters now to m → 0 < m → (text : List ℕ) → AreCodes text → (o : Option (List ℕ)) → fitted strict m text ≡ o →
           Alike (S.stores_text ms o (read to.root to.path variables) to (S.top top fs s)) (I.stores_text ps o (addr_of now to) cells (I.asker x.at x.keeps x.stack low gs mem))
       text_stored strict from n to room x m has some text codes None e = went s mem [] false (Trapped 15 0) _ _ (λ z. z) (state (i ∷ is) (Some t) next k st marked left)
       text_stored strict from n to room x m has some text codes (Some cs) e =
@@ -507,7 +507,7 @@ module _ (program : Program) (image : Image) where
           (went _ _ [] false Went _ _ (λ z. z)
           (written program image shaped to.root (placed_at to.path (with_text cs c.old)) (spliced (addr_of now to).cell (I.character_cells ps cs)) s mem ms ps (S.answered S.done top ∷ fs) (I.behind ps x.at x.keeps x.stack low ∷ gs) stores.made stores.few follows h (marked, marks) c.alike)))
 
-      texts_put_alike : (strict : Bool) (from : Spot) (n : Value) (to : Spot) (room : Value) (x : Asking (PutsText strict from n to room)) → Alike (S.answer program ms (PutsText strict from n to room) (S.top top fs s)) (I.answer ps shapes types (placed program now (PutsText strict from n to room)) (I.asker x.at x.keeps x.stack low gs mem))
+      texts_put_alike : (strict : Bool) (from : Location) (n : Value) (to : Location) (room : Value) (x : Asking (PutsText strict from n to room)) → Alike (S.answer program ms (PutsText strict from n to room) (S.top top fs s)) (I.answer ps shapes types (placed program now (PutsText strict from n to room)) (I.asker x.at x.keeps x.stack low gs mem))
       texts_put_alike strict from n to room x =
           let v = x.valid.0 in
           let into = x.valid.1 in
@@ -520,7 +520,7 @@ module _ (program : Program) (image : Image) where
           (text_stored strict from n to room x into.0 into.2 into.3 a.text a.codes (fitted strict into.0 a.text) refl)))
 
       -- a text is written
-      strings_alike : (a : Spot) (n : Value) (x : Asking (PutsString a n)) → Alike (S.answer program ms (PutsString a n) (S.top top fs s)) (I.answer ps shapes types (placed program now (PutsString a n)) (I.asker x.at x.keeps x.stack low gs mem))
+      strings_alike : (a : Location) (n : Value) (x : Asking (PutsString a n)) → Alike (S.answer program ms (PutsString a n) (S.top top fs s)) (I.answer ps shapes types (placed program now (PutsString a n)) (I.asker x.at x.keeps x.stack low gs mem))
       strings_alike a n x =
           let b = text_both a x.valid.0 x.valid.2 in
           let source : List ℕ → S.Turned = λ text. S.puts ms text (S.answered S.done top ∷ fs) s in
@@ -529,7 +529,7 @@ module _ (program : Program) (image : Image) where
           (puts_alike b.text x.at x.keeps x.stack (done_so (PutsString a n) x tt refl)))
 
       -- two texts are compared
-      compares_alike : (r : Relation) (a : Spot) (n : Value) (b : Spot) (m : Value) (x : Asking (ComparesTexts r a n b m)) → Alike (S.answer program ms (ComparesTexts r a n b m) (S.top top fs s)) (I.answer ps shapes types (placed program now (ComparesTexts r a n b m)) (I.asker x.at x.keeps x.stack low gs mem))
+      compares_alike : (r : Relation) (a : Location) (n : Value) (b : Location) (m : Value) (x : Asking (ComparesTexts r a n b m)) → Alike (S.answer program ms (ComparesTexts r a n b m) (S.top top fs s)) (I.answer ps shapes types (placed program now (ComparesTexts r a n b m)) (I.asker x.at x.keeps x.stack low gs mem))
       compares_alike r a n b m x =
           let first = text_both a x.valid.0.0 x.valid.0.2 in
           let second = text_both b x.valid.1.0 x.valid.1.2 in

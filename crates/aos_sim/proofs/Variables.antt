@@ -6,7 +6,7 @@ use Rattle.std.specs.Prelude.{All, slice_get, option_map, option_and_then}
 use Rattle.std.proofs.lemmas.List.{length-map}
 use Rattle.std.proofs.lemmas.Option.{slice_get-map}
 use Rattle.aos_base.specs.declared.number.Width.TheVariants.{W8, W16, W32, W64}
-use Rattle.aos_base.specs.declared.place.Root.TheVariants.{Frame as FrameRoot, Module as ModuleRoot}
+use Rattle.aos_base.specs.declared.root.Root.TheVariants.{Frame as FrameRoot, Module as ModuleRoot}
 use Rattle.aos_types.specs.declared.row.TypeId.{TypeId}
 use Rattle.aos_types.specs.declared.row.TypeRow.{TypeRow}
 use Rattle.aos_types.specs.declared.row.TypeRow.TheVariants as row

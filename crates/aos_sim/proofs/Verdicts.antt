@@ -22,7 +22,7 @@ use Rattle.aos_typed.specs.Routines.{result_of}
 use Rattle.aos_typed.specs.WellTyped.{IsOf}
 use Rattle.aos_typed.specs.Numbers.{id_of}
 use Rattle.aos_typed.specs.Sort.{Sort, Plain}
-use Rattle.aos_typed.specs.Spot.{Spot}
+use Rattle.aos_typed.specs.Location.{Location}
 use Rattle.aos_typed.specs.Value.{Value, Flag, number_of, is_true}
 use Rattle.aos_typed.specs.Typing.{Is, IsPlain}
 use Rattle.aos_typed.specs.Store.{Store, scalar_in}
@@ -296,10 +296,10 @@ module _ (program : Program) (image : Image) (typed : HasTypes program) (shaped 
   none_behind (Asks q f) d = cc d.1
   none_behind (Traps n c) d = let e : 16 ≡ n = cc d.0 in let l = d.1 in omega (arith, e, l)
 
-  text_both : (p : Spot) (n : ℕ) → HasCharacters now p n → TextAlike program typed.predeclared s.made (shapes_of (f ∷ fs)) variables cells shows [] p n
+  text_both : (p : Location) (n : ℕ) → HasCharacters now p n → TextAlike program typed.predeclared s.made (shapes_of (f ∷ fs)) variables cells shows [] p n
   text_both p n h = text_alike program typed.predeclared s.made (shapes_of (f ∷ fs)) variables cells shows [] p n h
 
-  text_found : (p : Spot) (v : Value) (h : HasText now p v) → I.text_at [] (addr_of now p) (cell_of now v) cells ≡ Some (text_both p h.0 h.2).text
+  text_found : (p : Location) (v : Value) (h : HasText now p v) → I.text_at [] (addr_of now p) (cell_of now v) cells ≡ Some (text_both p h.0 h.2).text
   text_found p v h = ap (λ z. I.text_at [] (addr_of now p) (cell_of now z) cells) h.1 ∙ (text_both p h.0 h.2).image
 
   -- one question, behind whose answer the verdicts are the same

@@ -3,12 +3,12 @@ use Rattle.std.specs.Prelude.{pos}
 use Rattle.aos_base.specs.Operators.{flag}
 use Rattle.aos_types.specs.World.{World, cell_at}
 use Rattle.aos_typed.specs.Sort.{Sort}
-use Rattle.aos_typed.specs.Spot.{Spot}
+use Rattle.aos_typed.specs.Location.{Location}
 use Rattle.aos_typed.specs.Value.{Value, Int, Flag, Char, Set, Object, Callable, Place}
 use Rattle.aos_code.specs.declared.instr.Cell.{Cell}
 use Rattle.aos_code.specs.declared.instr.Cell.TheVariants as cell
 
-abbrev pub place_in : World Sort → Spot → Cell
+abbrev pub place_in : World Sort → Location → Cell
 place_in w p = cell.Place p.root (cell_at w p.root p.path) p.type
 
 abbrev pub cell_of : World Sort → Value → Cell

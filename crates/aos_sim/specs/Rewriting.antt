@@ -7,7 +7,7 @@ use Rattle.aos_types.specs.Content.{Content}
 use Rattle.aos_typed.specs.declared.tree.TType.{TType}
 use Rattle.aos_typed.specs.Program.{Place, ModuleVar, Local, Passed, Field, Index, Of, Deref, Typed, Guarded, Rows, Known, Opened, Row, Spread, Longer, Arguments, NoMore, Scalar, Whole, Opening, Callee, Plain, Dispatched, Upper, Through, Expr, Lit, SelfRef, Read, Unary, Binary, And, Or, Element, Ord, Chr, CompareTexts, Len, LenBehind, Function, Same, Is, IsRecord, Guard, ProcedureOf, MethodOf, SameProcedure, Had, Assign, Program}
 use Rattle.aos_typed.specs.Value.{Value}
-use Rattle.aos_typed.specs.Spot.{Spot}
+use Rattle.aos_typed.specs.Location.{Location}
 use Rattle.aos_typed.specs.Meaning.{Here, receiver_of, Doing, object_in, After, place_of, rows_of, arguments_of, value_of, stat_of}
 use Rattle.aos_typed.specs.Source.{known, object_place, length_in, has_type_in}
 
@@ -38,7 +38,7 @@ module _ (p : Program) (made : ℕ → Option Made) (c : Content Value) where
 
 -- in a procedure's frame with these variables and objects, below which there are so many frames of its activity
 module _ (p : Program) (here : Here) (made : ℕ → Option Made) (c : Content Value) where
-  abbrev pub found_place : Place → Doing Spot
+  abbrev pub found_place : Place → Doing Location
   found_place q = settled p made c (place_of p here q)
 
   abbrev pub found_value : Expr → Doing Value
@@ -159,7 +159,7 @@ AssignedRewrites =
 
 abbrev pub AssignmentRewrites : Type 0
 AssignmentRewrites =
-    (p : Program) (here : Here) (made : ℕ → Option Made) (c : Content Value) (at : Pos) (t : TType) (q : Place) (s : Spot) (e : Expr) (ls : List Value)
+    (p : Program) (here : Here) (made : ℕ → Option Made) (c : Content Value) (at : Pos) (t : TType) (q : Place) (s : Location) (e : Expr) (ls : List Value)
     → found_place p here made c q ≡ Val s
     → are_asked ls (found_value p here made c e) ≡ true
     → feed ls (settled p made c (stat_of p here (Assign at t q e)))

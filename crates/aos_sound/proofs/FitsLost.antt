@@ -3,7 +3,7 @@ use Rattle.std.proofs.Common.{◌≡◌, ◌<◌, ℕ, zero, suc, ℤ, pos, negs
 use Rattle.std.specs.Option.{option_zip}
 use Rattle.std.proofs.lemmas.Option.{slice_get-get_or}
 use Rattle.std.proofs.lemmas.List.{append-nil, length-reverse}
-use Rattle.aos_base.specs.declared.place.Root.{Root}
+use Rattle.aos_base.specs.declared.root.Root.{Root}
 use Rattle.aos_base.specs.declared.number.Width.{Width}
 use Rattle.aos_base.specs.declared.operator.Given.{Given}
 use Rattle.aos_base.specs.declared.operator.Given.TheVariants.{Number, Trap, Undefined}

@@ -2,7 +2,7 @@
 use Rattle.std.proofs.Common.{◌≡◌, ◌≤◌, ◌<◌, nat_eq, ℕ, zero, suc, pos, ◌+◌, List, [], ◌∷◌, ◌++◌, length, map, drop, true, Option, Some, None, slice_get, Bool, if◌then◌else◌, false, refl, sym, ap, ◌∙◌, subst, arith, eqb-true, length-append}
 use Rattle.std.proofs.lemmas.List.{append-nil, length-map}
 use Rattle.std.proofs.lemmas.Option.{slice_get_within}
-use Rattle.aos_base.specs.declared.place.Root.TheVariants.{Frame as FrameRoot, Object as ObjectRoot}
+use Rattle.aos_base.specs.declared.root.Root.TheVariants.{Frame as FrameRoot, Object as ObjectRoot}
 use Rattle.aos_base.specs.declared.text.Pos.{Pos}
 use Rattle.aos_base.specs.Question.{PutsNothing, Places, Lengths}
 use Rattle.aos_base.specs.Rooted.{Made}

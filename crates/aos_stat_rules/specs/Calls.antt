@@ -29,13 +29,13 @@ use Rattle.aos_types.specs.declared.row.TypeId.{TypeId}
 use Rattle.aos_typed.specs.Open.{open_dimensions}
 use Rattle.aos_known.specs.declared.known.Class.{Class}
 use Rattle.aos_known.specs.declared.known.Class.TheVariants.{Unknown, Constant, Variable, ReadOnly}
-use Rattle.aos_known.specs.Known.{Answer, Spot, passes, is_number, is_set, fits, width_of}
+use Rattle.aos_known.specs.Known.{Answer, Entity, passes, is_number, is_set, fits, width_of}
 use Rattle.aos_known.specs.Places.{place_of}
 use Rattle.aos_values.specs.Assignable as assignable
 use Rattle.aos_values.specs.Arrays.{is_characters, is_opening, text_rows, array_rows, text_for, has_room}
 use Rattle.aos_designators.specs.Designators as desig
 use Rattle.aos_designators.specs.Designators.{written}
-use Rattle.aos_designators.specs.Methods.{Part, spot_of_part}
+use Rattle.aos_designators.specs.Methods.{Part, entity_of_part}
 
 -- a statement that breaks a rule is none
 abbrev pub refused : ℕ → Pos → Judged (Option Stat)
@@ -170,10 +170,10 @@ is_amount r of by = is_number by && (is_changed_set r || fits by of)
 abbrev pub is_changed : Routine → Option TypeId → Bool
 is_changed r of = if is_changed_set r then is_set of else is_number of
 
-abbrev pub changed_breaches : Routine → Pos → Spot → List Breach
+abbrev pub changed_breaches : Routine → Pos → Entity → List Breach
 changed_breaches r first a = written a.known.class first ++ breach_unless (is_changed r a.known.of) 35 first
 
-abbrev pub changed_by : Routine → Pos → Spot → Typed → Stat
+abbrev pub changed_by : Routine → Pos → Entity → Typed → Stat
 changed_by r at a by = Change at (changing r a.known.of) (place_of a.held) by
 
 -- the code of a trap: a constant 0 to 255
@@ -192,25 +192,25 @@ code_in c = 0
 
 module _ (e : Env) where
   -- the string constant that is stored in an array of characters
-  abbrev pub text_to : Spot → Answer → Option TextConstant
+  abbrev pub text_to : Entity → Answer → Option TextConstant
   text_to a v = text_for e a.known v.known.class
 
   -- a string constant fits where there is room for its 0X; no other value fits an open array, but one that may be anything
-  abbrev pub value_fits : Spot → Answer → Option TextConstant → Bool
+  abbrev pub value_fits : Entity → Answer → Option TextConstant → Bool
   value_fits a v (Some t) = has_room e a.known.of t
   value_fits a v None =
       assignable.is_assignable e v.known a.known.of && (is_none v.known.of || not (is_opening e a.known.of))
 
   -- the text of a part is put in an array of characters
-  abbrev pub put_text : Pos → Bool → Answer → Spot → Stat
+  abbrev pub put_text : Pos → Bool → Answer → Entity → Stat
   put_text at strict v a = PutText at strict (text_rows e v) (array_rows e 1 a.known.of (place_of a.held))
 
   -- COPY, whose second argument is an array of characters that is a variable
-  abbrev pub copied : Pos → Answer → Pos → Spot → Judged (Option Stat)
+  abbrev pub copied : Pos → Answer → Pos → Entity → Judged (Option Stat)
   copied at v second a =
       judged (written a.known.class second ++ breach_unless (passes (λ t. is_characters e a.known) a.known.of) 35 second)
       (Some (put_text at false v a))
 
   -- of a variable or a value
-  abbrev pub called_spot : (first : Pos) → Judged Part → Judged (Option Stat)
-  called_spot first j = bind (bind j (spot_of_part e)) (λ a. no_call first a.known.of)
+  abbrev pub called_entity : (first : Pos) → Judged Part → Judged (Option Stat)
+  called_entity first j = bind (bind j (entity_of_part e)) (λ a. no_call first a.known.of)

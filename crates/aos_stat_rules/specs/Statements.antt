@@ -32,7 +32,7 @@ use Rattle.aos_symbols.specs.Env as env
 use Rattle.aos_types.specs.declared.row.TypeId.{TypeId}
 use Rattle.aos_known.specs.declared.known.Class.{Class}
 use Rattle.aos_known.specs.declared.known.Class.TheVariants.{Unknown, Constant}
-use Rattle.aos_known.specs.Known.{Answer, Spot, Held, Stands, Value, is_number, is_char, fits, type_of, type_of_literal}
+use Rattle.aos_known.specs.Known.{Answer, Entity, Held, Stands, Value, is_number, is_char, fits, type_of, type_of_literal}
 use Rattle.aos_known.specs.Kinds.{has_parts}
 use Rattle.aos_known.specs.Places.{place_of, place_in}
 use Rattle.aos_values.specs.Arrays.{number_in}
@@ -217,11 +217,11 @@ narrowed_found (Found x) t = narrowed_meaning x x.means t
 
 module _ (e : Env) where
   -- the value must fit the variable, or else `:=` is refused
-  abbrev pub assign_breaches : Pos → Spot → Answer → List Breach
+  abbrev pub assign_breaches : Pos → Entity → Answer → List Breach
   assign_breaches at a v = breach_unless (value_fits e a v (text_to e a v)) 31 at
 
   -- a string constant is put in an array of characters, and a whole record or array is copied
-  abbrev pub assigned_stat : Pos → Spot → Answer → Stat
+  abbrev pub assigned_stat : Pos → Entity → Answer → Stat
   assigned_stat first a v =
       if is_some (text_to e a v) then put_text e first true v a
       else if passes_parts a.known.of
@@ -255,25 +255,25 @@ module _ (e : Env) where
 
   -- WITH
 
-  abbrev pub with_name : Head → Judged Spot
+  abbrev pub with_name : Head → Judged Entity
   with_name h =
-      if may_be_variable h.found then desig.named e h else desig.spotted h.first (desig.refused (with_rule e h.found) h.first)
+      if may_be_variable h.found then desig.named e h else desig.denoted h.first (desig.refused (with_rule e h.found) h.first)
 
   -- a name behind what is no module
-  abbrev pub with_part : Head → Judged Spot
+  abbrev pub with_part : Head → Judged Entity
   with_part h =
-      if is_missing h.found then desig.named e h else desig.spotted h.first (desig.refused (with_rule e h.found) h.first)
+      if is_missing h.found then desig.named e h else desig.denoted h.first (desig.refused (with_rule e h.found) h.first)
 
-  abbrev pub with_variable : Qualident → Judged Spot
+  abbrev pub with_variable : Qualident → Judged Entity
   with_variable q = by q.second
     where
-      by : Option Name → Judged Spot
+      by : Option Name → Judged Entity
       by None = with_name (desig.plain e q.first)
       by (Some n) =
           if desig.is_module (env.lookup e q.first) then with_name (desig.member e q.first n) else with_part (desig.plain e q.first)
 
   -- the variable of a WITH, guarded with the type that is named, and that type
-  abbrev pub guarded_variable : Qualident → Pos → Qualident → Judged (Spot × Option TypeId)
+  abbrev pub guarded_variable : Qualident → Pos → Qualident → Judged (Entity × Option TypeId)
   guarded_variable a q b = bind (with_variable a) (λ v. bind (known_type e b) (λ t. bind (desig.guard e q v t) (λ g. kept (g, t))))
 
   -- its statements: in these the variable is of the type

@@ -4,14 +4,14 @@ ghost use Rattle.std.specs.Prelude.{◌≡◌, OnOk, IfOk, option_map};
 ghost use Rattle.aos_typed.specs.Seen.{seen_stat};
 ghost use Rattle.aos_symbols.specs.Breaches.{first_after};
 ghost use Rattle.aos_known.specs.Known.{passes};
-ghost use Rattle.aos_known.specs.Seen.{seen_answer, seen_spot};
+ghost use Rattle.aos_known.specs.Seen.{seen_answer, seen_entity};
 ghost use Rattle.aos_values.specs.Arrays as arrays;
 ghost use Rattle.aos_stat_rules.specs.Calls as judge;
 ghost use Rattle.aos_stat_rules.specs.Statements as statements;
 
 use aos_base::Pos;
 use aos_designators::refuse_written;
-use aos_known::{Answer, Known, Spot, has_parts, place_in, place_of, type_of};
+use aos_known::{Answer, Entity, Known, has_parts, place_in, place_of, type_of};
 use aos_made::MadePlace;
 use aos_made_stat::MadeStat;
 use aos_symbols::{ARGUMENT_TYPE, Breach, Env, UNFIT, note};
@@ -22,10 +22,10 @@ use aos_values::{
 use std::alloc::{AllocError, Global};
 
 /// The string constant that is stored in an array of characters.
-pub fn text_to(env: &Env<'_>, spot: &Spot, value: &Answer) -> Option<TextConstant>
-    ensures { result ≡ judge.text_to env.now (seen_spot spot.now) (seen_answer value.now) }
+pub fn text_to(env: &Env<'_>, entity: &Entity, value: &Answer) -> Option<TextConstant>
+    ensures { result ≡ judge.text_to env.now (seen_entity entity.now) (seen_answer value.now) }
 {
-    text_for(env, spot.known, value.known.class)
+    text_for(env, entity.known, value.known.class)
 }
 
 /// Whether a value fits a variable: a string constant fits where there is room for its 0X, and no other value fits an open array, but
@@ -33,14 +33,14 @@ pub fn text_to(env: &Env<'_>, spot: &Spot, value: &Answer) -> Option<TextConstan
 pub fn value_fits(
     alloc: Global,
     env: &Env<'_>,
-    spot: &Spot,
+    entity: &Entity,
     value: &Answer,
 ) -> Result<bool, AllocError>
-    ensures { IfOk result (λ b. b ≡ judge.value_fits env.now (seen_spot spot.now)
-        (seen_answer value.now) (judge.text_to env.now (seen_spot spot.now) (seen_answer value.now))) }
+    ensures { IfOk result (λ b. b ≡ judge.value_fits env.now (seen_entity entity.now)
+        (seen_answer value.now) (judge.text_to env.now (seen_entity entity.now) (seen_answer value.now))) }
 {
-    let of = spot.known.of;
-    match text_to(env, spot, value) {
+    let of = entity.known.of;
+    match text_to(env, entity, value) {
         Some(text) => Ok(has_room(env, of, text)),
         None => {
             let may_be_open = value.known.of.is_none() || !is_opening(env, of);
@@ -56,14 +56,14 @@ pub fn put_text(
     at: Pos,
     strict: bool,
     value: Answer,
-    spot: Spot,
+    entity: Entity,
 ) -> Result<MadeStat, AllocError>
     ensures { IfOk result (λ s. seen_stat s ≡
-        judge.put_text env.now at strict (seen_answer value) (seen_spot spot)) }
+        judge.put_text env.now at strict (seen_answer value) (seen_entity entity)) }
 {
     let from = text_rows(alloc, env, value)?;
-    let place = MadePlace::new(alloc, place_of(spot.held))?;
-    let to = array_rows(alloc, env, 1, spot.known.of, place)?;
+    let place = MadePlace::new(alloc, place_of(entity.held))?;
+    let to = array_rows(alloc, env, 1, entity.known.of, place)?;
     MadeStat::put_text(alloc, at, strict, from, to)
 }
 
@@ -87,18 +87,18 @@ pub fn copied(
     at: Pos,
     value: Answer,
     second: Pos,
-    spot: Spot,
+    entity: Entity,
 ) -> Result<Option<MadeStat>, AllocError>
     ensures noted { OnOk result (found.new ≡ first_after found.old
-        (judge.copied env.now at (seen_answer value) second (seen_spot spot)).breaches) }
+        (judge.copied env.now at (seen_answer value) second (seen_entity entity)).breaches) }
     ensures answer { IfOk result (λ s. option_map seen_stat s ≡
-        (judge.copied env.now at (seen_answer value) second (seen_spot spot)).answer) }
+        (judge.copied env.now at (seen_answer value) second (seen_entity entity)).answer) }
 {
-    refuse_written(found, spot.known.class, second);
-    if !may_be_characters(env, spot.known) {
+    refuse_written(found, entity.known.class, second);
+    if !may_be_characters(env, entity.known) {
         note(found, ARGUMENT_TYPE, second);
     }
-    let one = put_text(alloc, env, at, false, value, spot)?;
+    let one = put_text(alloc, env, at, false, value, entity)?;
     Ok(Some(one))
 }
 
@@ -108,13 +108,13 @@ pub fn refuse_unfit(
     found: &mut Option<Breach>,
     env: &Env<'_>,
     at: Pos,
-    spot: &Spot,
+    entity: &Entity,
     value: &Answer,
 ) -> Result<(), AllocError>
     ensures { OnOk result (found.new ≡ first_after found.old
-        (statements.assign_breaches env.now at (seen_spot spot.now) (seen_answer value.now))) }
+        (statements.assign_breaches env.now at (seen_entity entity.now) (seen_answer value.now))) }
 {
-    if !value_fits(alloc, env, spot, value)? {
+    if !value_fits(alloc, env, entity, value)? {
         note(found, UNFIT, at);
     }
     Ok(())
@@ -126,22 +126,22 @@ pub fn assigned_stat(
     alloc: Global,
     env: &Env<'_>,
     first: Pos,
-    spot: Spot,
+    entity: Entity,
     value: Answer,
 ) -> Result<MadeStat, AllocError>
     ensures { IfOk result (λ s. seen_stat s ≡
-        statements.assigned_stat env.now first (seen_spot spot) (seen_answer value)) }
+        statements.assigned_stat env.now first (seen_entity entity) (seen_answer value)) }
 {
-    if text_to(env, &spot, &value).is_some() {
-        return put_text(alloc, env, first, true, value, spot);
+    if text_to(env, &entity, &value).is_some() {
+        return put_text(alloc, env, first, true, value, entity);
     }
-    let to = spot.known.of;
+    let to = entity.known.of;
     let of = type_of(to);
     if let Some(known) = to {
         if has_parts(env, known) {
-            return MadeStat::copy(alloc, first, of, place_of(spot.held), place_in(value.typed));
+            return MadeStat::copy(alloc, first, of, place_of(entity.held), place_in(value.typed));
         }
     }
     let value = typed_for(env, to, value);
-    MadeStat::assign(alloc, first, of, place_of(spot.held), value)
+    MadeStat::assign(alloc, first, of, place_of(entity.held), value)
 }

@@ -10,7 +10,7 @@ ghost use Rattle.aos_designators.specs.Seen.{seen_part};
 
 use crate::refusals::refused;
 use aos_base::Pos;
-use aos_designators::{Part, spot_of_part};
+use aos_designators::{Part, entity_of_part};
 use aos_made_stat::MadeStat;
 use aos_symbols::{ARGUMENT_COUNT, Breach, Env, Lookup, Meaning, WRONG_CALL};
 use aos_tree::{Expr, Selector};
@@ -66,7 +66,7 @@ fn no_call(found: &mut Option<Breach>, at: Pos, of: Option<TypeId>) -> Option<Ma
 
 /// A call of a variable or a value, which begins at a place.
 #[tactic(auto, using(aos_symbols::proofs::Keeping::after_more))]
-pub fn called_spot(
+pub fn called_entity(
     alloc: Global,
     found: &mut Option<Breach>,
     env: &Env<'_>,
@@ -74,12 +74,12 @@ pub fn called_spot(
     part: Part,
 ) -> Result<Option<MadeStat>, AllocError>
     ensures noted { OnOk result (found.new ≡ first_after found.old
-        (judge.called_spot env.now first (kept (seen_part part))).breaches) }
+        (judge.called_entity env.now first (kept (seen_part part))).breaches) }
     ensures answer { IfOk result (λ s. option_map seen_stat s ≡
-        (judge.called_spot env.now first (kept (seen_part part))).answer) }
+        (judge.called_entity env.now first (kept (seen_part part))).answer) }
 {
-    let spot = spot_of_part(alloc, found, env, part)?;
-    Ok(no_call(found, first, spot.known.of))
+    let entity = entity_of_part(alloc, found, env, part)?;
+    Ok(no_call(found, first, entity.known.of))
 }
 
 /// Whether what a bracket stands behind is a predeclared function or the name of a type, which give values.

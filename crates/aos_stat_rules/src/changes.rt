@@ -2,12 +2,12 @@
 
 ghost use Rattle.std.specs.Prelude.{◌≡◌};
 ghost use Rattle.aos_symbols.specs.Breaches.{first_after};
-ghost use Rattle.aos_known.specs.Seen.{seen_spot};
+ghost use Rattle.aos_known.specs.Seen.{seen_entity};
 ghost use Rattle.aos_stat_rules.specs.Calls as judge;
 
 use aos_base::Pos;
 use aos_designators::refuse_written;
-use aos_known::{Class, Spot, fits, is_number, is_set, width_of};
+use aos_known::{Class, Entity, fits, is_number, is_set, width_of};
 use aos_symbols::{ARGUMENT_TYPE, Breach, Routine, note};
 use aos_typed::{Change, Literal};
 use aos_types::TypeId;
@@ -51,12 +51,12 @@ fn is_changed(routine: Routine, of: Option<TypeId>) -> bool
 
 /// A variable whose designator begins at `first`, and which is changed: it may be written, and is of an integer type or a set.
 #[tactic(auto, using(aos_symbols::proofs::Keeping::after_more))]
-pub fn refuse_changed(found: &mut Option<Breach>, routine: Routine, first: Pos, spot: &Spot)
+pub fn refuse_changed(found: &mut Option<Breach>, routine: Routine, first: Pos, entity: &Entity)
     ensures { found.new ≡
-        first_after found.old (judge.changed_breaches routine first (seen_spot spot.now)) }
+        first_after found.old (judge.changed_breaches routine first (seen_entity entity.now)) }
 {
-    refuse_written(found, spot.known.class, first);
-    if !is_changed(routine, spot.known.of) {
+    refuse_written(found, entity.known.class, first);
+    if !is_changed(routine, entity.known.of) {
         note(found, ARGUMENT_TYPE, first);
     }
 }

@@ -15,7 +15,7 @@ mod withs;
 
 pub use assignments::{assigned_stat, copied, refuse_unfit};
 pub use blocks::{enter_block, exit_of, gives_here, leave_block, put};
-pub use called::{before_last, called_spot, is_value_called, line_call, open_call};
+pub use called::{before_last, called_entity, is_value_called, line_call, open_call};
 pub use changes::{changing, code_in, is_amount, is_changed_set, is_code, refuse_changed};
 pub use labels::{Labels, is_label, range_of};
 pub use loops::{control, refuse_step, step_in};

@@ -3,12 +3,12 @@
 ghost use Rattle.std.specs.Prelude.{◌≡◌, OnOk, IfOk};
 ghost use Rattle.aos_typed.specs.Seen.{seen_stat, seen_stats};
 ghost use Rattle.aos_symbols.specs.Breaches.{first_after};
-ghost use Rattle.aos_known.specs.Seen.{seen_held, seen_spot};
+ghost use Rattle.aos_known.specs.Seen.{seen_held, seen_entity};
 ghost use Rattle.aos_stat_rules.specs.Statements as judge;
 
 use aos_base::Pos;
 use aos_designators::{Head, guard, is_module, member, named, plain, refused_at};
-use aos_known::{Held, Spot};
+use aos_known::{Entity, Held};
 use aos_made_stat::{MadeStat, MadeStats};
 use aos_symbols::{Breach, Env, Lookup, Meaning, Narrowed, WRONG_SELF, WRONG_WITH};
 use aos_tree::{Items, Qualident};
@@ -51,10 +51,10 @@ fn with_name(
     found: &mut Option<Breach>,
     env: &Env<'_>,
     head: Head,
-) -> Result<Spot, AllocError>
+) -> Result<Entity, AllocError>
     ensures noted { OnOk result (found.new ≡
         first_after found.old (judge.with_name env.now head).breaches) }
-    ensures answer { IfOk result (λ r. seen_spot r ≡ (judge.with_name env.now head).answer) }
+    ensures answer { IfOk result (λ r. seen_entity r ≡ (judge.with_name env.now head).answer) }
 {
     if may_be_variable(head.found) {
         named(alloc, found, env, head)
@@ -69,10 +69,10 @@ fn with_part(
     found: &mut Option<Breach>,
     env: &Env<'_>,
     head: Head,
-) -> Result<Spot, AllocError>
+) -> Result<Entity, AllocError>
     ensures noted { OnOk result (found.new ≡
         first_after found.old (judge.with_part env.now head).breaches) }
-    ensures answer { IfOk result (λ r. seen_spot r ≡ (judge.with_part env.now head).answer) }
+    ensures answer { IfOk result (λ r. seen_entity r ≡ (judge.with_part env.now head).answer) }
 {
     match head.found {
         Lookup::Found(_) => {
@@ -88,10 +88,10 @@ fn with_variable(
     found: &mut Option<Breach>,
     env: &Env<'_>,
     name: Qualident,
-) -> Result<Spot, AllocError>
+) -> Result<Entity, AllocError>
     ensures noted { OnOk result (found.new ≡
         first_after found.old (judge.with_variable env.now name).breaches) }
-    ensures answer { IfOk result (λ r. seen_spot r ≡ (judge.with_variable env.now name).answer) }
+    ensures answer { IfOk result (λ r. seen_entity r ≡ (judge.with_variable env.now name).answer) }
 {
     let Some(own) = name.second else {
         return with_name(alloc, found, env, plain(env, name.first));
@@ -112,11 +112,11 @@ pub fn guarded_variable(
     name: Qualident,
     colon: Pos,
     of: Qualident,
-) -> Result<(Spot, Option<TypeId>), AllocError>
+) -> Result<(Entity, Option<TypeId>), AllocError>
     ensures noted { OnOk result (found.new ≡ first_after found.old
         (judge.guarded_variable env.now name colon of).breaches) }
     ensures answer { IfOk result (λ r.
-        (seen_spot r.0, r.1) ≡ (judge.guarded_variable env.now name colon of).answer) }
+        (seen_entity r.0, r.1) ≡ (judge.guarded_variable env.now name colon of).answer) }
 {
     let whole = with_variable(alloc, found, env, name)?;
     let t = known_type(found, env, of);

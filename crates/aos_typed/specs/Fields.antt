@@ -5,7 +5,7 @@ use Rattle.aos_types.specs.declared.row.TypeId.{TypeId}
 use Rattle.aos_types.specs.declared.row.TypeRow.{TypeRow}
 use Rattle.aos_types.specs.declared.row.TypeRow.TheVariants as row
 use Rattle.aos_types.specs.Table.{row_of, base_of, is_object}
-use Rattle.aos_typed.specs.Spot.{Declared, Field}
+use Rattle.aos_typed.specs.Location.{Declared, Field}
 
 -- the types of the fields, its base's first; a type has fewer bases than there are types
 abbrev pub with_base : (TypeId → List TypeId) → Option TypeId → List TypeId → List TypeId

@@ -1,7 +1,7 @@
 -- What a call hands over: the parts of the frame that it makes, in order its parameters, its locals, and the copies of open arrays
 -- that are passed by value (Oberon-2 report, 10.1).
 use Rattle.std.specs.Prelude.{ℕ, suc, pos, List, [], ◌∷◌, ◌++◌, take, drop, map, if◌then◌else◌, Option, Some, None, unsigned_abs}
-use Rattle.aos_base.specs.declared.place.Root.TheVariants.{Frame as FrameRoot}
+use Rattle.aos_base.specs.declared.root.Root.TheVariants.{Frame as FrameRoot}
 use Rattle.aos_base.specs.Rooted.{Rooted}
 use Rattle.aos_types.specs.declared.row.TypeId.{TypeId}
 use Rattle.aos_types.specs.declared.row.TypeRow.{TypeRow}
@@ -13,7 +13,7 @@ use Rattle.aos_typed.specs.Program.{Parameter}
 use Rattle.aos_typed.specs.Numbers.{id_of}
 use Rattle.aos_typed.specs.Open.{open_dimensions, open_element}
 use Rattle.aos_typed.specs.Sort.{Sort, Plain, Variable, Alias, Elements, Length, variable_shape}
-use Rattle.aos_typed.specs.Spot.{InFrame}
+use Rattle.aos_typed.specs.Location.{InFrame}
 use Rattle.aos_typed.specs.Value.{Value, Int, Place, number_of}
 use Rattle.aos_typed.specs.Meaning.{place_in}
 

@@ -17,5 +17,5 @@ pub mod Open
 pub mod Operands
 pub mod Fields
 pub mod Handed
-pub mod Spot
+pub mod Location
 pub mod Typing

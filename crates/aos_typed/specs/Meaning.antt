@@ -20,17 +20,17 @@ use Rattle.aos_types.specs.declared.row.TypeId.{TypeId}
 use Rattle.aos_types.specs.declared.row.TypeRow.{TypeRow}
 use Rattle.aos_types.specs.Extension.{comes_to}
 use Rattle.aos_typed.specs.Value.{Value, Int, Flag, Object, Callable, Place as PlaceValue, number_of, literal_value, unary, binary, element, ord, chr, is_true}
-use Rattle.aos_base.specs.declared.place.Root.TheVariants.{Frame as FrameRoot, Module as ModuleRoot}
+use Rattle.aos_base.specs.declared.root.Root.TheVariants.{Frame as FrameRoot, Module as ModuleRoot}
 pub use Rattle.aos_base.specs.Frames.{Here}
 use Rattle.aos_typed.specs.declared.tree.TType.{TType}
-use Rattle.aos_typed.specs.Spot.{Spot, InFrame, OfModule}
+use Rattle.aos_typed.specs.Location.{Location, InFrame, OfModule}
 use Rattle.aos_typed.specs.Fields.{declared_as}
 use Rattle.aos_typed.specs.Methods.{method_number, is_active, body_type, initializer}
 use Rattle.aos_typed.specs.Numbers.{id_of, body_number, procedure_number, id_of_made}
 
 -- a scalar is known by its type, and so is what is copied
 abbrev pub Question : Type 0
-Question = Ask Spot Value TType TType
+Question = Ask Location Value TType TType
 
 abbrev pub Doing : Type 0 → Type 0
 Doing A = Tree Question Value A
@@ -38,32 +38,32 @@ Doing A = Tree Question Value A
 -- Places.
 
 -- the place that is a value; no well-typed program takes another value for one
-abbrev pub place_in : Value → Spot
+abbrev pub place_in : Value → Location
 place_in (PlaceValue s) = s
 place_in v = record { root = FrameRoot 0; path = []; type = 0; of = InFrame }
 
 -- a part of a place, by its number: it is a part of the same declared variable
-abbrev pub part_of : ℕ → Spot → Spot
+abbrev pub part_of : ℕ → Location → Location
 part_of i s = record { root = s.root; path = s.path ++ i ∷ []; type = 0; of = s.of }
 
 -- a field of a record or an object of this type
-abbrev pub field_of : List TypeRow → TypeId → ℕ → Spot → Spot
+abbrev pub field_of : List TypeRow → TypeId → ℕ → Location → Location
 field_of rows t k s = record { root = s.root; path = s.path ++ k ∷ []; type = 0; of = declared_as rows t k s.of }
 
 -- an element of an array of so many; trap 2 where there is none with this index
-abbrev pub element_of : ℕ → Value → Spot → Doing Spot
+abbrev pub element_of : ℕ → Value → Location → Doing Location
 element_of n v s = by (natural n (number_of v))
   where
-    by : Option ℕ → Doing Spot
+    by : Option ℕ → Doing Location
     by None = Traps 2 0
     by (Some i) = Val (part_of i s)
 
 -- an array, and the lengths of its dimensions
 pub record Found : Type 0 where
-  pub place : Spot
+  pub place : Location
   pub lengths : List Value
 
-abbrev pub found : Spot → List Value → Doing Found
+abbrev pub found : Location → List Value → Doing Found
 found s ns = Val (record { place = s; lengths = ns })
 
 -- its element with this index, which is one dimension less
@@ -106,7 +106,7 @@ abbrev pub unless_nil : {A : Type 0} → Value → (at_nil otherwise : Doing A) 
 unless_nil v a b = by_number (object_in v) a b
 
 -- where what an object holds stands is known at once, and so are its lengths and its type, which never change
-abbrev pub dereferenced : Value → Doing Spot
+abbrev pub dereferenced : Value → Doing Location
 dereferenced v = unless_nil v (Traps 1 0) (bind (ask (Opens v)) (λ x. Val (place_in x)))
 
 abbrev pub sizes_from : Value → (dimension many : ℕ) → Doing (List Value)
@@ -126,10 +126,10 @@ abbrev pub guarded : Value → ℕ → Doing Value
 guarded v t = unless_nil v (Traps 3 0) (bind (ask (Tests v (suc t))) (λ b. if is_true b then Val v else Traps 3 0))
 
 -- whether the type of a record, which its place names, extends this one
-abbrev pub has_type : List TypeRow → Spot → ℕ → Bool
+abbrev pub has_type : List TypeRow → Location → ℕ → Bool
 has_type rows s t = comes_to rows (id_of_made s.type) (id_of_made (suc t))
 
-abbrev pub record_guarded : List TypeRow → Spot → ℕ → Doing Spot
+abbrev pub record_guarded : List TypeRow → Location → ℕ → Doing Location
 record_guarded rows s t = if has_type rows s t then Val s else Traps 3 0
 
 -- of an object whose type is known to extend this one: the method in a slot
@@ -189,11 +189,11 @@ carried_out p (Some b) o = if is_active p b then ask (Starts o) else ask (Calls 
 -- In a procedure's frame here, in a program.
 module _ (p : Program) (here : Here) where
   -- a parameter or a local of the frame
-  abbrev pub own_place : ℕ → Spot
+  abbrev pub own_place : ℕ → Location
   own_place k = record { root = FrameRoot here.below; path = k ∷ []; type = 0; of = InFrame }
 
   -- what a parameter stands for is found in the frame, and no visible work
-  abbrev pub passed : ℕ → Doing Spot
+  abbrev pub passed : ℕ → Doing Location
   passed k = bind (ask (Places (own_place k))) (λ v. Val (place_in v))
 
   -- an open array parameter has a place, and behind it the lengths of its dimensions
@@ -210,7 +210,7 @@ module _ (p : Program) (here : Here) where
   -- the first doesn't tell
   abbrev mutual
     -- the place that a designator names: an index is evaluated once what it is of is found
-    pub place_of : Place → Doing Spot
+    pub place_of : Place → Doing Location
     place_of (ModuleVar m i) = Val (record { root = ModuleRoot m; path = i ∷ []; type = 0; of = OfModule m i })
     place_of (Local k) = Val (own_place k)
     place_of (Passed k) = passed k
@@ -384,7 +384,7 @@ pos_of (Out at call) = at
 
 -- In a procedure's frame here, in a program.
 module _ (p : Program) (here : Here) where
-  abbrev place : Place → Doing Spot
+  abbrev place : Place → Doing Location
   place = place_of p here
 
   abbrev rows : Rows → Doing Found

@@ -3,8 +3,8 @@ use Rattle.std.specs.Prelude.{ℕ, zero, suc, ◌+◌, ◌++◌, List, [], ◌�
 use Rattle.std.specs.List.{range_with_len}
 use Rattle.std.specs.Option.{unwrap_or}
 use Rattle.aos_base.specs.declared.text.Pos.{Pos}
-use Rattle.aos_base.specs.declared.place.Root.{Root}
-use Rattle.aos_base.specs.declared.place.Root.TheVariants.{Object as ObjectRoot}
+use Rattle.aos_base.specs.declared.root.Root.{Root}
+use Rattle.aos_base.specs.declared.root.Root.TheVariants.{Object as ObjectRoot}
 use Rattle.aos_base.specs.declared.kernel.Did.{Did}
 use Rattle.aos_base.specs.declared.kernel.Did.TheVariants.{Ended, Enter, Leave, Await, Start, Trapped}
 use Rattle.aos_base.specs.declared.kernel.LockName.{LockName}
@@ -40,7 +40,7 @@ use Rattle.aos_typed.specs.Conditions.{Condition, conditions}
 use Rattle.aos_typed.specs.Methods.{body_type, priority_by}
 use Rattle.aos_typed.specs.Routines.{Routine, parameters_of, locals_of, has_self, gives, routines}
 use Rattle.aos_typed.specs.Sort.{Sort, Plain, Variable, Alias, Elements, Length, variable_shape, object_shape}
-use Rattle.aos_typed.specs.Spot.{Spot, OnHeap}
+use Rattle.aos_typed.specs.Location.{Location, OnHeap}
 use Rattle.aos_typed.specs.Text.{text_in, with_text, fitted, text_content, text_shape}
 use Rattle.aos_typed.specs.Value.{Value, Int, Flag, Char, Set, Object, Callable, Place, number_of, is_true}
 use Rattle.aos_typed.specs.Store.{Store, scalar_in, rooted, value_at, store_with, type_of_object, with_object, new_number, has_room, made_in}
@@ -221,12 +221,12 @@ module _ (following : List ℕ) where
   awaits (l ∷ ls) c h = stays (Await l c) h
 
   -- other contents are stored at a place; where there are none nothing is, and no well-typed program comes to it
-  abbrev pub copies : Option (Content Value) → Spot → Top → Turned
+  abbrev pub copies : Option (Content Value) → Location → Top → Turned
   copies None to h = goes_on_with done h
   copies (Some c) to h = writes to.root (placed to.path c) (answered done h.frame ∷ h.below) h.store
 
   -- a text is stored at a place, where it fits
-  abbrev pub stores_text : Option (List ℕ) → Option (Content Value) → Spot → Top → Turned
+  abbrev pub stores_text : Option (List ℕ) → Option (Content Value) → Location → Top → Turned
   stores_text None old to h = stays (Trapped 15 0) h
   stores_text (Some cs) None to h = goes_on_with done h
   stores_text (Some cs) (Some old) to h = writes to.root (placed to.path (with_text cs old)) (answered done h.frame ∷ h.below) h.store
@@ -245,7 +245,7 @@ compared r a b = Flag (holds r (order (text_in a) (text_in b)) (pos 0))
 -- What a parameter stands for, and what an object tells by what it was made as, is known at once and no visible work: the one stands
 -- in the frame's own variables, the other never changes.
 
-abbrev pub known : Content Value → Spot → Value
+abbrev pub known : Content Value → Location → Value
 known c s = scalar_in (found s.path c)
 
 -- of an object that isn't there some value is known, and no well-typed program comes to it

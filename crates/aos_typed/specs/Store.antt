@@ -6,7 +6,7 @@ pub use Rattle.aos_base.specs.Shared.{rooted, store_with, made_in, type_of_objec
 use Rattle.aos_types.specs.Content.{Content, Scalar, Empty, Row, flatten}
 use Rattle.aos_types.specs.World.{read}
 use Rattle.aos_typed.specs.Value.{Value, Int}
-use Rattle.aos_typed.specs.Spot.{Spot}
+use Rattle.aos_typed.specs.Location.{Location}
 
 -- what the variables of modules and the fields of objects hold
 abbrev pub Store : Type 0
@@ -29,5 +29,5 @@ scalar_in (Some (Scalar v)) = v
 scalar_in (Some Empty) = Int (pos 0)
 scalar_in (Some (Row a b)) = Int (pos 0)
 
-abbrev pub value_at : Spot → Rooted (Content Value) → Value
+abbrev pub value_at : Location → Rooted (Content Value) → Value
 value_at p x = scalar_in (read p.root p.path x)

@@ -20,7 +20,7 @@ use Rattle.aos_typed.specs.Numbers.{predeclared_types}
 use Rattle.aos_typed.specs.Program.{Procedure, Program}
 use Rattle.aos_typed.specs.Routines.{routine_of, routines}
 use Rattle.aos_typed.specs.Open.{open_dimensions, first_same}
-use Rattle.aos_typed.specs.Spot.{Spot}
+use Rattle.aos_typed.specs.Location.{Location}
 use Rattle.aos_typed.specs.Value.{Value, Int, Flag, Char, Set, Object, Callable, Place}
 use Rattle.aos_typed.specs.Source.{first_in}
 pub use Rattle.aos_typed.specs.Handed.{nested}
@@ -54,7 +54,7 @@ IsBasic basic.Set v = IsSet v
 IsBasic basic.Nil v = v ≡ Object 0
 IsBasic (basic.Text n) v = v ≡ Int (pos 0)
 
-abbrev pub OnPlace : (Spot → Type 0) → Value → Type 0
+abbrev pub OnPlace : (Location → Type 0) → Value → Type 0
 OnPlace P (Place p) = P p
 OnPlace P v = ⊥
 
@@ -126,13 +126,13 @@ module _ (program : Program) where
   IsPlainly w t r v = v ≡ first_in r
 
   -- the place of a record whose type, which the place names, extends this one; more may stand behind its fields
-  pub record Names (w : World Sort) (t : TypeId) (p : Spot) : Type 0 where
+  pub record Names (w : World Sort) (t : TypeId) (p : Location) : Type 0 where
     pub extends : comes_to program.types (id_of_made p.type) t ≡ true
     pub more : Shape Sort
     pub plain : EachSort IsPlain more
     pub there : shape_at w p.root p.path ≡ Some (join (object_shape program.types (id_of_made p.type)) more)
 
-  abbrev pub IsPlace : World Sort → Sort → Spot → Type 0
+  abbrev pub IsPlace : World Sort → Sort → Location → Type 0
   IsPlace w (Plain t) p = ⊥
   IsPlace w (Variable t) p = Names w t p
   IsPlace w (Alias t) p = shape_at w p.root p.path ≡ Some (variable_shape program.types t)

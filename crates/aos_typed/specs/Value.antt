@@ -12,7 +12,7 @@ use Rattle.aos_base.specs.Operators.{flag, unary as unary_of, binary as binary_o
 use Rattle.aos_base.specs.Question.{Tree, Val, Traps}
 use Rattle.aos_typed.specs.declared.tree.Literal.{Literal}
 use Rattle.aos_typed.specs.declared.tree.Literal.TheVariants as literal
-use Rattle.aos_typed.specs.Spot.{Spot}
+use Rattle.aos_typed.specs.Location.{Location}
 
 pub data Value : Type 0 where
   Int : (number : ℤ) → Value
@@ -21,7 +21,7 @@ pub data Value : Type 0 where
   Set : (elements : ℕ) → Value  -- whose bits are the elements
   Object : (number : ℕ) → Value  -- by its number, from 1 in the order of making; 0 is NIL
   Callable : (procedure object : ℕ) → Value  -- a procedure by its number, and the object whose method it is, 0 for none; procedure 0 is NIL
-  Place : Spot → Value  -- what a parameter stands for
+  Place : Location → Value  -- what a parameter stands for
 
 abbrev pub literal_value : Literal → Value
 literal_value (literal.Int n) = Int n

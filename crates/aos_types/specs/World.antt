@@ -1,7 +1,7 @@
 -- What is known of a store whatever it holds: the shape of what stands below each root, and what each object was made as.
 use Rattle.std.specs.Prelude.{◌≡◌, ℕ, List, map, Option, Some, slice_get, option_and_then, option_map}
-use Rattle.aos_base.specs.declared.place.Root.{Root}
-use Rattle.aos_base.specs.declared.place.Root.TheVariants.{Frame, Module, Object}
+use Rattle.aos_base.specs.declared.root.Root.{Root}
+use Rattle.aos_base.specs.declared.root.Root.TheVariants.{Frame, Module, Object}
 use Rattle.aos_base.specs.Rooted.{Made, Rooted, from_last, by_number, at_root, change_root}
 use Rattle.aos_types.specs.Shape.{Shape, inside, offset, number_of}
 use Rattle.aos_types.specs.Content.{Content, found, placed, overlay}

@@ -8,7 +8,7 @@ use Rattle.aos_symbols.specs.Breaches.{first_after}
 use Rattle.aos_symbols.specs.Judged.{Judged, walk}
 use Rattle.aos_known.specs.Known.{Answer}
 use Rattle.aos_operators.specs.Operations.{no_elements}
-use Rattle.aos_known.specs.Seen.{seen_answer, seen_spot}
+use Rattle.aos_known.specs.Seen.{seen_answer, seen_entity}
 use Rattle.aos_designators.specs.Designators.{read}
 use Rattle.aos_check_expr.specs.Expressions as judge
 use Rattle.aos_check_expr.proofs.Rows.{two_items, factor_desig, factor_set, factor_not, element_as, element_is}
@@ -23,23 +23,23 @@ factor-returns-in-Number-clause-answer t c =
     ∙ ap (λ z. (judge.number (if_within W64 z) c.in-Number.field-0).answer) same
     ∙ ap (λ x. (judge.factor c.args.env.now x).answer) (sym c.in-Number.is)
 
-pub factor-returns-in_ok-spot-in-Desig-clause-noted : goal.factor-returns-in_ok-spot-in-Desig-clause-noted
-factor-returns-in_ok-spot-in-Desig-clause-noted t c =
+pub factor-returns-in_ok-entity-in-Desig-clause-noted : goal.factor-returns-in_ok-entity-in-Desig-clause-noted
+factor-returns-in_ok-entity-in-Desig-clause-noted t c =
     let env = c.args.env.now in
     let w = c.in-Desig in
     let is = factor_desig env c.args.part.now w.desig w.is in
-    let one = c.in_ok-spot-in-Desig in
+    let one = c.in_ok-entity-in-Desig in
     c.read.ensures.noted
-    ∙ told.noted (judge.factor env c.args.part.now) (judge.designator env w.desig) (read env) (seen_spot one.spot) is one.ensures.answer
+    ∙ told.noted (judge.factor env c.args.part.now) (judge.designator env w.desig) (read env) (seen_entity one.entity) is one.ensures.answer
     c.args.found.now c.designator.new.found one.ensures.noted
 
-pub factor-returns-in_ok-spot-in-Desig-clause-answer : goal.factor-returns-in_ok-spot-in-Desig-clause-answer
-factor-returns-in_ok-spot-in-Desig-clause-answer t c =
+pub factor-returns-in_ok-entity-in-Desig-clause-answer : goal.factor-returns-in_ok-entity-in-Desig-clause-answer
+factor-returns-in_ok-entity-in-Desig-clause-answer t c =
     let env = c.args.env.now in
     let w = c.in-Desig in
     let is = factor_desig env c.args.part.now w.desig w.is in
-    let one = c.in_ok-spot-in-Desig in
-    c.read.ensures.answer ∙ told.answer (judge.factor env c.args.part.now) (judge.designator env w.desig) (read env) (seen_spot one.spot) is one.ensures.answer
+    let one = c.in_ok-entity-in-Desig in
+    c.read.ensures.answer ∙ told.answer (judge.factor env c.args.part.now) (judge.designator env w.desig) (read env) (seen_entity one.entity) is one.ensures.answer
 
 pub factor-returns-in_ok-set-in-Set-clause-noted : goal.factor-returns-in_ok-set-in-Set-clause-noted
 factor-returns-in_ok-set-in-Set-clause-noted t c =

@@ -3,7 +3,7 @@ use Rattle.std.proofs.Common.{◌≡◌, drop, length, map, true}
 use Rattle.aos_symbols.specs.Breaches.{first_after}
 use Rattle.aos_symbols.specs.Judged.{walk}
 use Rattle.aos_operators.specs.Operations.{no_elements}
-use Rattle.aos_known.specs.Seen.{seen_answer, seen_spot}
+use Rattle.aos_known.specs.Seen.{seen_answer, seen_entity}
 use Rattle.aos_arguments.specs.Seen.{seen_handing}
 use Rattle.aos_designators.specs.Seen.{seen_part}
 use Rattle.aos_check_expr.specs.Expressions as judge
@@ -35,8 +35,8 @@ invariant-follow_selectors-loop-part l = record {
 
 abbrev pub invariant-indices-loop-part : goal.invariant-indices-loop-part
 invariant-indices-loop-part l = record {
-  noted : first_after l.found (walk (judge.index l.env l.at) (seen_spot l.whole) (drop l.part-index l.all)).breaches ≡ first_after l.initial.found (walk (judge.index l.env l.at) (seen_spot l.initial.whole) l.all).breaches;
-  answer : (walk (judge.index l.env l.at) (seen_spot l.whole) (drop l.part-index l.all)).answer ≡ (walk (judge.index l.env l.at) (seen_spot l.initial.whole) l.all).answer;
+  noted : first_after l.found (walk (judge.index l.env l.at) (seen_entity l.whole) (drop l.part-index l.all)).breaches ≡ first_after l.initial.found (walk (judge.index l.env l.at) (seen_entity l.initial.whole) l.all).breaches;
+  answer : (walk (judge.index l.env l.at) (seen_entity l.whole) (drop l.part-index l.all)).answer ≡ (walk (judge.index l.env l.at) (seen_entity l.initial.whole) l.all).answer;
 }
 
 abbrev pub invariant-handed-loop-argument : goal.invariant-handed-loop-argument

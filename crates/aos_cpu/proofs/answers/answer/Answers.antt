@@ -16,13 +16,13 @@ use Rattle.aos_cpu.proofs.answers.answer.Goals as goal
 
 pub returns-in-Reads-clause-ok : goal.returns-in-Reads-clause-ok
 returns-in-Reads-clause-ok c =
-    has_ok c.args.image.now c.args.question (Reads c.in-Reads.kind (addr_in c.in-Reads.spot)) c.args.at 1 (λ s. ap (λ x. question_in x s) c.in-Reads.is) (ap operands_of c.in-Reads.is)
+    has_ok c.args.image.now c.args.question (Reads c.in-Reads.kind (addr_in c.in-Reads.address)) c.args.at 1 (λ s. ap (λ x. question_in x s) c.in-Reads.is) (ap operands_of c.in-Reads.is)
     c.args.frames.now c.read.new.frames (memory_in c.args.store.now) (memory_in c.args.store.now) c.args.output.now.items c.args.output.now.items c.read.result
     (c.read.ensures.ok c.args.output.now.items)
 
 pub returns-in-Stores-clause-ok : goal.returns-in-Stores-clause-ok
 returns-in-Stores-clause-ok c =
-    has_answered c.args.image.now c.args.question (Stores (addr_in c.in-Stores.spot) c.in-Stores.value) c.args.at 2 (λ s. ap (λ x. question_in x s) c.in-Stores.is) (ap operands_of c.in-Stores.is)
+    has_answered c.args.image.now c.args.question (Stores (addr_in c.in-Stores.address) c.in-Stores.value) c.args.at 2 (λ s. ap (λ x. question_in x s) c.in-Stores.is) (ap operands_of c.in-Stores.is)
     c.args.frames.now c.write.new.frames (memory_in c.args.store.now) (memory_in c.write.new.store) c.args.output.now.items c.args.output.now.items c.write.result
     (c.write.ensures.answered c.args.output.now.items)
 
@@ -96,10 +96,10 @@ returns-in-PutsLn-clause-ok c =
 
 pub returns-in-PutsString-clause-ok : goal.returns-in-PutsString-clause-ok
 returns-in-PutsString-clause-ok c =
-    has_ok c.args.image.now c.args.question (PutsString (addr_in c.in-PutsString.spot) (Num c.in-PutsString.len)) c.args.at 2 (λ s. ap (λ x. question_in x s) c.in-PutsString.is) (ap operands_of c.in-PutsString.is)
+    has_ok c.args.image.now c.args.question (PutsString (addr_in c.in-PutsString.address) (Num c.in-PutsString.len)) c.args.at 2 (λ s. ap (λ x. question_in x s) c.in-PutsString.is) (ap operands_of c.in-PutsString.is)
     c.args.frames.now c.put_string.new.frames (memory_in c.args.store.now) (memory_in c.args.store.now) c.args.output.now.items c.put_string.new.output.items c.put_string.result
     (let first : to_z w64 (of_z w64 c.in-PutsString.len) ≡ c.in-PutsString.len = search rules in
-    subst (λ (x : ℤ). IfOk c.put_string.result (λ did. IsAnswered (PutsString (addr_in c.in-PutsString.spot) (Num x)) c.args.at 2 c.args.frames.now c.put_string.new.frames (memory_in c.args.store.now) (memory_in c.args.store.now) did c.args.output.now.items c.put_string.new.output.items)) first
+    subst (λ (x : ℤ). IfOk c.put_string.result (λ did. IsAnswered (PutsString (addr_in c.in-PutsString.address) (Num x)) c.args.at 2 c.args.frames.now c.put_string.new.frames (memory_in c.args.store.now) (memory_in c.args.store.now) did c.args.output.now.items c.put_string.new.output.items)) first
     c.put_string.ensures.ok)
 
 pub returns-in-PutsText-clause-ok : goal.returns-in-PutsText-clause-ok

@@ -19,21 +19,21 @@ returns-in-None-clause-judged c f top =
     let x = rooted_in c.args.frames.now c.args.store.now in
     let old = c.args.frames.now.list.items in
     subst (λ (q : KeptQuestion). IsJudged x q c.args.at f old old (Some (Traps 16))) (sym c.in-Reads.is)
-    (reads_none x c.args.at f old c.in-Reads.kind c.in-Reads.spot (sym c.load_at.ensures ∙ c.in-None.is))
+    (reads_none x c.args.at f old c.in-Reads.kind c.in-Reads.address (sym c.load_at.ensures ∙ c.in-None.is))
 
 pub returns-then-not-is_of-clause-judged : goal.returns-then-not-is_of-clause-judged
 returns-then-not-is_of-clause-judged c f top =
     let x = rooted_in c.args.frames.now c.args.store.now in
     let old = c.args.frames.now.list.items in
     subst (λ (q : KeptQuestion). IsJudged x q c.args.at f old old (Some (Traps 16))) (sym c.in-Reads.is)
-    (reads_other x c.args.at f old c.in-Reads.kind c.in-Reads.spot c.in-Some.value (sym c.load_at.ensures ∙ c.in-Some.is) (sym c.is_of.ensures ∙ c.if-not-is_of.true))
+    (reads_other x c.args.at f old c.in-Reads.kind c.in-Reads.address c.in-Some.value (sym c.load_at.ensures ∙ c.in-Some.is) (sym c.is_of.ensures ∙ c.if-not-is_of.true))
 
 pub returns-else-not-is_of-clause-judged : goal.returns-else-not-is_of-clause-judged
 returns-else-not-is_of-clause-judged c f top =
     let x = rooted_in c.args.frames.now c.args.store.now in
     let old = c.args.frames.now.list.items in
     subst (λ (q : KeptQuestion). IsJudged x q c.args.at f old c.put_top.new.frames.list.items None) (sym c.in-Reads.is)
-    (reads_on x c.args.at f old c.in-Reads.kind c.in-Reads.spot c.in-Some.value c.put_top.new.frames.list.items (sym c.load_at.ensures ∙ c.in-Some.is) (sym c.is_of.ensures ∙ c.if-not-is_of.false) (c.put_top.ensures.put f top))
+    (reads_on x c.args.at f old c.in-Reads.kind c.in-Reads.address c.in-Some.value c.put_top.new.frames.list.items (sym c.load_at.ensures ∙ c.in-Some.is) (sym c.is_of.ensures ∙ c.if-not-is_of.false) (c.put_top.ensures.put f top))
 
 pub returns-in_default-clause-judged : goal.returns-in_default-clause-judged
 returns-in_default-clause-judged c f top = asks_other (rooted_in c.args.frames.now c.args.store.now) c.args.at f c.args.frames.now.list.items c.args.question c.in_default.not-Reads c.in_default.not-ComparesTexts

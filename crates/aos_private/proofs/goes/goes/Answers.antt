@@ -27,15 +27,15 @@ comes image following at k s f fs mem q =
 pub returns-in-Reads : goal.returns-in-Reads
 returns-in-Reads c f fs is own following at k s =
     let mem = memory_in c.args.store.now in
-    let spot = c.in-Reads.spot in
-    c.holds.ensures ∙ ap (holds c.in-Reads.kind) (c.load_at.ensures ∙ ap (λ l. load spot.root spot.cell (rooted l mem)) is) ∙ read_gone following at k s f fs mem c.in-Reads.kind _
+    let address = c.in-Reads.address in
+    c.holds.ensures ∙ ap (holds c.in-Reads.kind) (c.load_at.ensures ∙ ap (λ l. load address.root address.cell (rooted l mem)) is) ∙ read_gone following at k s f fs mem c.in-Reads.kind _
     ∙ ap (comes c.args.image.now following at k s f fs mem) (sym c.in-Reads.is)
 
 pub returns-in-Stores : goal.returns-in-Stores
 returns-in-Stores c f fs is own following at k s =
     let mem = memory_in c.args.store.now in
-    let spot = c.in-Stores.spot in
-    c.is_some.ensures ∙ ap is_some (c.load_at-in-Stores.ensures ∙ ap (λ l. load spot.root spot.cell (rooted l mem)) is) ∙ write_gone following at k s f fs mem _ _ _
+    let address = c.in-Stores.address in
+    c.is_some.ensures ∙ ap is_some (c.load_at-in-Stores.ensures ∙ ap (λ l. load address.root address.cell (rooted l mem)) is) ∙ write_gone following at k s f fs mem _ _ _
     ∙ ap (comes c.args.image.now following at k s f fs mem) (sym c.in-Stores.is)
 
 pub returns-in-Copies : goal.returns-in-Copies

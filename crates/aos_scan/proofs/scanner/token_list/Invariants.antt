@@ -1,5 +1,5 @@
 use Rattle.std.proofs.Common.{◌≡◌, ◌-◌, ◌≤◌, length}
-use Rattle.aos_scan.specs.Place.{position}
+use Rattle.aos_scan.specs.Position.{position}
 use Rattle.aos_scan.specs.TokenList.{AreTokens}
 use Rattle.aos_scan.proofs.scanner.token_list.Given as goal
 

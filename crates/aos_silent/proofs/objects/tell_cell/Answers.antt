@@ -1,6 +1,6 @@
 use Rattle.std.proofs.Common.{◌≡◌, List, ◌∷◌, [], reverse, refl, subst, arith}
 use Rattle.std.specs.Prelude.{Some, slice_get}
-use Rattle.aos_base.specs.declared.place.Root.TheVariants.{Object as ObjectRoot}
+use Rattle.aos_base.specs.declared.root.Root.TheVariants.{Object as ObjectRoot}
 use Rattle.aos_code.specs.declared.instr.Cell.{Cell}
 use Rattle.aos_code.specs.declared.instr.Cell.TheVariants.{Place}
 use Rattle.aos_code.specs.Silent.{AtCell, Stops, Fails}

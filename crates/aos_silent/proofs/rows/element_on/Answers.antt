@@ -3,9 +3,9 @@ use Rattle.std.specs.Prelude.{Some, None, slice_get, Option, IfNone}
 use Rattle.std.proofs.lemmas.List.{length-reverse}
 use Rattle.aos_base.specs.Operators.{natural}
 use Rattle.aos_code.specs.Silent.{cells_of, element, indexes_open}
-use Rattle.aos_silent.specs.Acts.{spot_in, addr_in}
+use Rattle.aos_silent.specs.Acts.{address_in, addr_in}
 use Rattle.aos_silent.specs.Taken.{length_in, rows_of}
-use Rattle.aos_silent.proofs.Lengths.{rows_lost, first_lost, place_lost, element_is, spot_within}
+use Rattle.aos_silent.proofs.Lengths.{rows_lost, first_lost, place_lost, element_is, address_within}
 use Rattle.aos_silent.proofs.rows.element_on.Goals as goal
 
 where_none : {A : Type 0} (r : Option A) (P : Type 0) → P → IfNone r P
@@ -36,7 +36,7 @@ returns-in_err-at-clause-none c =
     let rows = c.in_ok-rows.rows in
     let more : c.args.lengths ≡ rows + 1 = omega (arith, c.in_ok-rows.ensures) in
     let found : length_in (slice_get s (rows + 1)) ≡ Some c.in_ok-length.length = ap (λ n. length_in (slice_get s n)) (sym more) ∙ sym c.length_at.ensures ∙ c.in_ok-length.was in
-    let none : spot_in (slice_get s (rows + 1 + 1)) ≡ None = ap (λ n. spot_in (slice_get s (n + 1))) (sym more) ∙ sym c.spot.ensures ∙ c.in_err-at.was in
+    let none : address_in (slice_get s (rows + 1 + 1)) ≡ None = ap (λ n. address_in (slice_get s (n + 1))) (sym more) ∙ sym c.address.ensures ∙ c.in_err-at.was in
     where_none c.from_residual-in_err-at.result _
     (ap (λ n. indexes_open n c.args.cells s) more
     ∙ place_lost c.args.cells s rows c.in_ok-index.index (rows_of (take rows (drop 1 s))) (sym c.number.ensures ∙ c.in_ok-index.was) (λ k. c.in_ok-cells.ensures.rows k) c.in_ok-length.length found none)
@@ -44,7 +44,7 @@ returns-in_err-at-clause-none c =
 pub returns-clause-deep : goal.returns-clause-deep
 returns-clause-deep c =
     let s = reverse c.args.stack.now in
-    let within = spot_within s (c.args.lengths + 1) c.in_ok-at.at (sym c.spot.ensures ∙ c.in_ok-at.was) in
+    let within = address_within s (c.args.lengths + 1) c.in_ok-at.at (sym c.address.ensures ∙ c.in_ok-at.was) in
     (omega (arith, within, length-reverse c.args.stack.now), omega (arith, c.in_ok-rows.ensures))
 
 pub returns-clause-some : goal.returns-clause-some
@@ -56,7 +56,7 @@ returns-clause-some c =
     let at = c.in_ok-at.at in
     let ls = rows_of (take rows (drop 1 s)) in
     let found : length_in (slice_get s (rows + 1)) ≡ Some n = ap (λ m. length_in (slice_get s m)) (sym more) ∙ sym c.length_at.ensures ∙ c.in_ok-length.was in
-    let place : spot_in (slice_get s (rows + 1 + 1)) ≡ Some at = ap (λ m. spot_in (slice_get s (m + 1))) (sym more) ∙ sym c.spot.ensures ∙ c.in_ok-at.was in
+    let place : address_in (slice_get s (rows + 1 + 1)) ≡ Some at = ap (λ m. address_in (slice_get s (m + 1))) (sym more) ∙ sym c.address.ensures ∙ c.in_ok-at.was in
     let above : rows ≡ c.args.lengths - 1 = omega arith in
     let same : to_z w64 (of_z w64 c.in_ok-index.index) ≡ c.in_ok-index.index = grind (arith, to_z-of_z) in
     let below : rows + 1 + 1 + 1 ≡ c.args.lengths + 2 = omega arith in (

@@ -1,5 +1,5 @@
 use Rattle.std.proofs.Common.{refl}
-use Rattle.aos_base.specs.declared.place.Root.TheVariants.{Frame}
+use Rattle.aos_base.specs.declared.root.Root.TheVariants.{Frame}
 use Rattle.aos_base.specs.Question.{Lengths}
 use Rattle.aos_silent.proofs.Oks.{ok_more}
 use Rattle.aos_silent.proofs.step.length_value.Goals as goal

@@ -3,7 +3,7 @@ use Rattle.std.specs.Prelude.{slice_get}
 use Rattle.std.proofs.lemmas.Option.{slice_get_within}
 use Rattle.aos_base.specs.Book.{move, Ready}
 use Rattle.aos_ready.specs.Order.{number_of}
-use Rattle.aos_line.specs.declared.place.Place.TheVariants.{Nowhere, On}
+use Rattle.aos_line.specs.declared.run_state.RunState.TheVariants.{Nowhere, On}
 use Rattle.aos_line.specs.Stands.{Stands}
 use Rattle.aos_line.proofs.Rests.{placed, place_added, absent}
 use Rattle.aos_line.proofs.Standing.{unstarted, get_added, get_unset}

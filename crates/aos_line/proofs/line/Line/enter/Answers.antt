@@ -7,7 +7,7 @@ use Rattle.aos_base.specs.Book.{leave_line}
 use Rattle.aos_lock.specs.Heirs.{entered_owner, does_wait, joined}
 use Rattle.aos_lock.specs.Waits.{owner_of, entrants_in, numbers_in}
 use Rattle.aos_line.specs.Numbers.{number_of}
-use Rattle.aos_line.specs.declared.place.Place.{Place}
+use Rattle.aos_line.specs.declared.run_state.RunState.{RunState}
 use Rattle.aos_line.proofs.Readings.{elsewhere, at_lock}
 use Rattle.aos_line.proofs.Places.{idle, not_ready}
 use Rattle.aos_line.proofs.Passing.{lock_here, owner_changed, ready_apart}
@@ -18,7 +18,7 @@ pub owner-requires : goal.owner-requires
 owner-requires c =
     let mid = c.number.new.self in
     let a = c.args.activity in
-    let on = on_same c.args.self.now mid a c.in_ok-number.ensures.same (ap (λ (v : Vec Place Global). v.items) c.number.ensures.places) c.requires in
+    let on = on_same c.args.self.now mid a c.in_ok-number.ensures.same (ap (λ (v : Vec RunState Global). v.items) c.number.ensures.places) c.requires in
     let s = on.stood in
     (lock_here mid s.line s.owner s.stands c.args.lock c.in_ok-number.number c.in_ok-number.ensures.number).0
 
@@ -26,7 +26,7 @@ pub enter-requires-clause-added : goal.enter-requires-clause-added
 enter-requires-clause-added c =
     let mid = c.number.new.self in
     let a = c.args.activity in
-    let on = on_same c.args.self.now mid a c.in_ok-number.ensures.same (ap (λ (v : Vec Place Global). v.items) c.number.ensures.places) c.requires in
+    let on = on_same c.args.self.now mid a c.in_ok-number.ensures.same (ap (λ (v : Vec RunState Global). v.items) c.number.ensures.places) c.requires in
     let s = on.stood in
     (lock_here mid s.line s.owner s.stands c.args.lock c.in_ok-number.number c.in_ok-number.ensures.number).0
 
@@ -34,7 +34,7 @@ pub enter-requires-clause-belong : goal.enter-requires-clause-belong
 enter-requires-clause-belong c =
     let mid = c.number.new.self in
     let a = c.args.activity in
-    let on = on_same c.args.self.now mid a c.in_ok-number.ensures.same (ap (λ (v : Vec Place Global). v.items) c.number.ensures.places) c.requires in
+    let on = on_same c.args.self.now mid a c.in_ok-number.ensures.same (ap (λ (v : Vec RunState Global). v.items) c.number.ensures.places) c.requires in
     let s = on.stood in
     s.stands.waits
 
@@ -42,7 +42,7 @@ pub enter-requires-clause-reserved : goal.enter-requires-clause-reserved
 enter-requires-clause-reserved c =
     let mid = c.number.new.self in
     let a = c.args.activity in
-    let on = on_same c.args.self.now mid a c.in_ok-number.ensures.same (ap (λ (v : Vec Place Global). v.items) c.number.ensures.places) c.requires in
+    let on = on_same c.args.self.now mid a c.in_ok-number.ensures.same (ap (λ (v : Vec RunState Global). v.items) c.number.ensures.places) c.requires in
     let s = on.stood in
     let within = on_within mid a on in
     omega (arith, within, s.stands.room)
@@ -51,7 +51,7 @@ pub enter-requires-clause-elsewhere : goal.enter-requires-clause-elsewhere
 enter-requires-clause-elsewhere c =
     let mid = c.number.new.self in
     let a = c.args.activity in
-    let on = on_same c.args.self.now mid a c.in_ok-number.ensures.same (ap (λ (v : Vec Place Global). v.items) c.number.ensures.places) c.requires in
+    let on = on_same c.args.self.now mid a c.in_ok-number.ensures.same (ap (λ (v : Vec RunState Global). v.items) c.number.ensures.places) c.requires in
     let s = on.stood in
     let p = on_place mid s.line s.owner s.stands a on in
     idle mid s.line s.owner s.stands a (λ k. elsewhere (at_lock k) s.line a (book.On p.0) s.stands.once p.1 refl)
@@ -60,7 +60,7 @@ pub returns-in-None-clause-entered : goal.returns-in-None-clause-entered
 returns-in-None-clause-entered c line owner h =
     let mid = c.number.new.self in
     let a = c.args.activity in
-    let on = on_same c.args.self.now mid a c.in_ok-number.ensures.same (ap (λ (v : Vec Place Global). v.items) c.number.ensures.places) c.requires in
+    let on = on_same c.args.self.now mid a c.in_ok-number.ensures.same (ap (λ (v : Vec RunState Global). v.items) c.number.ensures.places) c.requires in
     let s = on.stood in
     let g = c.in_ok-number.ensures.same line owner h in
     let n = c.in_ok-number.number in
@@ -86,7 +86,7 @@ pub returns-then-owner-activity-clause-on : goal.returns-then-owner-activity-cla
 returns-then-owner-activity-clause-on c _ =
     let mid = c.number.new.self in
     let a = c.args.activity in
-    let on = on_same c.args.self.now mid a c.in_ok-number.ensures.same (ap (λ (v : Vec Place Global). v.items) c.number.ensures.places) c.requires in
+    let on = on_same c.args.self.now mid a c.in_ok-number.ensures.same (ap (λ (v : Vec RunState Global). v.items) c.number.ensures.places) c.requires in
     let s = on.stood in
     on
 
@@ -94,7 +94,7 @@ pub leave-requires : goal.leave-requires
 leave-requires c =
     let mid = c.number.new.self in
     let a = c.args.activity in
-    let on = on_same c.args.self.now mid a c.in_ok-number.ensures.same (ap (λ (v : Vec Place Global). v.items) c.number.ensures.places) c.requires in
+    let on = on_same c.args.self.now mid a c.in_ok-number.ensures.same (ap (λ (v : Vec RunState Global). v.items) c.number.ensures.places) c.requires in
     let s = on.stood in
     on
 

@@ -2,7 +2,7 @@ use Rattle.std.proofs.Common.{◌+◌, refl, arith}
 use Rattle.std.specs.Vec.{with_item}
 use Rattle.std.proofs.lemmas.Option.{slice_get_within}
 use Rattle.aos_base.specs.Book as book
-use Rattle.aos_line.specs.declared.place.Place.TheVariants.{Nowhere, At}
+use Rattle.aos_line.specs.declared.run_state.RunState.TheVariants.{Nowhere, At}
 use Rattle.aos_line.proofs.Moves.{joins}
 use Rattle.aos_line.proofs.Places.{none_idle}
 use Rattle.aos_line.proofs.Passing.{lock_here, joined_lock}

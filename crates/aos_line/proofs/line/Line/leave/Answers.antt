@@ -3,7 +3,7 @@ use Rattle.std.specs.Prelude.{Some, slice_get}
 use Rattle.std.specs.Vec.{with_item}
 use Rattle.std.proofs.lemmas.Option.{slice_get_within, get_or_from_slice_get}
 use Rattle.aos_base.specs.Book as book
-use Rattle.aos_line.specs.declared.place.Place.TheVariants.{Nowhere, On}
+use Rattle.aos_line.specs.declared.run_state.RunState.TheVariants.{Nowhere, On}
 use Rattle.aos_line.proofs.Moves.{leaves, set_here}
 use Rattle.aos_line.proofs.Places.{left_worker}
 use Rattle.aos_line.proofs.Standing.{place_is, live_some, awake_some, owned_same}

@@ -10,7 +10,7 @@ use Rattle.aos_lock.proofs.Rows.{nobody_leaves}
 use Rattle.aos_lock.proofs.Chosen.{passed_within}
 use Rattle.aos_line.specs.declared.line.Line.{Line}
 use Rattle.aos_line.specs.Numbers.{number_of}
-use Rattle.aos_line.specs.declared.place.Place.TheVariants.{Nowhere}
+use Rattle.aos_line.specs.declared.run_state.RunState.TheVariants.{Nowhere}
 use Rattle.aos_line.specs.Stands.{Stands, IsNowhere}
 use Rattle.aos_line.proofs.Moves.{leaves, set_here}
 use Rattle.aos_line.proofs.Passing.{lock_here, waits_here, owner_changed, waiting_apart, left_lock, owned_left, left_some, left_none, heir_is}

@@ -2,7 +2,7 @@ use Rattle.std.proofs.Common.{◌-◌, refl, sym, ◌∙◌, arith}
 use Rattle.std.specs.Vec.{with_item}
 use Rattle.aos_base.specs.Book as book
 use Rattle.aos_ready.specs.Order.{number_of}
-use Rattle.aos_line.specs.declared.place.Place.TheVariants.{Nowhere}
+use Rattle.aos_line.specs.declared.run_state.RunState.TheVariants.{Nowhere}
 use Rattle.aos_line.proofs.Moves.{leaves, set_here}
 use Rattle.aos_line.proofs.Places.{left_ready}
 use Rattle.aos_line.proofs.Rests.{none_goes}

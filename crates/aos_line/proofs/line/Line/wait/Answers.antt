@@ -4,12 +4,12 @@ use Rattle.std.specs.declared.alloc.Global.{Global}
 use Rattle.aos_base.specs.Lock.{Condition}
 use Rattle.aos_base.specs.Book.{leave_line}
 use Rattle.aos_line.specs.Numbers.{number_of}
-use Rattle.aos_line.specs.declared.place.Place.{Place}
+use Rattle.aos_line.specs.declared.run_state.RunState.{RunState}
 use Rattle.aos_line.proofs.Standing.{on_same}
 use Rattle.aos_line.proofs.line.Line.wait.Goals as goal
 
 pub leave-requires : goal.leave-requires
-leave-requires c = on_same c.args.self.now c.number.new.self c.args.activity c.in_ok-number.ensures.same (ap (λ (v : Vec Place Global). v.items) c.number.ensures.places) c.requires
+leave-requires c = on_same c.args.self.now c.number.new.self c.args.activity c.in_ok-number.ensures.same (ap (λ (v : Vec RunState Global). v.items) c.number.ensures.places) c.requires
 
 pub join-requires-clause-number : goal.join-requires-clause-number
 join-requires-clause-number c = ap (λ ns. number_of ns c.args.lock) c.leave.ensures.numbers ∙ c.in_ok-number.ensures.number

@@ -3,7 +3,7 @@ use Rattle.std.specs.Vec.{with_item}
 use Rattle.std.proofs.lemmas.Option.{slice_get_within}
 use Rattle.aos_base.specs.Book as book
 use Rattle.aos_ready.specs.Order.{number_of}
-use Rattle.aos_line.specs.declared.place.Place.TheVariants.{Nowhere, Ready}
+use Rattle.aos_line.specs.declared.run_state.RunState.TheVariants.{Nowhere, Ready}
 use Rattle.aos_line.proofs.Moves.{joins}
 use Rattle.aos_line.proofs.Places.{joined_ready, none_ready}
 use Rattle.aos_line.proofs.Standing.{place_is, awake_few}

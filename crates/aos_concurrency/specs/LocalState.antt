@@ -4,23 +4,23 @@ use Rattle.aos_base.specs.declared.kernel.LockName.{LockName}
 use Rattle.aos_base.specs.declared.kernel.Did.{Did}
 use Rattle.aos_base.specs.declared.kernel.Did.TheVariants.{Went, Ended, Enter, Leave, Await, Start, Trapped}
 use Rattle.aos_base.specs.Lock.{Entry, Condition}
-use Rattle.aos_base.specs.Book.{Place, On, Ready, At, Stand, Next, Runs, WillTrap, Unwinds, Gone, Activity, place_of}
+use Rattle.aos_base.specs.Book.{RunState, On, Ready, At, Stand, Next, Runs, WillTrap, Unwinds, Gone, Activity, place_of}
 use Rattle.aos_base.specs.Machine.{State}
 
 -- where it stands, what its next turn is, and its frames
-pub record Spot (F : Type 0) : Type 0 where
-  pub place : Option Place
+pub record LocalState (F : Type 0) : Type 0 where
+  pub place : Option RunState
   pub next : Next
   pub frames : F
 
-abbrev pub spot_in : {F : Type 0} → List Stand → (ℕ → Activity) → (ℕ → F) → ℕ → Spot F
-spot_in line activity frames a = record { place = place_of line a; next = (activity a).next; frames = frames a }
+abbrev pub local_state_in : {F : Type 0} → List Stand → (ℕ → Activity) → (ℕ → F) → ℕ → LocalState F
+local_state_in line activity frames a = record { place = place_of line a; next = (activity a).next; frames = frames a }
 
-abbrev pub spot : {S F : Type 0} → State S F → ℕ → Spot F
-spot st a = spot_in st.book.line st.book.activity st.frames a
+abbrev pub local_state : {S F : Type 0} → State S F → ℕ → LocalState F
+local_state st a = local_state_in st.book.line st.book.activity st.frames a
 
 -- the work before which an activity stands that runs, by its place
-abbrev pub before : Place → Did
+abbrev pub before : RunState → Did
 before (On w) = Went
 before (Ready p) = Went
 before (At l Entry) = Enter l
@@ -56,16 +56,16 @@ MayTrap (Start o) = Unit {0}
 MayTrap (Trapped n c) = Unit {0}
 
 -- R of the work before which an activity stands at a place; whoever waits to enter is admitted besides
-abbrev pub AtPlace : (Admitted : LockName → Type 0) (R : Did → Type 0) → Place → Type 0
-AtPlace Admitted R (On w) = R Went
-AtPlace Admitted R (Ready p) = R Went
-AtPlace Admitted R (At l Entry) = Admitted l × R (Enter l)
-AtPlace Admitted R (At l (Condition c)) = R (Await l c)
+abbrev pub AtRunState : (Admitted : LockName → Type 0) (R : Did → Type 0) → RunState → Type 0
+AtRunState Admitted R (On w) = R Went
+AtRunState Admitted R (Ready p) = R Went
+AtRunState Admitted R (At l Entry) = Admitted l × R (Enter l)
+AtRunState Admitted R (At l (Condition c)) = R (Await l c)
 
 -- so it is by its place while it runs; from a trap on, R of the work at which it trapped
-abbrev pub AtWork : (Admitted : LockName → Type 0) (R : Did → Type 0) → Next → Option Place → Type 0
+abbrev pub AtWork : (Admitted : LockName → Type 0) (R : Did → Type 0) → Next → Option RunState → Type 0
 AtWork Admitted R Runs None = Unit {0}
-AtWork Admitted R Runs (Some p) = AtPlace Admitted R p
+AtWork Admitted R Runs (Some p) = AtRunState Admitted R p
 AtWork Admitted R (WillTrap n) place = (w : Did) × (MayTrap w × R w)
 AtWork Admitted R (Unwinds locks) place = (w : Did) × (MayTrap w × R w)
 AtWork Admitted R Gone place = Unit {0}

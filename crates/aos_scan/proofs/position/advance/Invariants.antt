@@ -1,6 +1,6 @@
 use Rattle.std.proofs.Common.{◌≡◌}
-use Rattle.aos_scan.specs.Place.{line_of, column_of}
-use Rattle.aos_scan.proofs.place.advance.Given as goal
+use Rattle.aos_scan.specs.Position.{line_of, column_of}
+use Rattle.aos_scan.proofs.position.advance.Given as goal
 
 abbrev pub invariant-loop-i : goal.invariant-loop-i
 invariant-loop-i l = record {

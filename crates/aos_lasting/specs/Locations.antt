@@ -1,7 +1,7 @@
 -- Which variables the places of a running program are parts of, by what objects are made as.
 use Rattle.std.specs.Prelude.{◌≡◌, ◌⊎◌, ℕ, suc, List, [], ◌∷◌, drop, Bool, true, false, IsTrue, Option, Some, if◌then◌else◌, slice_get}
-use Rattle.aos_base.specs.declared.place.Root.{Root}
-use Rattle.aos_base.specs.declared.place.Root.TheVariants as root
+use Rattle.aos_base.specs.declared.root.Root.{Root}
+use Rattle.aos_base.specs.declared.root.Root.TheVariants as root
 use Rattle.aos_base.specs.Question.{Reads, Calls, Makes, ComparesTexts, Lengths, Sizes, Places, Opens, Tests, Asks, Val, Traps}
 use Rattle.aos_base.specs.Rooted.{Made, by_number}
 use Rattle.aos_types.specs.declared.row.TypeId.{TypeId}
@@ -15,7 +15,7 @@ use Rattle.aos_typed.specs.Numbers.{id_of, id_of_made}
 use Rattle.aos_typed.specs.Open.{open_dimensions}
 use Rattle.aos_typed.specs.Program.{Parameter, Procedure, Program}
 use Rattle.aos_typed.specs.Routines.{Routine, has_self, parameters_of, result_of, routine_of, routines}
-use Rattle.aos_typed.specs.Spot.{Spot}
+use Rattle.aos_typed.specs.Location.{Location}
 use Rattle.aos_typed.specs.Value.{Value, Int, Flag, Char, Set, Object, Callable, Place}
 use Rattle.aos_typed.specs.Meaning.{Question, Doing, instance_in, object_in, on_instance, place_in, procedure_in}
 use Rattle.aos_typed.specs.Source.{arguments_in, object_place}
@@ -103,7 +103,7 @@ module _ (p : Program) where
     module _ (own : Option Procedure) where
       -- a place is the variable that a designator names, or a part of it; of a parameter or of what a pointer leads to it is no guarded one,
       -- and of an open array that is passed by value it is one in a frame
-      abbrev pub IsOf : (self : ℕ) → Spot → (through_self : Bool) → Variable → Type 0
+      abbrev pub IsOf : (self : ℕ) → Location → (through_self : Bool) → Variable → Type 0
       IsOf self s through (variable.Module m k) = (s.root ≡ root.Module m) × StartsWith k s.path
       IsOf self s through (variable.Field u k) =
           (o : ℕ) × (m : Made) × (s.root ≡ root.Object (suc o)) × (made (suc o) ≡ Some m) × HasFields m × (field_of m k ≡ variable.Field u k)
@@ -113,7 +113,7 @@ module _ (p : Program) where
       IsOf self s through (variable.Opened k) = IsFreeAt s.root s.path × (IsTrue (is_by_value own k) → InFrame s.root)
       IsOf self s through variable.Heap = IsFreeAt s.root s.path
 
-      abbrev pub IsAt : (self : ℕ) → Spot → Target → Type 0
+      abbrev pub IsAt : (self : ℕ) → Location → Target → Type 0
       IsAt self s t = IsOf self s t.through_self t.of
 
       -- an answer is true; a length is no place

@@ -1,7 +1,7 @@
 // Lines and columns.
 
 ghost use Rattle.std.specs.Prelude.{◌≡◌, ◌≤◌, ◌^◌, length};
-ghost use Rattle.aos_scan.specs.Place.{position};
+ghost use Rattle.aos_scan.specs.Position.{position};
 
 use aos_base::Pos;
 

@@ -1,6 +1,6 @@
 use Rattle.std.proofs.Common.{not, eqb, take, arith, length-take-le}
 use Rattle.std.proofs.lemmas.List.Sums.{suffix_len-le-length}
-use Rattle.aos_scan.proofs.place.advance.Goals as goal
+use Rattle.aos_scan.proofs.position.advance.Goals as goal
 
 -- a column is at most one past the bytes before its place
 pub overflow_add-col : goal.overflow_add-col

@@ -45,7 +45,7 @@ use Rattle.aos_known.proofs.Inside.{Inside, IsPlaceOf, AreRows, IsOf, IsNamed}
 use Rattle.aos_known.specs.declared.known.Class.{Class}
 use Rattle.aos_known.specs.declared.known.Class.TheVariants.{Unknown, Constant, Variable, ReadOnly, Computed, Procedure as ClassOf}
 use Rattle.aos_known.specs.declared.known.Known.{Known}
-use Rattle.aos_known.specs.Known.{Answer, Spot, Held, Stands, Value, is_basic, is_number, is_lost, object_number, value_class, type_as, type_of, read_from, known_as, spot_of, answered, constant_answer, nothing}
+use Rattle.aos_known.specs.Known.{Answer, Entity, Held, Stands, Value, is_basic, is_number, is_lost, object_number, value_class, type_as, type_of, read_from, known_as, entity_of, answered, constant_answer, nothing}
 use Rattle.aos_known.proofs.Types.{includes_itself, as_basic, id_as}
 use Rattle.aos_operators.proofs.Stored.{IsStored, not_stored}
 use Rattle.aos_operators.proofs.Good.{IsGood, HasGood, IsKnownClass}
@@ -71,8 +71,8 @@ abbrev IsSoundHeld : Inside → Env → Known → Held → Type 0
 IsSoundHeld p e k (Stands place) = IsTyped p e place k.of
 IsSoundHeld p e k (Value x) = IsPlain p (record { known = k; typed = x }) × IsNaming p e k.class x
 
-abbrev pub IsSoundSpot : Inside → Env → Spot → Type 0
-IsSoundSpot p e a = IsSoundHeld p e a.known a.held
+abbrev pub IsSoundEntity : Inside → Env → Entity → Type 0
+IsSoundEntity p e a = IsSoundHeld p e a.known a.held
 
 -- a variable may be written, or read alone; a value is neither
 abbrev pub IsStoredHeld : Held → Class → Type 0
@@ -80,11 +80,11 @@ IsStoredHeld (Stands place) c = IsStored c
 IsStoredHeld (Value x) c = IsStored c → ⊥
 
 -- a designator as a part of an expression
-pub record IsSpot (p : Inside) (e : Env) (a : Spot) : Type 0 where
+pub record IsEntity (p : Inside) (e : Env) (a : Entity) : Type 0 where
   pub class : IsKnownClass IsGood a.known.class
   pub valued : not (is_lost a.known.class) ≡ true
   pub stored : IsStoredHeld a.held a.known.class
-  pub sound : IsWhole p e → IsSoundSpot p e a
+  pub sound : IsWhole p e → IsSoundEntity p e a
 
 -- what is predeclared is no variable
 no_variable : (m : Meaning) → IsPredeclared m → (k : ℕ) → m ≡ means.Variable k → ⊥
@@ -293,18 +293,18 @@ module _ (p : Inside) (e : Env) where
 
   -- Designators.
 
-  abbrev pub Spotted : Spot → Type 0
-  Spotted = IsSpot p e
+  abbrev pub Denoted : Entity → Type 0
+  Denoted = IsEntity p e
 
-  pub spotted : (at : Pos) (j : Judged Answer) → Holds Valued j → Holds Spotted (desig.spotted at j)
-  spotted at j h = holds_bind Valued Spotted j (λ a. kept (spot_of at a)) h (λ a x none. record {
+  pub denoted : (at : Pos) (j : Judged Answer) → Holds Valued j → Holds Denoted (desig.denoted at j)
+  denoted at j h = holds_bind Valued Denoted j (λ a. kept (entity_of at a)) h (λ a x none. record {
     class = x.class;
     valued = x.valued;
     stored = not_stored a.known.class x.made;
     sound = λ whole. (x.plain whole, naming_made p e a.known.class a.typed x.made);
   })
 
-  stored : (c : Class) (of : Option TypeId) (place : Place) (at : Pos) → IsStored c → (IsWhole p e → IsTyped p e place of) → Spotted (record { known = known_as c of; held = Stands place; at = at })
+  stored : (c : Class) (of : Option TypeId) (place : Place) (at : Pos) → IsStored c → (IsWhole p e → IsTyped p e place of) → Denoted (record { known = known_as c of; held = Stands place; at = at })
   stored Variable of place at s h = record { class = tt; valued = refl; stored = tt; sound = h }
   stored ReadOnly of place at s h = record { class = tt; valued = refl; stored = tt; sound = h }
   stored (Constant v) of place at s h = absurd s
@@ -389,7 +389,7 @@ module _ (p : Inside) (e : Env) where
       by (Some t) is s = none-some t (sym is)
   no_type k (Value x) is s = none-some s.0.of (sym is ∙ s.0.known)
 
-  unknown_fine : (a : Spot) → Spotted a → a.known.of ≡ None → (at : Pos) → Spotted (desig.unknown_part at a)
+  unknown_fine : (a : Entity) → Denoted a → a.known.of ≡ None → (at : Pos) → Denoted (desig.unknown_part at a)
   unknown_fine a x is at = record {
     class = class_as (IsKnownClass IsGood) a.known.class None x.class;
     valued = class_as (λ c. not (is_lost c) ≡ true) a.known.class None x.valued;
@@ -404,18 +404,18 @@ module _ (p : Inside) (e : Env) where
   guarded_class c known = refl
 
   -- of what is tested
-  abbrev MayTest : Spot → TypeId → Type 0
+  abbrev MayTest : Entity → TypeId → Type 0
   MayTest a t = desig.may_test e (desig.is_passed (desig.place_of a.held)) a.known.of (Some t) ≡ true
 
-  guarded_by : (a : Spot) → Spotted a → (of t : TypeId) → a.known.of ≡ Some of → (IsWhole p e → MayTest a t) → (b : Bool) → desig.is_record_type e of ≡ b →
-      Spotted (if b then desig.guarded_record t a else desig.guarded_object e t a)
+  guarded_by : (a : Entity) → Denoted a → (of t : TypeId) → a.known.of ≡ Some of → (IsWhole p e → MayTest a t) → (b : Bool) → desig.is_record_type e of ≡ b →
+      Denoted (if b then desig.guarded_record t a else desig.guarded_object e t a)
   guarded_by a x of t known may true of_record = record_guard a.known.class a.held refl refl x.class x.valued x.stored
     where
       test : IsWhole p e → (desig.has_dynamic_type e (desig.is_passed (desig.place_of a.held)) of ≡ true) × (desig.is_extension e of t ≡ true)
       test whole = and_parts _ _ (sym (ap (λ o. desig.may_test e (desig.is_passed (desig.place_of a.held)) o (Some t)) known) ∙ may whole)
 
       record_guard : (c : Class) (h : Held) → a.known.class ≡ c → a.held ≡ h → IsKnownClass IsGood a.known.class → not (is_lost a.known.class) ≡ true → IsStoredHeld a.held a.known.class →
-          Spotted (desig.guarded_record t a)
+          Denoted (desig.guarded_record t a)
       record_guard c (Stands place) ic ih class valued st =
           rw ih (stored a.known.class (Some t) (Guarded place (object_number t)) a.at (subst (λ h. IsStoredHeld h a.known.class) ih st) (λ whole. typed whole))
         where
@@ -453,7 +453,7 @@ module _ (p : Inside) (e : Env) where
               none : desig.has_dynamic_type e false of ≡ false
               none = rw (record_no_reference p e whole of of_record) (and_none (desig.is_record_type e of))
   guarded_by a x of t known may false other =
-      subst (λ c. Spotted (record { known = known_as c (Some t); held = Value (Guard (read_from a.known.of a.held) (desig.made_number e t)); at = a.at }))
+      subst (λ c. Denoted (record { known = known_as c (Some t); held = Value (Guard (read_from a.known.of a.held) (desig.made_number e t)); at = a.at }))
       (sym (guarded_class a.known.class x.class))
       (record {
         class = tt;
@@ -480,34 +480,34 @@ module _ (p : Inside) (e : Env) where
       first true is = refl
       first false is = is
 
-  -- a spot, by its parts
-  abbrev spot : Option TypeId → Class → Held → Pos → Spot
-  spot of c h at = record { known = record { of = of; class = c }; held = h; at = at }
+  -- an entity, by its parts
+  abbrev entity : Option TypeId → Class → Held → Pos → Entity
+  entity of c h at = record { known = record { of = of; class = c }; held = h; at = at }
 
-  guarded_of : (of : Option TypeId) (c : Class) (h : Held) (at : Pos) → Spotted (spot of c h at) → (t : TypeId) → (IsWhole p e → MayTest (spot of c h at) t) →
-      Spotted (desig.guarded_spot e t (spot of c h at))
-  guarded_of None c h at x t may = unknown_fine (spot None c h at) x refl at
-  guarded_of (Some of) c h at x t may = guarded_by (spot (Some of) c h at) x of t refl may (desig.is_record_type e of) refl
+  guarded_of : (of : Option TypeId) (c : Class) (h : Held) (at : Pos) → Denoted (entity of c h at) → (t : TypeId) → (IsWhole p e → MayTest (entity of c h at) t) →
+      Denoted (desig.guarded_entity e t (entity of c h at))
+  guarded_of None c h at x t may = unknown_fine (entity None c h at) x refl at
+  guarded_of (Some of) c h at x t may = guarded_by (entity (Some of) c h at) x of t refl may (desig.is_record_type e of) refl
 
-  guarded_fine : (a : Spot) → Spotted a → (t : TypeId) → (IsWhole p e → MayTest a t) → Spotted (desig.guarded_spot e t a)
+  guarded_fine : (a : Entity) → Denoted a → (t : TypeId) → (IsWhole p e → MayTest a t) → Denoted (desig.guarded_entity e t a)
   guarded_fine a x t may = guarded_of a.known.of a.known.class a.held a.at x t may
 
-  pub guard_part : (at : Pos) (a : Spot) → Spotted a → (t : TypeId) → Holds Spotted (desig.guard e at a (Some t))
+  pub guard_part : (at : Pos) (a : Entity) → Denoted a → (t : TypeId) → Holds Denoted (desig.guard e at a (Some t))
   guard_part at a x t = by (desig.may_test e (desig.is_passed (desig.place_of a.held)) a.known.of (Some t)) refl
     where
       by : (b : Bool) → desig.may_test e (desig.is_passed (desig.place_of a.held)) a.known.of (Some t) ≡ b →
-          Holds Spotted (if b then kept (desig.guarded_spot e t a) else desig.spotted a.at (desig.refused_variable 41 at))
+          Holds Denoted (if b then kept (desig.guarded_entity e t a) else desig.denoted a.at (desig.refused_variable 41 at))
       by true is = λ none. guarded_fine a x t (λ whole. is)
-      by false is = spotted a.at (desig.refused_variable 41 at) (refused_variable_part 41 at)
+      by false is = denoted a.at (desig.refused_variable 41 at) (refused_variable_part 41 at)
 
-  bracketed_of : (of : Option TypeId) (c : Class) (h : Held) (own : Pos) → Spotted (spot of c h own) → (first at : Pos) (t : Option (Option TypeId)) →
-      Holds Spotted (desig.guarded e first at (spot of c h own) t)
-  bracketed_of None c h own x first at t = λ none. unknown_fine (spot None c h own) x refl own
-  bracketed_of (Some of) c h own x first at None = spotted own (desig.refused_variable 36 first) (refused_variable_part 36 first)
-  bracketed_of (Some of) c h own x first at (Some None) = spotted own (desig.refused 99 at) (refused_part 99 at)
-  bracketed_of (Some of) c h own x first at (Some (Some t)) = guard_part at (spot (Some of) c h own) x t
+  bracketed_of : (of : Option TypeId) (c : Class) (h : Held) (own : Pos) → Denoted (entity of c h own) → (first at : Pos) (t : Option (Option TypeId)) →
+      Holds Denoted (desig.guarded e first at (entity of c h own) t)
+  bracketed_of None c h own x first at t = λ none. unknown_fine (entity None c h own) x refl own
+  bracketed_of (Some of) c h own x first at None = denoted own (desig.refused_variable 36 first) (refused_variable_part 36 first)
+  bracketed_of (Some of) c h own x first at (Some None) = denoted own (desig.refused 99 at) (refused_part 99 at)
+  bracketed_of (Some of) c h own x first at (Some (Some t)) = guard_part at (entity (Some of) c h own) x t
 
-  pub guarded_part : (first at : Pos) (a : Spot) → Spotted a → (t : Option (Option TypeId)) → Holds Spotted (desig.guarded e first at a t)
+  pub guarded_part : (first at : Pos) (a : Entity) → Denoted a → (t : Option (Option TypeId)) → Holds Denoted (desig.guarded e first at a t)
   guarded_part first at a x t = bracketed_of a.known.of a.known.class a.held a.at x first at t
 
   -- Names.
@@ -519,11 +519,11 @@ module _ (p : Inside) (e : Env) where
   IsNamedWell m n x =
       (s : Signature) → env.signature e m n ≡ Some s → (q : Procedure) × IsSigned e s q × IsNamed p x × ((t : TType) → IsProcedural p.program t q → IsOf p x t)
 
-  pub procedure_part : (m n : ℕ) (x : Expr) (first at : Pos) → (IsWhole p e → IsNamedWell m n x) → Holds Spotted (desig.procedure_spot e m n x first at)
+  pub procedure_part : (m n : ℕ) (x : Expr) (first at : Pos) → (IsWhole p e → IsNamedWell m n x) → Holds Denoted (desig.procedure_entity e m n x first at)
   procedure_part m n x first at well = by (env.signature e m n) refl
     where
-      by : (o : Option Signature) → env.signature e m n ≡ o → Holds Spotted (desig.procedure_spot e m n x first at)
-      by None is = rw is (spotted at (desig.refused_value 20 first) (refused_value_part 20 first))
+      by : (o : Option Signature) → env.signature e m n ≡ o → Holds Denoted (desig.procedure_entity e m n x first at)
+      by None is = rw is (denoted at (desig.refused_value 20 first) (refused_value_part 20 first))
       by (Some s) is = rw is (λ none. record {
         class = tt;
         valued = refl;
@@ -554,34 +554,34 @@ module _ (p : Inside) (e : Env) where
   called_named (Upper t k) x m n is calling s there = absurd (none-some x is)
   called_named (Through o t) x m n is calling s there = absurd (none-some x is)
 
-  narrowed_fine : (x : Symbol) (k : ℕ) (vs : List Narrowed) (a : Spot) → Spotted a → (IsWhole p e → NarrowsWell e x k a vs) → Spotted (fold (desig.narrowed_by e x k) a vs)
+  narrowed_fine : (x : Symbol) (k : ℕ) (vs : List Narrowed) (a : Entity) → Denoted a → (IsWhole p e → NarrowsWell e x k a vs) → Denoted (fold (desig.narrowed_by e x k) a vs)
   narrowed_fine x k [] a s well = s
   narrowed_fine x k (v ∷ vs) a s well = narrowed_fine x k vs (desig.narrowed_by e x k a v) (one (desig.is_narrowed x k v) refl) (λ whole. (well whole).1)
     where
-      one : (b : Bool) → desig.is_narrowed x k v ≡ b → Spotted (if b then desig.guarded_spot e v.of a else a)
+      one : (b : Bool) → desig.is_narrowed x k v ≡ b → Denoted (if b then desig.guarded_entity e v.of a else a)
       one true is = guarded_fine a s v.of (λ whole. (well whole).0 is)
       one false is = s
 
-  otherwise_spot : (m : Meaning) (h : Head) → Holds Spotted (desig.meant_otherwise m h)
-  otherwise_spot (means.Type of) h = spotted h.name.pos (desig.refused 16 h.name.pos) (refused_part 16 h.name.pos)
-  otherwise_spot (means.Module m) h = spotted h.name.pos (desig.refused 16 h.name.pos) (refused_part 16 h.name.pos)
-  otherwise_spot means.Out h = spotted h.name.pos (desig.refused 16 h.name.pos) (refused_part 16 h.name.pos)
-  otherwise_spot (means.Truth b) h = spotted h.name.pos (kept (constant_answer (literal.Bool b))) (λ none. constant_part p e (literal.Bool b) tt)
-  otherwise_spot (means.Function f) h = spotted h.name.pos (desig.refused_value 36 h.first) (refused_value_part 36 h.first)
-  otherwise_spot (means.Routine r) h = spotted h.name.pos (desig.refused_value 36 h.first) (refused_value_part 36 h.first)
-  otherwise_spot means.Proper h = spotted h.name.pos (desig.refused_value 36 h.first) (refused_value_part 36 h.first)
-  otherwise_spot (means.Procedure k) h = spotted h.name.pos (desig.refused_value 99 h.first) (refused_value_part 99 h.first)
-  otherwise_spot (means.Variable k) h = spotted h.name.pos (desig.refused_value 99 h.first) (refused_value_part 99 h.first)
-  otherwise_spot (means.Constant k) h = spotted h.name.pos (desig.refused_value 99 h.first) (refused_value_part 99 h.first)
-  otherwise_spot means.Itself h = spotted h.name.pos (desig.refused_value 99 h.first) (refused_value_part 99 h.first)
-  otherwise_spot means.Other h = spotted h.name.pos (desig.refused_value 99 h.first) (refused_value_part 99 h.first)
+  otherwise_entity : (m : Meaning) (h : Head) → Holds Denoted (desig.meant_otherwise m h)
+  otherwise_entity (means.Type of) h = denoted h.name.pos (desig.refused 16 h.name.pos) (refused_part 16 h.name.pos)
+  otherwise_entity (means.Module m) h = denoted h.name.pos (desig.refused 16 h.name.pos) (refused_part 16 h.name.pos)
+  otherwise_entity means.Out h = denoted h.name.pos (desig.refused 16 h.name.pos) (refused_part 16 h.name.pos)
+  otherwise_entity (means.Truth b) h = denoted h.name.pos (kept (constant_answer (literal.Bool b))) (λ none. constant_part p e (literal.Bool b) tt)
+  otherwise_entity (means.Function f) h = denoted h.name.pos (desig.refused_value 36 h.first) (refused_value_part 36 h.first)
+  otherwise_entity (means.Routine r) h = denoted h.name.pos (desig.refused_value 36 h.first) (refused_value_part 36 h.first)
+  otherwise_entity means.Proper h = denoted h.name.pos (desig.refused_value 36 h.first) (refused_value_part 36 h.first)
+  otherwise_entity (means.Procedure k) h = denoted h.name.pos (desig.refused_value 99 h.first) (refused_value_part 99 h.first)
+  otherwise_entity (means.Variable k) h = denoted h.name.pos (desig.refused_value 99 h.first) (refused_value_part 99 h.first)
+  otherwise_entity (means.Constant k) h = denoted h.name.pos (desig.refused_value 99 h.first) (refused_value_part 99 h.first)
+  otherwise_entity means.Itself h = denoted h.name.pos (desig.refused_value 99 h.first) (refused_value_part 99 h.first)
+  otherwise_entity means.Other h = denoted h.name.pos (desig.refused_value 99 h.first) (refused_value_part 99 h.first)
 
   -- SELF
-  self_spot : (at : Pos) → Holds Spotted (desig.itself e at)
-  self_spot at = by e.self_type refl
+  self_entity : (at : Pos) → Holds Denoted (desig.itself e at)
+  self_entity at = by e.self_type refl
     where
-      by : (o : Option TypeId) → e.self_type ≡ o → Holds Spotted (desig.self_of o at)
-      by None is = spotted at (desig.refused 46 at) (refused_part 46 at)
+      by : (o : Option TypeId) → e.self_type ≡ o → Holds Denoted (desig.self_of o at)
+      by None is = denoted at (desig.refused 46 at) (refused_part 46 at)
       by (Some t) is = λ none. record {
         class = tt;
         valued = refl;
@@ -597,46 +597,46 @@ module _ (p : Inside) (e : Env) where
         );
       }
 
-  variable_fine : (x : Symbol) → (IsWhole p e → IsVariable x) → (k : ℕ) → x.means ≡ means.Variable k → (at : Pos) → Spotted (desig.variable_spot e x k at)
+  variable_fine : (x : Symbol) → (IsWhole p e → IsVariable x) → (k : ℕ) → x.means ≡ means.Variable k → (at : Pos) → Denoted (desig.variable_entity e x k at)
   variable_fine x sound k is at =
       narrowed_fine x k e.narrowed (desig.variable e x k at)
       (stored (desig.access (x.at.home == e.number) x.mark) (env.variable_type e x.at k) (desig.place_of_variable e x k) at (access_stored (x.at.home == e.number) x.mark) (λ whole. sound whole k is))
       (λ whole. whole.narrows x k at)
 
   -- the variable that a name stands for
-  pub variable_named : (l : Lookup) (n : Name) (first : Pos) → MayFind l → (a : Spot) → desig.variable_named e (record { found = l; name = n; first = first }) ≡ Some a → Spotted a
+  pub variable_named : (l : Lookup) (n : Name) (first : Pos) → MayFind l → (a : Entity) → desig.variable_named e (record { found = l; name = n; first = first }) ≡ Some a → Denoted a
   variable_named NoName n first may a is = absurd (none-some a is)
   variable_named NotExported n first may a is = absurd (none-some a is)
   variable_named (Found x) n first may a is = by x.means refl is
     where
-      by : (m : Meaning) → x.means ≡ m → desig.variable_meant e x m n.pos ≡ Some a → Spotted a
-      by (means.Variable k) at is = subst Spotted (same_Some (desig.variable_spot e x k n.pos) a is) (variable_fine x (λ whole. (may whole x refl).0) k at n.pos)
+      by : (m : Meaning) → x.means ≡ m → desig.variable_meant e x m n.pos ≡ Some a → Denoted a
+      by (means.Variable k) at is = subst Denoted (same_Some (desig.variable_entity e x k n.pos) a is) (variable_fine x (λ whole. (may whole x refl).0) k at n.pos)
       by m at is = absurd (none-some a is)
 
-  procedure_fine : (x : Symbol) → (IsWhole p e → IsProcedure x) → (k : ℕ) → x.means ≡ means.Procedure k → (h : Head) → Holds Spotted (desig.procedure_meant e x k h)
+  procedure_fine : (x : Symbol) → (IsWhole p e → IsProcedure x) → (k : ℕ) → x.means ≡ means.Procedure k → (h : Head) → Holds Denoted (desig.procedure_meant e x k h)
   procedure_fine x seen k is h = by (desig.is_of_module x) refl
     where
       by : (b : Bool) → desig.is_of_module x ≡ b →
-          Holds Spotted (if b then desig.procedure_spot e x.at.home k (ProcedureOf x.at.home k) h.first h.name.pos else desig.meant_otherwise (means.Procedure k) h)
+          Holds Denoted (if b then desig.procedure_entity e x.at.home k (ProcedureOf x.at.home k) h.first h.name.pos else desig.meant_otherwise (means.Procedure k) h)
       by true own =
           procedure_part x.at.home k (ProcedureOf x.at.home k) h.first h.name.pos
           (λ whole. called_named (Plain x.at.home k) (ProcedureOf x.at.home k) x.at.home k refl (seen whole k is own))
-      by false other = otherwise_spot (means.Procedure k) h
+      by false other = otherwise_entity (means.Procedure k) h
 
-  meant_spot : GoodConstants e → (x : Symbol) → (IsWhole p e → IsSeen x) → (m : Meaning) → x.means ≡ m → (h : Head) → Holds Spotted (desig.meant e x m h)
-  meant_spot good x sound (means.Variable k) is h = λ none. variable_fine x (λ whole. (sound whole).0) k is h.name.pos
-  meant_spot good x sound (means.Procedure k) is h = procedure_fine x (λ whole. (sound whole).1) k is h
-  meant_spot good x sound (means.Constant k) is h = spotted h.name.pos (desig.constant_of (env.constant e x.at k h.first) h.name.pos) (constant_there good x.at k h.first h.name.pos)
-  meant_spot good x sound means.Itself is h = self_spot h.name.pos
-  meant_spot good x sound m is h = otherwise_spot m h
+  meant_entity : GoodConstants e → (x : Symbol) → (IsWhole p e → IsSeen x) → (m : Meaning) → x.means ≡ m → (h : Head) → Holds Denoted (desig.meant e x m h)
+  meant_entity good x sound (means.Variable k) is h = λ none. variable_fine x (λ whole. (sound whole).0) k is h.name.pos
+  meant_entity good x sound (means.Procedure k) is h = procedure_fine x (λ whole. (sound whole).1) k is h
+  meant_entity good x sound (means.Constant k) is h = denoted h.name.pos (desig.constant_of (env.constant e x.at k h.first) h.name.pos) (constant_there good x.at k h.first h.name.pos)
+  meant_entity good x sound means.Itself is h = self_entity h.name.pos
+  meant_entity good x sound m is h = otherwise_entity m h
 
-  found_spot : GoodConstants e → (l : Lookup) → MayFind l → (h : Head) → Holds Spotted (desig.found e l h)
-  found_spot good NoName may h = spotted h.name.pos (desig.refused 14 h.name.pos) (refused_part 14 h.name.pos)
-  found_spot good NotExported may h = spotted h.name.pos (desig.refused 15 h.name.pos) (refused_part 15 h.name.pos)
-  found_spot good (Found x) may h = meant_spot good x (λ whole. may whole x refl) x.means refl h
+  found_entity : GoodConstants e → (l : Lookup) → MayFind l → (h : Head) → Holds Denoted (desig.found e l h)
+  found_entity good NoName may h = denoted h.name.pos (desig.refused 14 h.name.pos) (refused_part 14 h.name.pos)
+  found_entity good NotExported may h = denoted h.name.pos (desig.refused 15 h.name.pos) (refused_part 15 h.name.pos)
+  found_entity good (Found x) may h = meant_entity good x (λ whole. may whole x refl) x.means refl h
 
-  pub named_spot : GoodConstants e → (h : Head) → MayFind h.found → Holds Spotted (desig.named e h)
-  named_spot good h may = found_spot good h.found may h
+  pub named_entity : GoodConstants e → (h : Head) → MayFind h.found → Holds Denoted (desig.named e h)
+  named_entity good h may = found_entity good h.found may h
 
   -- Parts of variables.
 
@@ -674,8 +674,8 @@ module _ (p : Inside) (e : Env) where
       by (inr (inr (inl o))) = not_both (sym o.1 ∙ ap (λ t. is_reference_type p.program.types (type_as t)) (sym same) ∙ none.1)
       by (inr (inr (inr routine))) = let r = other.1 whole in routine_no_parts p e whole s.of x routine r.0 (ap (row_of e.types) (sym same) ∙ r.1) r.2
 
-  part_fine : (may : Bool) (of : Option TypeId) (part : Place → Place) (at : Pos) (a : Spot) → Spotted a → (t : TypeId) → a.known.of ≡ Some t → HasParts t →
-      (IsWhole p e → IsPartOf a.known.of of part) → Spotted (desig.part_spot may of part at a)
+  part_fine : (may : Bool) (of : Option TypeId) (part : Place → Place) (at : Pos) (a : Entity) → Denoted a → (t : TypeId) → a.known.of ≡ Some t → HasParts t →
+      (IsWhole p e → IsPartOf a.known.of of part) → Denoted (desig.part_entity may of part at a)
   part_fine may of part at a x t is other typed = record {
     class = class_as (IsKnownClass IsGood) (desig.part_class may a.known.class) of (part_known may a.known.class x.class);
     valued = class_as (λ c. not (is_lost c) ≡ true) (desig.part_class may a.known.class) of (part_valued may a.known.class x.valued);
@@ -683,8 +683,8 @@ module _ (p : Inside) (e : Env) where
     sound = λ whole. held_part whole a.known a.held may of part t is other (typed whole) x.stored (x.sound whole);
   }
 
-  lacking_fine : (t : TypeId) (at : Pos) → Holds Spotted (desig.lacking e t at)
-  lacking_fine t at = spotted at (desig.refused_variable (if desig.is_built e t then 42 else 99) at) (refused_variable_part (if desig.is_built e t then 42 else 99) at)
+  lacking_fine : (t : TypeId) (at : Pos) → Holds Denoted (desig.lacking e t at)
+  lacking_fine t at = denoted at (desig.refused_variable (if desig.is_built e t then 42 else 99) at) (refused_variable_part (if desig.is_built e t then 42 else 99) at)
 
   -- What pointers lead to.
 
@@ -692,9 +692,9 @@ module _ (p : Inside) (e : Env) where
   followed_variable Unknown known = absurd known
   followed_variable c known = refl
 
-  followed_fine : (a : Spot) → Spotted a → (t u : TypeId) → a.known.of ≡ Some t → desig.pointed e t ≡ Some u → Spotted (desig.followed_spot e u a)
+  followed_fine : (a : Entity) → Denoted a → (t u : TypeId) → a.known.of ≡ Some t → desig.pointed e t ≡ Some u → Denoted (desig.followed_entity e u a)
   followed_fine a x t u known is =
-      subst (λ c. Spotted (record { known = known_as c (Some u); held = Stands (desig.followed_place e u (read_from a.known.of a.held)); at = a.at }))
+      subst (λ c. Denoted (record { known = known_as c (Some u); held = Stands (desig.followed_place e u (read_from a.known.of a.held)); at = a.at }))
       (sym (followed_variable a.known.class x.class))
       (stored Variable (Some u) (desig.followed_place e u (read_from a.known.of a.held)) a.at tt (λ whole.
       let sound = read_sound whole a.known a.held (x.sound whole) in
@@ -704,19 +704,19 @@ module _ (p : Inside) (e : Env) where
       (subst (λ v. IsObject p v (read_from a.known.of a.held)) (sym same)
       (sound_object p e whole (record { known = a.known; typed = read_from a.known.of a.held }) sound (ap (desig.is_reference e) (sym same) ∙ ref)))))
 
-  through_of : (of : Option TypeId) (c : Class) (h : Held) (at : Pos) → Spotted (spot of c h at) → Spotted (desig.through e (spot of c h at))
+  through_of : (of : Option TypeId) (c : Class) (h : Held) (at : Pos) → Denoted (entity of c h at) → Denoted (desig.through e (entity of c h at))
   through_of None c h at x = x
   through_of (Some t) c h at x = by (desig.pointed e t) refl
     where
-      by : (o : Option TypeId) → desig.pointed e t ≡ o → Spotted (desig.through e (spot (Some t) c h at))
+      by : (o : Option TypeId) → desig.pointed e t ≡ o → Denoted (desig.through e (entity (Some t) c h at))
       by None is = rw is x
-      by (Some u) is = rw is (followed_fine (spot (Some t) c h at) x t u refl is)
+      by (Some u) is = rw is (followed_fine (entity (Some t) c h at) x t u refl is)
 
-  through_fine : (a : Spot) → Spotted a → Spotted (desig.through e a)
+  through_fine : (a : Entity) → Denoted a → Denoted (desig.through e a)
   through_fine a x = through_of a.known.of a.known.class a.held a.at x
 
   -- an object that a designator is
-  pub object_held : IsWhole p e → (a : Spot) → Spotted a → (t : TypeId) → a.known.of ≡ Some t → desig.is_object_type e t ≡ true → IsOf p (read_from a.known.of a.held) (type_as t)
+  pub object_held : IsWhole p e → (a : Entity) → Denoted a → (t : TypeId) → a.known.of ≡ Some t → desig.is_object_type e t ≡ true → IsOf p (read_from a.known.of a.held) (type_as t)
   object_held whole a x t known object =
       let sound = read_sound whole a.known a.held (x.sound whole) in
       let same : t ≡ sound.of = same_Some t sound.of (sym known ∙ sound.known) in
@@ -727,7 +727,7 @@ module _ (p : Inside) (e : Env) where
       (object_made p e whole t (object_type_row p e whole t object).1)
 
   -- a value of a procedure type that a designator is
-  procedural_held : IsWhole p e → (a : Spot) → Spotted a → (t : TypeId) → a.known.of ≡ Some t → desig.is_procedural e t ≡ true → IsOf p (read_from a.known.of a.held) (type_as t)
+  procedural_held : IsWhole p e → (a : Entity) → Denoted a → (t : TypeId) → a.known.of ≡ Some t → desig.is_procedural e t ≡ true → IsOf p (read_from a.known.of a.held) (type_as t)
   procedural_held whole a x t known procedural =
       let sound = read_sound whole a.known a.held (x.sound whole) in
       let same : t ≡ sound.of = same_Some t sound.of (sym known ∙ sound.known) in
@@ -735,16 +735,16 @@ module _ (p : Inside) (e : Env) where
       subst (λ u. IsOf p (read_from a.known.of a.held) (type_as u)) (sym same)
       (callable_own p e whole (record { known = a.known; typed = read_from a.known.of a.held }) sound r.0 r.1 (ap (row_of e.types) (sym same) ∙ r.2))
 
-  bound_of : (first : Pos) (of : Option TypeId) (c : Class) (h : Held) (at : Pos) → Spotted (spot of c h at) → (b : Bound) → judge.bound_value e first (spot of c h at) ≡ Some b → IsBound p e b
+  bound_of : (first : Pos) (of : Option TypeId) (c : Class) (h : Held) (at : Pos) → Denoted (entity of c h at) → (b : Bound) → judge.bound_value e first (entity of c h at) ≡ Some b → IsBound p e b
   bound_of first None c h at x b is = absurd (none-some b is)
   bound_of first (Some t) c h at x b is = λ whole.
-      let a = spot (Some t) c h at in
+      let a = entity (Some t) c h at in
       let two = if_some (desig.is_procedural e t) (Some (judge.through first a t)) b is in
       subst (λ (b : Bound). IsCalling p e b.callee b.heading) (same_Some (judge.through first a t) b two.1)
       (through_calling p e whole t (read_from (Some t) h) (procedural_held whole a x t refl two.0))
 
   -- a call of what it stands for
-  pub bound_value : (first : Pos) (a : Spot) → Spotted a → (b : Bound) → judge.bound_value e first a ≡ Some b → IsBound p e b
+  pub bound_value : (first : Pos) (a : Entity) → Denoted a → (b : Bound) → judge.bound_value e first a ≡ Some b → IsBound p e b
   bound_value first a x b is = bound_of first a.known.of a.known.class a.held a.at x b is
 
   -- a field of an object is a variable
@@ -752,11 +752,11 @@ module _ (p : Inside) (e : Env) where
   variable_stored true = tt
   variable_stored false = tt
 
-  object_field_fine : (t : TypeId) (f : Field) (n : Name) (at : Pos) (a : Spot) → Spotted a → a.known.of ≡ Some t → env.field e t n ≡ Some f → desig.is_object_type e t ≡ true →
-      Spotted (desig.object_field t f at a)
+  object_field_fine : (t : TypeId) (f : Field) (n : Name) (at : Pos) (a : Entity) → Denoted a → a.known.of ≡ Some t → env.field e t n ≡ Some f → desig.is_object_type e t ≡ true →
+      Denoted (desig.object_field t f at a)
   object_field_fine t f n at a x known found object =
       subst
-      (λ c. Spotted (record { known = known_as (desig.part_class (desig.may_write f) c) f.of; held = Stands (FieldOf (Deref (read_from a.known.of a.held) (type_as t)) (type_as t) f.number); at = at }))
+      (λ c. Denoted (record { known = known_as (desig.part_class (desig.may_write f) c) f.of; held = Stands (FieldOf (Deref (read_from a.known.of a.held) (type_as t)) (type_as t) f.number); at = at }))
       (sym (followed_variable a.known.class x.class))
       (stored (desig.part_class (desig.may_write f) Variable) f.of (FieldOf (Deref (read_from a.known.of a.held) (type_as t)) (type_as t) f.number) at (variable_stored (desig.may_write f)) (λ whole.
       let own = (object_type_row p e whole t object).1 in
@@ -798,14 +798,14 @@ module _ (p : Inside) (e : Env) where
       by (Some (row.Record base fs)) is r = (row.Record base fs, refl, tt)
       by o is r = absurd (not_both (sym r))
 
-  field_in : (t : TypeId) (a : Spot) → Spotted a → a.known.of ≡ Some t → (q : Pos) (n : Name) →
-      Holds Spotted (if desig.has_fields e t then desig.field_found e a q n t (env.field e t n) else desig.lacking e t q)
+  field_in : (t : TypeId) (a : Entity) → Denoted a → a.known.of ≡ Some t → (q : Pos) (n : Name) →
+      Holds Denoted (if desig.has_fields e t then desig.field_found e a q n t (env.field e t n) else desig.lacking e t q)
   field_in t a x known q n = by (desig.has_fields e t) refl
     where
-      seen : (f : Field) (b : Bool) → Spotted (desig.field_spot e t f n.pos a) →
-          Holds Spotted (if b then kept (desig.field_spot e t f n.pos a) else desig.spotted n.pos (desig.refused_variable 15 n.pos))
+      seen : (f : Field) (b : Bool) → Denoted (desig.field_entity e t f n.pos a) →
+          Holds Denoted (if b then kept (desig.field_entity e t f n.pos a) else desig.denoted n.pos (desig.refused_variable 15 n.pos))
       seen f true s = λ none. s
-      seen f false s = spotted n.pos (desig.refused_variable 15 n.pos) (refused_variable_part 15 n.pos)
+      seen f false s = denoted n.pos (desig.refused_variable 15 n.pos) (refused_variable_part 15 n.pos)
 
       low : (b : Bool) → not b ≡ true → b ≡ false
       low true h = absurd (not_both (sym h))
@@ -815,27 +815,27 @@ module _ (p : Inside) (e : Env) where
       left true c none is = refl
       left false c none is = absurd (not_both (sym is ∙ none))
 
-      spot_fine : desig.has_fields e t ≡ true → (f : Field) → env.field e t n ≡ Some f → (b : Bool) → desig.is_object_type e t ≡ b →
-          Spotted (if b then desig.object_field t f n.pos a else desig.part_spot (desig.may_write f) f.of (λ place. FieldOf place (type_as t) f.number) n.pos a)
-      spot_fine has f is true object = object_field_fine t f n n.pos a x known is object
-      spot_fine has f is false other =
+      entity_fine : desig.has_fields e t ≡ true → (f : Field) → env.field e t n ≡ Some f → (b : Bool) → desig.is_object_type e t ≡ b →
+          Denoted (if b then desig.object_field t f n.pos a else desig.part_entity (desig.may_write f) f.of (λ place. FieldOf place (type_as t) f.number) n.pos a)
+      entity_fine has f is true object = object_field_fine t f n n.pos a x known is object
+      entity_fine has f is false other =
           let two = and_parts (not (is_basic t)) _ (left (desig.is_record_type e t) (desig.is_object_type e t) other has) in
           part_fine (desig.may_write f) f.of (λ place. FieldOf place (type_as t) f.number) n.pos a x t known (low (is_basic t) two.0, λ whole. record_parts t two.1)
           (λ whole. subst (λ of. IsPartOf of f.of (λ place. FieldOf place (type_as t) f.number)) (sym known) (field_typed whole t n f is two.1))
 
-      there : desig.has_fields e t ≡ true → (o : Option Field) → env.field e t n ≡ o → Holds Spotted (desig.field_found e a q n t o)
+      there : desig.has_fields e t ≡ true → (o : Option Field) → env.field e t n ≡ o → Holds Denoted (desig.field_found e a q n t o)
       there has None is = lacking_fine t q
-      there has (Some f) is = seen f (f.is_own || is_some f.mark) (spot_fine has f is (desig.is_object_type e t) refl)
+      there has (Some f) is = seen f (f.is_own || is_some f.mark) (entity_fine has f is (desig.is_object_type e t) refl)
 
-      by : (b : Bool) → desig.has_fields e t ≡ b → Holds Spotted (if b then desig.field_found e a q n t (env.field e t n) else desig.lacking e t q)
+      by : (b : Bool) → desig.has_fields e t ≡ b → Holds Denoted (if b then desig.field_found e a q n t (env.field e t n) else desig.lacking e t q)
       by true has = there has (env.field e t n) refl
       by false other = lacking_fine t q
 
-  field_of : (of : Option TypeId) (c : Class) (h : Held) (at : Pos) → Spotted (spot of c h at) → (q : Pos) (n : Name) → Holds Spotted (desig.field_of e (spot of c h at) q n)
-  field_of None c h at x q n = λ none. unknown_fine (spot None c h at) x refl n.pos
-  field_of (Some t) c h at x q n = field_in t (spot (Some t) c h at) x refl q n
+  field_of : (of : Option TypeId) (c : Class) (h : Held) (at : Pos) → Denoted (entity of c h at) → (q : Pos) (n : Name) → Holds Denoted (desig.field_of e (entity of c h at) q n)
+  field_of None c h at x q n = λ none. unknown_fine (entity None c h at) x refl n.pos
+  field_of (Some t) c h at x q n = field_in t (entity (Some t) c h at) x refl q n
 
-  pub field_part : (a : Spot) → Spotted a → (q : Pos) (n : Name) → Holds Spotted (desig.field e a q n)
+  pub field_part : (a : Entity) → Denoted a → (q : Pos) (n : Name) → Holds Denoted (desig.field e a q n)
   field_part a x q n = let b = desig.through e a in field_of b.known.of b.known.class b.held b.at (through_fine a x) q n
 
   -- an element of an array
@@ -878,60 +878,60 @@ module _ (p : Inside) (e : Env) where
           closed ((subst (λ T. AreRows p q 1 T) (sym is) (subst (λ n. AreRows p q (suc n) E) (closed_dimensions e.types u none) deep), index, is), variables) told
       by (inr more) = opened u (Row q E i.typed) refl refl more (subst (λ T. AreRows p q (suc (open_dimensions e.types u)) T) (sym elements) deep, index, elements) lengths variables
 
-  element_in : (t : TypeId) (c : Class) (held : Held) (at : Pos) → Spotted (record { known = record { of = Some t; class = c }; held = held; at = at }) → (q : Pos) (i : Answer) → Part i →
-      Holds Spotted (desig.element_of e q (record { known = record { of = Some t; class = c }; held = held; at = at }) i)
+  element_in : (t : TypeId) (c : Class) (held : Held) (at : Pos) → Denoted (record { known = record { of = Some t; class = c }; held = held; at = at }) → (q : Pos) (i : Answer) → Part i →
+      Holds Denoted (desig.element_of e q (record { known = record { of = Some t; class = c }; held = held; at = at }) i)
   element_in t c held at x q i y = by (is_basic t) refl
     where
-      a : Spot
+      a : Entity
       a = record { known = record { of = Some t; class = c }; held = held; at = at }
 
       tested : is_basic t ≡ false → (m : ℕ) (u : TypeId) → env.row_of e (Some t) ≡ Some (row.Array m u) → (b : Bool) → is_number i.known.of ≡ b →
-          Holds Spotted (if b then kept (desig.element_spot m u i a) else desig.spotted q (desig.refused_variable 42 q))
+          Holds Denoted (if b then kept (desig.element_entity m u i a) else desig.denoted q (desig.refused_variable 42 q))
       tested other m u r true k =
           λ none. part_fine true (Some u) (λ place. Index place m (type_as u) i.typed) at a x t refl (other, λ whole. (row.Array m u, r, tt)) (λ whole. element_typed whole t u m i r (y.sound whole) k)
-      tested other m u r false k = spotted q (desig.refused_variable 42 q) (refused_variable_part 42 q)
+      tested other m u r false k = denoted q (desig.refused_variable 42 q) (refused_variable_part 42 q)
 
       row_tested : is_basic t ≡ false → (u : TypeId) → env.row_of e (Some t) ≡ Some (row.Open u) → (b : Bool) → is_number i.known.of ≡ b →
-          Holds Spotted (if b then kept (desig.row_spot (open_element e.types t) u i a) else desig.spotted q (desig.refused_variable 42 q))
+          Holds Denoted (if b then kept (desig.row_entity (open_element e.types t) u i a) else desig.denoted q (desig.refused_variable 42 q))
       row_tested other u r true k =
           λ none. part_fine true (Some u) (λ place. Of (Row (desig.rows_of place) (type_as (open_element e.types t)) i.typed)) at a x t refl (other, λ whole. (row.Open u, r, tt))
           (λ whole. row_typed whole t u i other r (y.sound whole) k)
-      row_tested other u r false k = spotted q (desig.refused_variable 42 q) (refused_variable_part 42 q)
+      row_tested other u r false k = denoted q (desig.refused_variable 42 q) (refused_variable_part 42 q)
 
-      in_row : is_basic t ≡ false → (r : Option TypeRow) → env.row_of e (Some t) ≡ r → Holds Spotted (desig.element_in_row e q a i t r)
+      in_row : is_basic t ≡ false → (r : Option TypeRow) → env.row_of e (Some t) ≡ r → Holds Denoted (desig.element_in_row e q a i t r)
       in_row other (Some (row.Array m u)) r = tested other m u r (is_number i.known.of) refl
       in_row other (Some (row.Open u)) r = row_tested other u r (is_number i.known.of) refl
       in_row other w r = lacking_fine t q
 
-      by : (b : Bool) → is_basic t ≡ b → Holds Spotted (if b then desig.lacking e t q else desig.element_in_row e q a i t (env.row_of e (Some t)))
+      by : (b : Bool) → is_basic t ≡ b → Holds Denoted (if b then desig.lacking e t q else desig.element_in_row e q a i t (env.row_of e (Some t)))
       by true low = lacking_fine t q
       by false other = in_row other (env.row_of e (Some t)) refl
 
-  element_typed_of : (of : Option TypeId) (c : Class) (held : Held) (at : Pos) → Spotted (record { known = record { of = of; class = c }; held = held; at = at }) → (q : Pos) (i : Answer) → Part i →
-      Holds Spotted (desig.element_of e q (record { known = record { of = of; class = c }; held = held; at = at }) i)
+  element_typed_of : (of : Option TypeId) (c : Class) (held : Held) (at : Pos) → Denoted (record { known = record { of = of; class = c }; held = held; at = at }) → (q : Pos) (i : Answer) → Part i →
+      Holds Denoted (desig.element_of e q (record { known = record { of = of; class = c }; held = held; at = at }) i)
   element_typed_of None c held at x q i y = λ none. unknown_fine (record { known = record { of = None; class = c }; held = held; at = at }) x refl at
   element_typed_of (Some t) c held at x q i y = element_in t c held at x q i y
 
-  pub element_part : (a : Spot) → Spotted a → (q : Pos) (i : Answer) → Part i → Holds Spotted (desig.element e q a i)
+  pub element_part : (a : Entity) → Denoted a → (q : Pos) (i : Answer) → Part i → Holds Denoted (desig.element e q a i)
   element_part a x q i y =
       let b = desig.through e a in element_typed_of b.known.of b.known.class b.held b.at (through_fine a x) q i y
 
-  followed_of : (of : Option TypeId) (c : Class) (h : Held) (at : Pos) → Spotted (spot of c h at) → (q : Pos) → Holds Spotted (desig.followed e (spot of c h at) q)
-  followed_of None c h at x q = λ none. unknown_fine (spot None c h at) x refl at
+  followed_of : (of : Option TypeId) (c : Class) (h : Held) (at : Pos) → Denoted (entity of c h at) → (q : Pos) → Holds Denoted (desig.followed e (entity of c h at) q)
+  followed_of None c h at x q = λ none. unknown_fine (entity None c h at) x refl at
   followed_of (Some t) c h at x q = by (desig.pointed e t) refl
     where
-      by : (o : Option TypeId) → desig.pointed e t ≡ o → Holds Spotted (desig.followed_type e (spot (Some t) c h at) q t o)
+      by : (o : Option TypeId) → desig.pointed e t ≡ o → Holds Denoted (desig.followed_type e (entity (Some t) c h at) q t o)
       by None is = lacking_fine t q
-      by (Some u) is = λ none. followed_fine (spot (Some t) c h at) x t u refl is
+      by (Some u) is = λ none. followed_fine (entity (Some t) c h at) x t u refl is
 
-  pub followed_part : (a : Spot) → Spotted a → (q : Pos) → Holds Spotted (desig.followed e a q)
+  pub followed_part : (a : Entity) → Denoted a → (q : Pos) → Holds Denoted (desig.followed e a q)
   followed_part a x q = followed_of a.known.of a.known.class a.held a.at x q
 
   is_read : (c : Class) (of : Option TypeId) (x : Held) → IsStoredHeld x c → IsStored c → (place : Place) × (read_from of x ≡ Read (type_of of) place)
   is_read c of (Stands place) stored s = (place, refl)
   is_read c of (Value x) made s = absurd (made s)
 
-  pub read_part : (a : Spot) → Spotted a → Holds Part (desig.read e a)
+  pub read_part : (a : Entity) → Denoted a → Holds Part (desig.read e a)
   read_part a x none = record {
     class = x.class;
     valued = x.valued;
