@@ -18,6 +18,6 @@ pub mod Worded
 pub mod Passed
 pub mod CallParts
 pub mod Typing
-pub mod Handed
+pub mod ArgumentLists
 pub mod Initials
 pub mod Uncalled

@@ -10,7 +10,7 @@ pub mod Excludes
 pub mod Matching
 pub mod Itself
 pub mod Changes
-pub mod Handed
+pub mod Heirs
 pub mod Records
 pub mod NeverDead
 pub mod Settles

@@ -10,7 +10,7 @@ use Rattle.aos_concurrency.specs.Handover.{GuardsBy, HandsOver}
 use Rattle.aos_concurrency.specs.Toy.{Command, Skip, Say, Raise, Take, Give, Until, Fork, Fail, Shared, Program, Frames, judges, first, toy, toy_turn, toy_run, Nested, IsNested, IsAnyLocal}
 use Rattle.aos_concurrency.proofs.Tables.{lock, put_other}
 use Rattle.aos_concurrency.proofs.ToyKeeps.{asks, ToyFits, toy_keeps, toy_sound, AllNested, nested_stays, toy_nested}
-use Rattle.aos_concurrency.proofs.Handed.{hands_over}
+use Rattle.aos_concurrency.proofs.Heirs.{hands_over}
 
 abbrev SameNumber : LockName → Shared → Shared → Type 0
 SameNumber l s t = s.number l ≡ t.number l

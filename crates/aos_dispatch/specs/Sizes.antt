@@ -2,8 +2,8 @@
 use Rattle.std.specs.Prelude.{ℕ, suc, ◌+◌, Option, Some, None}
 use Rattle.aos_typed.specs.Program.{Place, ModuleVar, Local, Passed, Field, Index, Of, Deref, Typed, Guarded, Rows, Known, Opened, Row, Spread, Longer, Arguments, NoMore, Scalar, Whole, Opening, Callee, Plain, Dispatched, Upper, Through, Expr, Lit, SelfRef, Read, Unary, Binary, And, Or, Element, Ord, Chr, CompareTexts, Len, LenBehind, Function, Same, Is, IsRecord, Guard, ProcedureOf, MethodOf, SameProcedure, Had}
 use Rattle.aos_typed.specs.Seen.{seen_place, seen_rows, seen_expr}
-use Rattle.aos_dispatch.specs.declared.fronts.Front.{Front}
-use Rattle.aos_dispatch.specs.declared.fronts.Front.TheVariants.{Value, Place as Located, Rows as Spanned}
+use Rattle.aos_dispatch.specs.declared.prefixes.Prefix.{Prefix}
+use Rattle.aos_dispatch.specs.declared.prefixes.Prefix.TheVariants.{Value, Place as Located, Rows as Spanned}
 
 abbrev mutual
   pub place_size : Place → ℕ
@@ -60,12 +60,12 @@ abbrev mutual
   value_size (SameProcedure a b) = suc (value_size a + value_size b)
   value_size (Had v) = 0
 
-abbrev pub front_size : Front → ℕ
+abbrev pub front_size : Prefix → ℕ
 front_size (Value e) = value_size (seen_expr e.now)
 front_size (Located p) = place_size (seen_place p.now)
 front_size (Spanned r) = rows_size (seen_rows r.now)
 
 -- with what it is found by
-abbrev pub rest_size : Option Front → ℕ
+abbrev pub rest_size : Option Prefix → ℕ
 rest_size None = 0
 rest_size (Some f) = suc (front_size f)

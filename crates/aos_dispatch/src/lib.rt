@@ -5,7 +5,7 @@
 pub mod awaits;
 mod chains;
 mod dispatch;
-mod fronts;
+mod prefixes;
 mod lengths;
 mod methods;
 mod nearest;
@@ -17,7 +17,7 @@ mod upward;
 
 pub use awaits::{Await, awaits_of};
 pub use dispatch::Dispatch;
-pub use fronts::Front;
+pub use prefixes::Prefix;
 pub use lengths::{dimensions, operands};
 pub use numbers::{after, next};
 pub use routines::{Routine, routines_of};

@@ -14,7 +14,7 @@ ghost use Rattle.aos_sim.specs.Need as need_of;
 use crate::bodies::put_body;
 use aos_base::NoMemory;
 use aos_code::{Body, Instr};
-use aos_dispatch::{Front, Routine, awaits_of, routines_of};
+use aos_dispatch::{Prefix, Routine, awaits_of, routines_of};
 use aos_emit_expr::{Scope, emit_front, put};
 use aos_laid::Laid;
 use aos_layout::FrameShape;
@@ -30,7 +30,7 @@ fn emit_condition(scope: &Scope<'_>, condition: &TExpr) -> Result<Body, AllocErr
         body.depth ≡ need_of.value_need (seen_expr condition.now)) }
 {
     let mut code = Vec::new(scope.alloc());
-    emit_front(scope, &mut code, Front::Value(condition))?;
+    emit_front(scope, &mut code, Prefix::Value(condition))?;
     put(&mut code, Instr::Verdict)?;
     let depth = value_need(condition)?;
     Ok(Body { code, depth })

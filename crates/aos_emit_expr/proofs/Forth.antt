@@ -12,8 +12,8 @@ use Rattle.aos_typed.specs.Seen.{seen_place, seen_rows, seen_list, seen_callee, 
 use Rattle.aos_code.specs.declared.instr.Instr.{Instr}
 use Rattle.aos_code.specs.declared.instr.Instr.TheVariants.{Num, Proc, Bind, EqCall, SelfRef as SelfOf, Deref as DerefOf, OpenRef, EqRef, Is as IsOf, IsPlace, Guard as GuardOf, GuardPlace, Dup, Drop, Frame as FrameOf, Param, Length, Module, Offset, Index as IndexOf, IndexOpen, PickLen, Unary as OnOne, Binary as OnTwo, Jump, JumpFalse, Load, CmpText}
 use Rattle.aos_sim.specs.Code.{literal_code, call_instr, kind_of, variable_cell, own_cell, field_cell, cells_of, dimensions, lengths_code, drops, place_code, rows_code, arguments_code, receiver_code, value_code}
-use Rattle.aos_dispatch.specs.declared.fronts.Front.{Front}
-use Rattle.aos_dispatch.specs.declared.fronts.Front.TheVariants as fronts
+use Rattle.aos_dispatch.specs.declared.prefixes.Prefix.{Prefix}
+use Rattle.aos_dispatch.specs.declared.prefixes.Prefix.TheVariants as prefixes
 use Rattle.aos_emit_expr.specs.declared.sources.Source.{Source}
 use Rattle.aos_emit_expr.specs.declared.sources.Source.TheVariants as sources
 use Rattle.aos_emit_expr.specs.Adds.{front_code, source_code}
@@ -266,13 +266,13 @@ module _ (p : Program) (own : Option Procedure) where
     forth (Had v) at behind end ends = refl
 
   -- that of what code is emitted of
-  front_forth : (f : Front) → IsPlaced (front_code p own f) (back_front p own f)
-  front_forth (fronts.Value e) = forth (seen_expr e.now)
-  front_forth (fronts.Place x) = place_forth (seen_place x.now)
-  front_forth (fronts.Rows r) = rows_forth (seen_rows r.now)
+  front_forth : (f : Prefix) → IsPlaced (front_code p own f) (back_front p own f)
+  front_forth (prefixes.Value e) = forth (seen_expr e.now)
+  front_forth (prefixes.Place x) = place_forth (seen_place x.now)
+  front_forth (prefixes.Rows r) = rows_forth (seen_rows r.now)
 
   pub source_forth : (s : Source) → IsPlaced (source_code p own s) (back_source p own s)
-  source_forth (sources.Front f) = front_forth f
+  source_forth (sources.Prefix f) = front_forth f
   source_forth (sources.Call c as') = forth (Function (seen_callee c.now) (seen_list as'.now))
   source_forth (sources.Handed as') = arguments_forth (seen_list as'.now)
   source_forth sources.SelfRef = forth SelfRef

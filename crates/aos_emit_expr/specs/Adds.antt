@@ -3,8 +3,8 @@ use Rattle.std.specs.Prelude.{◌≡◌, ℕ, Option, List, ◌++◌, length}
 use Rattle.aos_code.specs.declared.instr.Instr.{Instr}
 use Rattle.aos_typed.specs.Program.{Callee, SelfRef, Function, Procedure, Program}
 use Rattle.aos_typed.specs.Seen.{seen_place, seen_rows, seen_list, seen_callee, seen_expr}
-use Rattle.aos_dispatch.specs.declared.fronts.Front.{Front}
-use Rattle.aos_dispatch.specs.declared.fronts.Front.TheVariants as fronts
+use Rattle.aos_dispatch.specs.declared.prefixes.Prefix.{Prefix}
+use Rattle.aos_dispatch.specs.declared.prefixes.Prefix.TheVariants as prefixes
 use Rattle.aos_sim.specs.Code.{place_code, rows_code, arguments_code, value_code}
 use Rattle.aos_emit_expr.specs.declared.sources.Source.{Source}
 use Rattle.aos_emit_expr.specs.declared.sources.Source.TheVariants as sources
@@ -13,13 +13,13 @@ use Rattle.aos_emit_expr.specs.Back.{back_receiver, back_first, back_form}
 use Rattle.aos_emit_expr.specs.Scope.{Inside, program_of, own_of}
 
 -- the code of what code is emitted of
-abbrev pub front_code : Program → Option Procedure → Front → ℕ → List Instr
-front_code p own (fronts.Value e) at = value_code p own (seen_expr e.now) at
-front_code p own (fronts.Place x) at = place_code p own (seen_place x.now) at
-front_code p own (fronts.Rows r) at = rows_code p own (seen_rows r.now) at
+abbrev pub front_code : Program → Option Procedure → Prefix → ℕ → List Instr
+front_code p own (prefixes.Value e) at = value_code p own (seen_expr e.now) at
+front_code p own (prefixes.Place x) at = place_code p own (seen_place x.now) at
+front_code p own (prefixes.Rows r) at = rows_code p own (seen_rows r.now) at
 
 abbrev pub source_code : Program → Option Procedure → Source → ℕ → List Instr
-source_code p own (sources.Front f) at = front_code p own f at
+source_code p own (sources.Prefix f) at = front_code p own f at
 source_code p own (sources.Call c as') at = value_code p own (Function (seen_callee c.now) (seen_list as'.now)) at
 source_code p own (sources.Handed as') at = arguments_code p own (seen_list as'.now) at
 source_code p own sources.SelfRef at = value_code p own SelfRef at

@@ -7,8 +7,8 @@ use Rattle.aos_code.specs.declared.instr.Instr.{Instr}
 use Rattle.aos_code.specs.declared.instr.Instr.TheVariants.{Num, Proc, Bind, EqCall, SelfRef as SelfOf, Deref as DerefOf, OpenRef, EqRef, Is as IsOf, IsPlace, Guard as GuardOf, GuardPlace, Dup, Frame as FrameOf, Param, Module, Offset, Index as IndexOf, IndexOpen, PickLen, Unary as OnOne, Binary as OnTwo, Jump, JumpFalse, Load, CmpText}
 use Rattle.aos_typed.specs.Numbers.{procedure_number}
 use Rattle.aos_typed.specs.Seen.{seen_place, seen_rows, seen_list, seen_callee, seen_expr}
-use Rattle.aos_dispatch.specs.declared.fronts.Front.{Front}
-use Rattle.aos_dispatch.specs.declared.fronts.Front.TheVariants.{Value, Place as Located, Rows as Spanned}
+use Rattle.aos_dispatch.specs.declared.prefixes.Prefix.{Prefix}
+use Rattle.aos_dispatch.specs.declared.prefixes.Prefix.TheVariants.{Value, Place as Located, Rows as Spanned}
 use Rattle.aos_emit_expr.specs.declared.sources.Source.{Source}
 use Rattle.aos_emit_expr.specs.declared.sources.Source.TheVariants as sources
 use Rattle.aos_emit_expr.specs.declared.forms.Form.{Form}
@@ -17,15 +17,15 @@ use Rattle.aos_sim.specs.Code.{literal_code, call_instr, kind_of, variable_cell,
 
 -- what stands first of a form
 abbrev pub first_of : Form → Option Source
-first_of (forms.Part f) = Some (sources.Front f)
+first_of (forms.Part f) = Some (sources.Prefix f)
 first_of (forms.Alone i) = None
-first_of (forms.One f i) = Some (sources.Front f)
-first_of (forms.Two f g i) = Some (sources.Front f)
-first_of (forms.And a b) = Some (sources.Front (Value a))
-first_of (forms.Or a b) = Some (sources.Front (Value a))
-first_of (forms.Element a) = Some (sources.Front (Value a))
-first_of (forms.Length r d n) = Some (sources.Front (Spanned r))
-first_of (forms.Lengths f ns) = Some (sources.Front f)
+first_of (forms.One f i) = Some (sources.Prefix f)
+first_of (forms.Two f g i) = Some (sources.Prefix f)
+first_of (forms.And a b) = Some (sources.Prefix (Value a))
+first_of (forms.Or a b) = Some (sources.Prefix (Value a))
+first_of (forms.Element a) = Some (sources.Prefix (Value a))
+first_of (forms.Length r d n) = Some (sources.Prefix (Spanned r))
+first_of (forms.Lengths f ns) = Some (sources.Prefix f)
 first_of (forms.Opened k j) = None
 first_of (forms.Call s i as') = s
 first_of (forms.Handed as') = None
@@ -104,13 +104,13 @@ module _ (program : Program) (own : Option Procedure) where
       let second = back_code b behind in second ++ Jump (length behind) ∷ Num (pos 1) ∷ JumpFalse (length second) ∷ []
 
   -- what code is emitted of, if anything is left
-  abbrev pub back_front : Front → List Instr → List Instr
+  abbrev pub back_front : Prefix → List Instr → List Instr
   back_front (Value e) behind = back_code (seen_expr e.now) behind
   back_front (Located p) behind = back_place (seen_place p.now) behind
   back_front (Spanned r) behind = back_rows (seen_rows r.now) behind
 
   abbrev pub back_source : Source → List Instr → List Instr
-  back_source (sources.Front f) behind = back_front f behind
+  back_source (sources.Prefix f) behind = back_front f behind
   back_source (sources.Call c as') behind = back_code (Function (seen_callee c.now) (seen_list as'.now)) behind
   back_source (sources.Handed as') behind = back_arguments (seen_list as'.now) behind
   back_source sources.SelfRef behind = back_code SelfRef behind

@@ -9,7 +9,7 @@ use Rattle.aos_emit_expr.specs.declared.forms.Form.{Form}
 use Rattle.aos_emit_expr.specs.declared.forms.Form.TheVariants as forms
 
 abbrev pub source_size : Source → ℕ
-source_size (sources.Front f) = front_size f
+source_size (sources.Prefix f) = front_size f
 source_size (sources.Call c as') = value_size (Function (seen_callee c.now) (seen_list as'.now))
 source_size (sources.Handed as') = arguments_size (seen_list as'.now)
 source_size sources.SelfRef = 0

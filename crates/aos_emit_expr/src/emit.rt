@@ -15,7 +15,7 @@ use crate::scope::Scope;
 use crate::sources::Source;
 use aos_base::{Binary, Pos};
 use aos_code::Instr;
-use aos_dispatch::Front;
+use aos_dispatch::Prefix;
 use aos_typed::{TArgument, TExpr};
 use std::alloc::AllocError;
 
@@ -119,9 +119,9 @@ fn emit_argument_back(
         (seen_argument argument.now NoMore)) }
 {
     match argument {
-        TArgument::Scalar(value) => emit_back(scope, code, Source::Front(Front::Value(value))),
-        TArgument::Whole(place) => emit_back(scope, code, Source::Front(Front::Place(place))),
-        TArgument::Opening(rows) => emit_back(scope, code, Source::Front(Front::Rows(rows))),
+        TArgument::Scalar(value) => emit_back(scope, code, Source::Prefix(Prefix::Value(value))),
+        TArgument::Whole(place) => emit_back(scope, code, Source::Prefix(Prefix::Place(place))),
+        TArgument::Opening(rows) => emit_back(scope, code, Source::Prefix(Prefix::Rows(rows))),
     }
 }
 
@@ -154,7 +154,7 @@ fn emit_and_back(scope: &Scope<'_>, code: &mut Vec<Instr>, second: &TExpr) -> Re
     put(code, Instr::Num(0))?;
     let from_false = next_place(code)?;
     put(code, Instr::Jump(past))?;
-    emit_back(scope, code, Source::Front(Front::Value(second)))?;
+    emit_back(scope, code, Source::Prefix(Prefix::Value(second)))?;
     put(code, Instr::JumpFalse(from_false))
 }
 
@@ -165,7 +165,7 @@ fn emit_or_back(scope: &Scope<'_>, code: &mut Vec<Instr>, second: &TExpr) -> Res
         (seen_expr second.now)) }
 {
     let behind = next_place(code)?;
-    emit_back(scope, code, Source::Front(Front::Value(second)))?;
+    emit_back(scope, code, Source::Prefix(Prefix::Value(second)))?;
     let from_second = next_place(code)?;
     put(code, Instr::Jump(behind))?;
     put(code, Instr::Num(1))?;
@@ -192,7 +192,7 @@ fn emit_last(scope: &Scope<'_>, code: &mut Vec<Instr>, form: Form<'_>) -> Result
         Form::One(_, instr) => put(code, instr),
         Form::Two(_, second, instr) => {
             put(code, instr)?;
-            emit_back(scope, code, Source::Front(second))
+            emit_back(scope, code, Source::Prefix(second))
         }
         Form::And(_, second) => emit_and_back(scope, code, second),
         Form::Or(_, second) => emit_or_back(scope, code, second),
@@ -264,9 +264,9 @@ pub fn emit_source(
 pub fn emit_front(
     scope: &Scope<'_>,
     code: &mut Vec<Instr>,
-    front: Front<'_>,
+    front: Prefix<'_>,
 ) -> Result<(), AllocError>
     ensures { OnOk result (Adds front_code scope.now code.old.items code.new.items front.entry) }
 {
-    emit_source(scope, code, Source::Front(front))
+    emit_source(scope, code, Source::Prefix(front))
 }

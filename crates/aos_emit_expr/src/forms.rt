@@ -16,8 +16,8 @@ use crate::scope::Scope;
 use crate::sources::Source;
 use aos_base::{Unary, truth};
 use aos_code::Instr;
-use aos_dispatch::Front::{Place, Rows, Value};
-use aos_dispatch::{Front, dimensions};
+use aos_dispatch::Prefix::{Place, Rows, Value};
+use aos_dispatch::{Prefix, dimensions};
 use aos_typed::{Literal, TArgument, TCallee, TExpr, TPlace, TRows};
 use std::alloc::AllocError;
 
@@ -25,13 +25,13 @@ use std::alloc::AllocError;
 #[derive(Clone, Copy)]
 pub enum Form<'a> {
     /// A part alone.
-    Part(Front<'a>),
+    Part(Prefix<'a>),
     /// An instruction alone.
     Alone(Instr),
     /// A part, and the instruction that takes what it gives.
-    One(Front<'a>, Instr),
+    One(Prefix<'a>, Instr),
     /// Two parts, and the instruction that takes what both give.
-    Two(Front<'a>, Front<'a>, Instr),
+    Two(Prefix<'a>, Prefix<'a>, Instr),
     /// `&` with its operands.
     And(&'a TExpr, &'a TExpr),
     /// OR with its operands.
@@ -41,7 +41,7 @@ pub enum Form<'a> {
     /// An array with so many dimensions, which are taken again, and the length that is known of it.
     Length(&'a TRows, u32, u32),
     /// A part, and lengths behind it.
-    Lengths(Front<'a>, &'a [u32]),
+    Lengths(Prefix<'a>, &'a [u32]),
     /// An open array parameter by its first cell, with so many dimensions.
     Opened(u32, u32),
     /// What something is called on, the instruction that calls it, and what is handed over.
@@ -57,15 +57,15 @@ pub fn first_of<'b>(form: Form<'b>) -> Option<Source<'b>>
     ensures less { first_size result ≤ form_size form.entry }
 {
     match form {
-        Form::Part(part) => Some(Source::Front(part)),
+        Form::Part(part) => Some(Source::Prefix(part)),
         Form::Alone(_) => None,
-        Form::One(part, _) => Some(Source::Front(part)),
-        Form::Two(first, _, _) => Some(Source::Front(first)),
-        Form::And(first, _) => Some(Source::Front(Value(first))),
-        Form::Or(first, _) => Some(Source::Front(Value(first))),
-        Form::Element(operand) => Some(Source::Front(Value(operand))),
-        Form::Length(rows, _, _) => Some(Source::Front(Rows(rows))),
-        Form::Lengths(part, _) => Some(Source::Front(part)),
+        Form::One(part, _) => Some(Source::Prefix(part)),
+        Form::Two(first, _, _) => Some(Source::Prefix(first)),
+        Form::And(first, _) => Some(Source::Prefix(Value(first))),
+        Form::Or(first, _) => Some(Source::Prefix(Value(first))),
+        Form::Element(operand) => Some(Source::Prefix(Value(operand))),
+        Form::Length(rows, _, _) => Some(Source::Prefix(Rows(rows))),
+        Form::Lengths(part, _) => Some(Source::Prefix(part)),
         Form::Opened(_, _) => None,
         Form::Call(receiver, _, _) => receiver,
         Form::Handed(_) => None,
@@ -118,9 +118,9 @@ fn receiver<'b>(callee: &'b TCallee) -> Option<Source<'b>>
 {
     match callee {
         TCallee::Plain(_, _) => None,
-        TCallee::Dispatched(object, _, _) => Some(Source::Front(Value(object))),
+        TCallee::Dispatched(object, _, _) => Some(Source::Prefix(Value(object))),
         TCallee::Upper(_, _) => Some(Source::SelfRef),
-        TCallee::Through(value, _) => Some(Source::Front(Value(value))),
+        TCallee::Through(value, _) => Some(Source::Prefix(Value(value))),
     }
 }
 
@@ -232,9 +232,9 @@ pub fn source_form<'b>(scope: &Scope<'_>, source: Source<'b>) -> Result<Form<'b>
     ensures size { IfOk result (λ form. form_size form ≡ source_size source.entry) }
 {
     match source {
-        Source::Front(Front::Value(value)) => value_form(scope, value),
-        Source::Front(Front::Place(place)) => place_form(scope, place),
-        Source::Front(Front::Rows(rows)) => rows_form(scope, rows),
+        Source::Prefix(Prefix::Value(value)) => value_form(scope, value),
+        Source::Prefix(Prefix::Place(place)) => place_form(scope, place),
+        Source::Prefix(Prefix::Rows(rows)) => rows_form(scope, rows),
         Source::Call(callee, arguments) => call_form(scope, callee, arguments),
         Source::Handed(arguments) => Ok(Form::Handed(arguments)),
         Source::SelfRef => Ok(Form::Alone(Instr::SelfRef)),

@@ -5,17 +5,17 @@ use Rattle.aos_code.specs.declared.instr.Instr.{Instr}
 use Rattle.aos_typed.specs.Program.{Stat, Stats, Arms, Cases, Procedure, Program}
 use Rattle.aos_sim.specs.Search.{arms_in, search_of, search_size, search_code}
 use Rattle.aos_sim.specs.Code.{begin, operands_code, stat_code, stats_code, arms_code, cases_code, arm_place}
-use Rattle.aos_dispatch.specs.declared.fronts.Front.{Front}
+use Rattle.aos_dispatch.specs.declared.prefixes.Prefix.{Prefix}
 use Rattle.aos_emit_expr.specs.Adds.{front_code}
 use Rattle.aos_emit_expr.specs.Pending.{pending_end}
 use Rattle.aos_emit_expr.specs.Scope.{Inside, program_of, own_of}
 use Rattle.aos_emit_stat.specs.Ways.{left_to, pending}
 
 -- statements of one part and of two, and the instruction that takes what they give
-abbrev pub one_code : Pos → Instr → Program → Option Procedure → Front → ℕ → List Instr
+abbrev pub one_code : Pos → Instr → Program → Option Procedure → Prefix → ℕ → List Instr
 one_code here last p own f at = begin here ∷ (front_code p own f (at + 1) ++ last ∷ [])
 
-abbrev pub two_code : Pos → Instr → Program → Option Procedure → Front × Front → ℕ → List Instr
+abbrev pub two_code : Pos → Instr → Program → Option Procedure → Prefix × Prefix → ℕ → List Instr
 two_code here last p own fs at =
     let first = front_code p own fs.0 (at + 1) in
     begin here ∷ operands_code first (front_code p own fs.1 (at + 1 + length first)) last

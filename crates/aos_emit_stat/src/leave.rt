@@ -11,7 +11,7 @@ ghost use Rattle.aos_sim.specs.Code.{exit_code, return_code};
 
 use aos_base::Pos;
 use aos_code::Instr;
-use aos_dispatch::Front;
+use aos_dispatch::Prefix;
 use aos_emit_expr::{Scope, Within, emit_begin, emit_front, put};
 use aos_typed::TExpr;
 use std::alloc::AllocError;
@@ -67,7 +67,7 @@ pub fn emit_return(
     emit_begin(code, at)?;
     match value {
         Some(result) => {
-            emit_front(scope, code, Front::Value(result))?;
+            emit_front(scope, code, Prefix::Value(result))?;
             put_return(code, scope.within())
         }
         None => put_return(code, scope.within()),

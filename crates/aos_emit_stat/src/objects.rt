@@ -12,7 +12,7 @@ ghost use Rattle.aos_sim.specs.Code.{values_code};
 
 use aos_base::Pos;
 use aos_code::{Instr, Kind};
-use aos_dispatch::{Front, after, next};
+use aos_dispatch::{Prefix, after, next};
 use aos_emit_expr::{
     Scope, Source, described, emit_begin, emit_front, emit_source, number_of, put,
 };
@@ -145,7 +145,7 @@ pub fn emit_new(
         (New at (seen_place place.now) object (seen_list arguments.now))) }
 {
     emit_begin(code, at)?;
-    emit_front(scope, code, Front::Place(place))?;
+    emit_front(scope, code, Prefix::Place(place))?;
     emit_source(scope, code, Source::Handed(arguments))?;
     put_made(scope, code, object, level)
 }
@@ -156,7 +156,7 @@ fn emit_values(scope: &Scope<'_>, code: &mut Vec<Instr>, values: &[TExpr]) -> Re
         (map seen_expr values.now)) }
 {
     for number in 0..values.len() {
-        emit_front(scope, code, Front::Value(&values[number]))?;
+        emit_front(scope, code, Prefix::Value(&values[number]))?;
     }
     Ok(())
 }
@@ -187,7 +187,7 @@ pub fn emit_make(
 {
     let instr = make_instr(of, lengths.len())?;
     emit_begin(code, at)?;
-    emit_front(scope, code, Front::Place(place))?;
+    emit_front(scope, code, Prefix::Place(place))?;
     emit_values(scope, code, lengths)?;
     put(code, instr)?;
     put(code, Instr::Store(Kind::R))

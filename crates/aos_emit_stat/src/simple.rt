@@ -9,7 +9,7 @@ ghost use Rattle.aos_sim.specs.Code.{begin, out_code, change_code};
 
 use aos_base::{Binary, Pos};
 use aos_code::{Instr, Kind};
-use aos_dispatch::Front;
+use aos_dispatch::Prefix;
 use aos_emit_expr::{Scope, Source, emit_begin, emit_front, emit_source, put};
 use aos_typed::{Change, OutCall, TArgument, TCallee, TExpr, TPlace, TType};
 use std::alloc::AllocError;
@@ -27,7 +27,7 @@ pub fn emit_one(
     scope: &Scope<'_>,
     code: &mut Vec<Instr>,
     at: Pos,
-    part: Front<'_>,
+    part: Prefix<'_>,
     last: Instr,
 ) -> Result<(), AllocError>
     ensures { OnOk result (Adds (one_code at last) scope.now code.old.items code.new.items
@@ -43,8 +43,8 @@ pub fn emit_two(
     scope: &Scope<'_>,
     code: &mut Vec<Instr>,
     at: Pos,
-    first: Front<'_>,
-    second: Front<'_>,
+    first: Prefix<'_>,
+    second: Prefix<'_>,
     last: Instr,
 ) -> Result<(), AllocError>
     ensures { OnOk result (Adds (two_code at last) scope.now code.old.items code.new.items
@@ -73,8 +73,8 @@ pub fn emit_assign(
         scope,
         code,
         at,
-        Front::Place(place),
-        Front::Value(value),
+        Prefix::Place(place),
+        Prefix::Value(value),
         last,
     )
 }
@@ -92,7 +92,7 @@ pub fn emit_copy(
         (Copy at of (seen_place to.now) (seen_place from.now))) }
 {
     let last = Instr::Copy(scope.cells_of(of));
-    emit_two(scope, code, at, Front::Place(to), Front::Place(from), last)
+    emit_two(scope, code, at, Prefix::Place(to), Prefix::Place(from), last)
 }
 
 /// A call of a procedure.
@@ -118,16 +118,16 @@ fn put_out(scope: &Scope<'_>, code: &mut Vec<Instr>, call: &OutCall) -> Result<(
     match call {
         OutCall::Open => put(code, Instr::OutOpen),
         OutCall::Char(value) => {
-            emit_front(scope, code, Front::Value(value))?;
+            emit_front(scope, code, Prefix::Value(value))?;
             put(code, Instr::OutChar)
         }
         OutCall::Int(value, places) => {
-            emit_front(scope, code, Front::Value(value))?;
-            emit_front(scope, code, Front::Value(places))?;
+            emit_front(scope, code, Prefix::Value(value))?;
+            emit_front(scope, code, Prefix::Value(places))?;
             put(code, Instr::OutInt)
         }
         OutCall::String(text) => {
-            emit_front(scope, code, Front::Rows(text))?;
+            emit_front(scope, code, Prefix::Rows(text))?;
             put(code, Instr::OutString)
         }
         OutCall::Ln => put(code, Instr::OutLn),
@@ -193,8 +193,8 @@ pub fn emit_change(
         (Changed at change (seen_place place.now) (seen_expr by.now))) }
 {
     emit_begin(code, at)?;
-    emit_front(scope, code, Front::Place(place))?;
+    emit_front(scope, code, Prefix::Place(place))?;
     put(code, Instr::Dup)?;
-    emit_front(scope, code, Front::Value(by))?;
+    emit_front(scope, code, Prefix::Value(by))?;
     put_change(code, change)
 }

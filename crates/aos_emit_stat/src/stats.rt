@@ -20,7 +20,7 @@ use crate::simple::{
 };
 use aos_base::{Binary, Pos, Relation, Width};
 use aos_code::{Instr, Kind};
-use aos_dispatch::{Front, next};
+use aos_dispatch::{Prefix, next};
 use aos_emit_expr::{PENDING_END, Scope, emit_begin, emit_front, next_place, number_of, put};
 use aos_typed::{TArm, TCase, TElse, TExpr, TPlace, TStat, TType};
 use std::alloc::AllocError;
@@ -42,7 +42,7 @@ fn emit_head(
         scope.now code.old.items code.new.items (seen_place variable.now)) }
 {
     emit_begin(code, at)?;
-    emit_front(scope, code, Front::Value(to))?;
+    emit_front(scope, code, Prefix::Value(to))?;
     put(code, Instr::Keep(level, Kind::N))?;
     emit_assign(scope, code, at, TType::Integer(width), variable, from)
 }
@@ -71,7 +71,7 @@ fn emit_test(
         (Instr.Kept level Kind.N ∷ (Instr.Binary (Binary.Cmp (meaning.until step.now)) ∷ [])))
         scope.now code.old.items code.new.items (seen_place variable.now)) }
 {
-    emit_front(scope, code, Front::Place(variable))?;
+    emit_front(scope, code, Prefix::Place(variable))?;
     put(code, Instr::Load(Kind::N))?;
     put(code, Instr::Kept(level, Kind::N))?;
     put(code, Instr::Binary(Binary::Cmp(until(step))))
@@ -90,8 +90,8 @@ fn emit_step(
         scope.now code.old.items code.new.items (seen_place variable.now)) }
 {
     emit_begin(code, at)?;
-    emit_front(scope, code, Front::Place(variable))?;
-    emit_front(scope, code, Front::Place(variable))?;
+    emit_front(scope, code, Prefix::Place(variable))?;
+    emit_front(scope, code, Prefix::Place(variable))?;
     put(code, Instr::Load(Kind::N))?;
     put(code, Instr::Num(*step))?;
     put(code, Instr::Binary(Binary::Add(width)))?;
@@ -114,7 +114,7 @@ fn emit_arm(
         arm_code c b n then [])
         scope.now code.old.items code.new.items (seen_expr test.now)) }
 {
-    emit_front(scope, code, Front::Value(test))?;
+    emit_front(scope, code, Prefix::Value(test))?;
     let test_end = code.len();
     put(code, Instr::JumpFalse(0))?;
     emit_stats(scope, code, body, level)?;
@@ -185,7 +185,7 @@ fn emit_guarded(
     scope: &Scope<'_>,
     code: &mut Vec<Instr>,
     at: Pos,
-    guarded: Front<'_>,
+    guarded: Prefix<'_>,
     body: &[TStat],
     level: u32,
 ) -> Result<(), AllocError>
@@ -214,7 +214,7 @@ fn emit_repeat(
     let start = next_place(code)?;
     emit_begin(code, at)?;
     emit_stats(scope, code, body, level)?;
-    emit_front(scope, code, Front::Value(condition))?;
+    emit_front(scope, code, Prefix::Value(condition))?;
     put(code, Instr::JumpFalse(start))
 }
 
@@ -429,7 +429,7 @@ fn emit_case(
         (Case at (seen_expr selector.now) (cases_of cases.now (seen_else otherwise.now)))) }
 {
     emit_begin(code, at)?;
-    emit_front(scope, code, Front::Value(selector))?;
+    emit_front(scope, code, Prefix::Value(selector))?;
     put(code, Instr::Keep(level, Kind::N))?;
     emit_found(scope, code, cases, otherwise, level)
 }
@@ -449,7 +449,7 @@ fn emit_stat(
         TStat::Copy(at, of, to, from) => emit_copy(scope, code, *at, *of, to, from),
         TStat::PutText(at, strict, from, to) => {
             let last = Instr::PutText(*strict);
-            emit_two(scope, code, *at, Front::Rows(from), Front::Rows(to), last)
+            emit_two(scope, code, *at, Prefix::Rows(from), Prefix::Rows(to), last)
         }
         TStat::If(at, arms, body) => emit_if(scope, code, *at, arms, body, level),
         TStat::Case(at, value, cases, otherwise) => {
@@ -465,7 +465,7 @@ fn emit_stat(
         TStat::Block(at, exclusive, body) => emit_block(scope, code, *at, *exclusive, body, level),
         TStat::Await(at, number, _) => emit_alone(code, *at, Instr::Await(*number)),
         TStat::Assert(at, test, number) => {
-            emit_one(scope, code, *at, Front::Value(test), Instr::Assert(*number))
+            emit_one(scope, code, *at, Prefix::Value(test), Instr::Assert(*number))
         }
         TStat::Halt(at, number) => emit_alone(code, *at, Instr::Halt(*number)),
         TStat::Change(at, change, place, value) => {
@@ -478,10 +478,10 @@ fn emit_stat(
         }
         TStat::Make(at, place, of, lengths) => emit_make(scope, code, *at, place, *of, lengths),
         TStat::With(at, object, body) => {
-            emit_guarded(scope, code, *at, Front::Value(object), body, level)
+            emit_guarded(scope, code, *at, Prefix::Value(object), body, level)
         }
         TStat::WithRecord(at, place, body) => {
-            emit_guarded(scope, code, *at, Front::Place(place), body, level)
+            emit_guarded(scope, code, *at, Prefix::Place(place), body, level)
         }
         TStat::Out(at, call) => emit_out(scope, code, *at, call),
     }

@@ -11,7 +11,7 @@ use Rattle.aos_concurrency.proofs.Executions.{execution-append}
 use Rattle.aos_code.specs.declared.image.Image.{Image}
 use Rattle.aos_code.specs.Memory.{Memory}
 use Rattle.aos_code.specs.Machine.{Frames, machine, first_state}
-use Rattle.aos_kernel.specs.declared.desk.Desk.{Desk}
+use Rattle.aos_kernel.specs.declared.tables.KernelTables.{KernelTables}
 use Rattle.aos_base.specs.declared.kernel.Sched.{Sched}
 use Rattle.aos_kernel.specs.declared.log.Stepped.{Stepped}
 use Rattle.aos_kernel.specs.declared.log.Stepped.TheVariants.{Turned, Dispatched, Idle, Over}
@@ -34,10 +34,10 @@ before_last cs c =
 pub state_before_is : (r : Run) (log : List Sched) (c : Choice) → choices log ≡ choices r.log ++ c ∷ [] → state_before (record r { log = log }) ≡ state_of r
 state_before_is r log c is = ap (λ cs. after r.image r.budget (without_last cs)) is ∙ ap (λ cs. after r.image r.budget cs) (before_last (choices r.log) c)
 
--- the desk tells nothing but what has been handed out
-handed_out : (image : Image) (earlier : List Event) (d new : Desk) (st : State Memory Frames) → Shows image earlier d st → HandsOut d new → Shows image st.book.events new st
+-- the tables tell nothing but what has been handed out
+handed_out : (image : Image) (earlier : List Event) (d new : KernelTables) (st : State Memory Frames) → Shows image earlier d st → HandsOut d new → Shows image st.book.events new st
 handed_out image earlier d new st h out =
-    let kept : Desk = record d { events = new.events } in
+    let kept : KernelTables = record d { events = new.events } in
     let shown : Shows image st.book.events kept st = record {
       store = h.store;
       stands = h.stands;
@@ -54,11 +54,11 @@ handed_out image earlier d new st h out =
       waiting = h.waiting;
       unspent = h.unspent;
     } in
-    subst (λ (x : Desk). Shows image st.book.events x st) (sym out.1) shown
+    subst (λ (x : KernelTables). Shows image st.book.events x st) (sym out.1) shown
 
 -- a kernel keeps a run with one choice more
-pub keeps_after : (r : Run) (log : List Sched) (c : Choice) (d new : Desk) (events : List Event) (st : State Memory Frames) → choices log ≡ choices r.log ++ c ∷ [] → happens (machine r.image) c (state_of r) ≡ st →
-    Shows r.image (state_of r).book.events d st → HandsOut d new → events ≡ d.events.items → All (IsEntry r.workers) log → (old : Desk) (told : List Event) → Keeps r old told → Keeps (record r { log = log }) new events
+pub keeps_after : (r : Run) (log : List Sched) (c : Choice) (d new : KernelTables) (events : List Event) (st : State Memory Frames) → choices log ≡ choices r.log ++ c ∷ [] → happens (machine r.image) c (state_of r) ≡ st →
+    Shows r.image (state_of r).book.events d st → HandsOut d new → events ≡ d.events.items → All (IsEntry r.workers) log → (old : KernelTables) (told : List Event) → Keeps r old told → Keeps (record r { log = log }) new events
 keeps_after r log c d new events st is to shown out told entries old before h =
     let now : state_of (record r { log = log }) ≡ st = state_after r log c is ∙ to in
     record {
@@ -146,14 +146,14 @@ none_spent Ended a n = refl
 none_spent Dead a n = refl
 none_spent Spent a n = absurd (n refl)
 
--- What a kernel finds on its desk
+-- What a kernel finds in its tables
 
 unspent : (line : List Stand) (spent : Option ℕ) → outcome_of line spent ≡ Going → spent ≡ None
 unspent [] spent e = absurd (cc e)
 unspent (s ∷ line) None e = refl
 unspent (s ∷ line) (Some a) e = absurd (cc e)
 
-module _ (r : Run) (d : Desk) (told : List Event) (h : Keeps r d told) where
+module _ (r : Run) (d : KernelTables) (told : List Event) (h : Keeps r d told) where
   pub unspent_while : outcome (state_of r).book ≡ Going → (state_of r).book.spent ≡ None
   unspent_while e = unspent (state_of r).book.line (state_of r).book.spent e
 
@@ -168,7 +168,7 @@ module _ (r : Run) (d : Desk) (told : List Event) (h : Keeps r d told) where
       record { on = worker_on d.line (state_of r).book.line (state_of r).book.owner h.shows.stands w a few e; counted = h.shows.counted }
 
   -- only silent work has been done, and room has been made
-  pub keeps_silent : (new : Desk) (log : List Sched) → Shows r.image (state_of r).book.events new (state_of r) → log ≡ r.log → Keeps (record r { log = log }) new told
+  pub keeps_silent : (new : KernelTables) (log : List Sched) → Shows r.image (state_of r).book.events new (state_of r) → log ≡ r.log → Keeps (record r { log = log }) new told
   keeps_silent new log shown same =
       subst (λ (l : List Sched). Keeps (record r { log = l }) new told) (sym same)
       (record { shows = shown; events_are = h.events_are; entries = h.entries; one_worker = h.one_worker; few_workers = h.few_workers; one_statement = h.one_statement; few_statements = h.few_statements })

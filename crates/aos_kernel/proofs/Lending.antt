@@ -29,7 +29,7 @@ use Rattle.aos_settling.proofs.Stores.{execution_budget}
 use Rattle.aos_settling.proofs.Tallies.{unspent}
 use Rattle.aos_loan.specs.Loans.{Lending, begun_in, IsLoanOf}
 use Rattle.aos_loan.proofs.Turning.{loan_begins, loan_settles}
-use Rattle.aos_kernel.specs.declared.desk.Desk.{Desk}
+use Rattle.aos_kernel.specs.declared.tables.KernelTables.{KernelTables}
 use Rattle.aos_kernel.specs.declared.activity.Next.TheVariants.{Runs}
 use Rattle.aos_kernel.specs.Run.{Run, after, state_of, without_last, state_before, among, without}
 use Rattle.aos_kernel.specs.Shows.{Shows}
@@ -116,8 +116,8 @@ module _ (r : Run) (w : ℕ) (l : Lending) (same : l.image ≡ r.image) (small :
   pub quiet : (n : ℕ) → n ≤ l.turns → (execution (machine r.image) (replicate n (Step w)) st).book.events ≡ st.book.events
   quiet n most = let q = some_steps n most in ap (λ (x : State Memory Frames). x.book.events) q.0 ∙ q.1.events
 
-  -- the desk to which the frames have come back shows the state behind the turns
-  pub shows_settled : (d new : Desk) (earlier : List Event) (a : ℕ) → on_worker w st.book.line ≡ Some a → Shows r.image earlier d st →
+  -- the tables to which the frames have come back show the state behind the turns
+  pub shows_settled : (d new : KernelTables) (earlier : List Event) (a : ℕ) → on_worker w st.book.line ≡ Some a → Shows r.image earlier d st →
       ComeBack r.image earlier a l.frames new st →
       Shows r.image earlier new (execution (machine r.image) (replicate l.turns (Step w)) st)
   shows_settled d new earlier a on h puts =
@@ -143,7 +143,7 @@ module _ (r : Run) (w : ℕ) (l : Lending) (same : l.image ≡ r.image) (small :
       ∙ execution_append (machine r.image) (choices r.log) (replicate n (Step w)) (first_state r.image r.budget)
 
   -- the kernel keeps the run with the turns
-  pub keeps_settled : (d new : Desk) (told : List Event) (a n : ℕ) (lent : List ℕ) (loans : ℕ) → Keeps r d told → l.turns ≡ suc n → suc n ≤ 1000000000 → w < r.workers →
+  pub keeps_settled : (d new : KernelTables) (told : List Event) (a n : ℕ) (lent : List ℕ) (loans : ℕ) → Keeps r d told → l.turns ≡ suc n → suc n ≤ 1000000000 → w < r.workers →
       Shows r.image st.book.events new (execution (machine r.image) (replicate l.turns (Step w)) st) → Keeps (record r { log = r.log ++ Steps w (suc n) ∷ []; lent = lent; loans = loans }) new []
   keeps_settled d new told a n lent loans h turns most here shown =
       let all = behind (suc n) turns in
@@ -160,7 +160,7 @@ module _ (r : Run) (w : ℕ) (l : Lending) (same : l.image ≡ r.image) (small :
       }
 
   -- and where there is none it keeps the run
-  pub keeps_idle : (d new : Desk) (told : List Event) (lent : List ℕ) (loans : ℕ) → Keeps r d told → l.turns ≡ 0 →
+  pub keeps_idle : (d new : KernelTables) (told : List Event) (lent : List ℕ) (loans : ℕ) → Keeps r d told → l.turns ≡ 0 →
       Shows r.image st.book.events new (execution (machine r.image) (replicate l.turns (Step w)) st) → Keeps (record r { lent = lent; loans = loans }) new told
   keeps_idle d new told lent loans h none shown =
       record {
@@ -180,7 +180,7 @@ over_still image (c ∷ cs) x n = ap (execution (machine image) cs) (is_over ima
 
 -- Keeping
 
-pub keeps_lent : (r : Run) (d : Desk) (told : List Event) (lent : List ℕ) (loans : ℕ) → Keeps r d told → Keeps (record r { lent = lent; loans = loans }) d told
+pub keeps_lent : (r : Run) (d : KernelTables) (told : List Event) (lent : List ℕ) (loans : ℕ) → Keeps r d told → Keeps (record r { lent = lent; loans = loans }) d told
 keeps_lent r d told lent loans h = record { shows = h.shows; events_are = h.events_are; entries = h.entries; one_worker = h.one_worker; few_workers = h.few_workers; one_statement = h.one_statement; few_statements = h.few_statements }
 
 pub without_less : (w : ℕ) (lent : List ℕ) → length (without w lent) ≤ length lent

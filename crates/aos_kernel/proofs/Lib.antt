@@ -2,7 +2,7 @@ pub mod Pieces
 pub mod Rows
 pub mod Judging
 pub mod Fits
-pub mod Desks
+pub mod TablesShown
 pub mod Handing
 pub mod Waiting
 pub mod First

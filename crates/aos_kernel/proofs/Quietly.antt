@@ -23,7 +23,7 @@ use Rattle.aos_concurrency.proofs.Tables.{number, put_same, put_back, put_twice}
 use Rattle.aos_settling.specs.Settling.{IsTallied}
 use Rattle.aos_settling.proofs.Stores.{execution_store}
 use Rattle.aos_settling.proofs.Tallies.{one_tallied, both_tallied, none_tallied, unspent}
-use Rattle.aos_kernel.specs.declared.desk.Desk.{Desk}
+use Rattle.aos_kernel.specs.declared.tables.KernelTables.{KernelTables}
 use Rattle.aos_kernel.specs.Run.{Run, after, state_of, without_last, state_before}
 use Rattle.aos_kernel.specs.Shows.{Shows}
 use Rattle.aos_kernel.specs.Keeps.{Keeps}
@@ -146,7 +146,7 @@ module _ (image : Image) (w a budget many : ℕ) (st : State Memory Frames) (now
   tallies = subst (λ k. IsTallied a k st.book (after_steps many).book) r.begun (each_after many (omega arith)).tally
 
 -- A kernel keeps a run with so many steps more in which nothing happens.
-pub keeps_steps : (r : Run) (w n : ℕ) (log : List Sched) (d new : Desk) (told : List Event) → Keeps r d told → choices log ≡ choices r.log ++ replicate (suc n) (Step w) → All (IsEntry r.workers) log →
+pub keeps_steps : (r : Run) (w n : ℕ) (log : List Sched) (d new : KernelTables) (told : List Event) → Keeps r d told → choices log ≡ choices r.log ++ replicate (suc n) (Step w) → All (IsEntry r.workers) log →
     GoesQuietly r.image (state_of r).book.events w (suc n) new (state_of r) → Keeps (record r { log = log }) new []
 keeps_steps r w n log d new told h is entries quietly =
     let st = state_of r in

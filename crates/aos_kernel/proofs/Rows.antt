@@ -1,4 +1,4 @@
--- The activities by their numbers, and what the desk shows of each.
+-- The activities by their numbers, and what the tables show of each.
 use Rattle.std.proofs.Common.{◌≡◌, ℕ, zero, suc, ◌<◌, ◌≤◌, ◌^◌, List, [], ◌∷◌, ◌++◌, Bool, true, false, refl, sym, ◌∙◌, ap, subst, arith, inl, inr, ◌≢◌, length}
 use Rattle.std.specs.Prelude.{if◌then◌else◌, nat_lt, nat_le, ◌||◌, Option, Some, None, nat_eq, is_some, slice_get, slice_set}
 use Rattle.std.specs.Option.{option_to_list}
@@ -65,7 +65,7 @@ frames_grown image made all Gone fs kept knows h = h
 pub runs_live : (n : Next) → Runs ≡ n → has_frames n ≡ true
 runs_live n e = ap has_frames (sym e)
 
--- the desk's activities show those of a book with their frames
+-- the tables' activities show those of a book with their frames
 abbrev pub EachShows : Image → (made : ℕ → Option Made) → List Activity → (ℕ → book.Activity) → (ℕ → Frames) → Type 0
 EachShows image made items acts frames = (x : ℕ) (kept : Activity) → slice_get items x ≡ Some kept → ShowsActivity image made kept (acts x) (frames x)
 

@@ -18,7 +18,7 @@ use Rattle.aos_cpu.specs.Turns.{Alike}
 use Rattle.aos_cpu.specs.Private.{is_private}
 use Rattle.aos_settling.specs.Settling.{IsTallied}
 use Rattle.aos_loan.specs.Loans.{Lending, IsLoanOf}
-use Rattle.aos_kernel.specs.declared.desk.Desk.{Desk}
+use Rattle.aos_kernel.specs.declared.tables.KernelTables.{KernelTables}
 use Rattle.aos_kernel.specs.declared.log.Stepped.{Stepped}
 use Rattle.aos_kernel.specs.declared.log.Stepped.TheVariants.{Turned, Dispatched, Idle, Over}
 use Rattle.aos_kernel.specs.Run.{Run, state_of, among, without, stepped_while}
@@ -36,8 +36,8 @@ pub record GoesOut (image : Image) (a : ℕ) (f : Kept) (st : State Memory Frame
   pub begun : f.begun ≡ (st.book.activity a).begun
   pub fits : IsSoundImage image → FitInRoom image f
 
--- frames come back: in whatever way the statements that have begun on them are counted, the desk shows them as the activity's
-abbrev pub ComeBack : Image → List Event → ℕ → Kept → Desk → State Memory Frames → Type 0
+-- frames come back: in whatever way the statements that have begun on them are counted, the tables show them as the activity's
+abbrev pub ComeBack : Image → List Event → ℕ → Kept → KernelTables → State Memory Frames → Type 0
 ComeBack image earlier a kept new st =
     (fs : Frames) (now : Book) → st.book.spent ≡ None → (st.book.activity a).next ≡ Runs → Alike image (made_in image st.store) fs (frames_in kept) →
     IsTallied a kept.begun st.book now → (IsSoundImage image → FitInRoom image kept) →

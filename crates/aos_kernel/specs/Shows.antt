@@ -28,7 +28,7 @@ use Rattle.aos_line.specs.Stands.{Stands, StandsSame, IsOn, places_of, started_o
 use Rattle.aos_kernel.specs.declared.activity.Next.{Next}
 use Rattle.aos_kernel.specs.declared.activity.Next.TheVariants.{Runs, Lent, WillTrap, Unwinds, Gone}
 use Rattle.aos_kernel.specs.declared.activity.Activity.{Activity}
-use Rattle.aos_kernel.specs.declared.desk.Desk.{Desk}
+use Rattle.aos_kernel.specs.declared.tables.KernelTables.{KernelTables}
 use Rattle.aos_kernel.specs.Run.{rec_of}
 use Rattle.aos_kernel.specs.Conditions.{HasRooms, IsAwaiting, IsAwaitingSo}
 
@@ -67,8 +67,8 @@ pub record IsWaiting (image : Image) (l : LockName) (wants : Wants) (kept : Acti
   pub stands : StandsAtWork image (work_at l wants) fs.frames
   pub awaits : IsAwaitingSo wants kept
 
--- `earlier` are the events before those that the desk keeps
-pub record Shows (image : Image) (earlier : List Event) (d : Desk) (st : State Memory Frames) : Type 0 where
+-- `earlier` are the events before those that the tables keep
+pub record Shows (image : Image) (earlier : List Event) (d : KernelTables) (st : State Memory Frames) : Type 0 where
   pub store : st.store ≡ memory_in d.store
   pub stands : Stands d.line st.book.line st.book.owner
   pub output : st.book.output ≡ d.output.items
@@ -84,34 +84,34 @@ pub record Shows (image : Image) (earlier : List Event) (d : Desk) (st : State M
   pub unspent : (x : ℕ) → st.book.spent ≡ None → (st.book.activity x).begun < st.book.budget
   pub room : HasRooms image d.stack
 
--- from each state that the old desk shows, the new one shows what the operation makes of it
-abbrev pub Performs : Image → (State Memory Frames → State Memory Frames) → Desk → Desk → Type 0
+-- from each state that the old tables show, the new ones show what the operation makes of it
+abbrev pub Performs : Image → (State Memory Frames → State Memory Frames) → KernelTables → KernelTables → Type 0
 Performs image operation old new =
     (earlier : List Event) (st : State Memory Frames) → Shows image earlier old st → Shows image earlier new (operation st)
 
 -- the same, where the budget hasn't been reached
-abbrev pub PerformsUnspent : Image → (State Memory Frames → State Memory Frames) → Desk → Desk → Type 0
+abbrev pub PerformsUnspent : Image → (State Memory Frames → State Memory Frames) → KernelTables → KernelTables → Type 0
 PerformsUnspent image operation old new =
     (earlier : List Event) (st : State Memory Frames) → Shows image earlier old st → st.book.spent ≡ None → Shows image earlier new (operation st)
 
 -- it shows the same states
-abbrev pub ShowsSame : Image → Desk → Desk → Type 0
+abbrev pub ShowsSame : Image → KernelTables → KernelTables → Type 0
 ShowsSame image old new = (earlier : List Event) (st : State Memory Frames) → Shows image earlier old st → Shows image earlier new st
 
 -- the activity's own part of a turn has been done, and this is left to the kernel
-abbrev pub HasTurned : Image → ℕ → Did → Desk → Desk → Type 0
+abbrev pub HasTurned : Image → ℕ → Did → KernelTables → KernelTables → Type 0
 HasTurned image a left old new =
     (earlier : List Event) (st : State Memory Frames) → Shows image earlier old st → st.book.spent ≡ None →
     let t = turn image st.store (st.frames a) in
     (left ≡ t.left) × Shows image earlier new (turned (machine image) a t st)
 
 -- the activity stands on a worker, and each one that was started is kept
-pub record HasTurn (a : ℕ) (d : Desk) : Type 0 where
+pub record HasTurn (a : ℕ) (d : KernelTables) : Type 0 where
   pub on : IsOn d.line a
   pub counted : started_of d.line ≡ length d.activities.items
 
 -- an activity's next turn is this one
-abbrev pub NextIs : ℕ → Next → Desk → Type 0
+abbrev pub NextIs : ℕ → Next → KernelTables → Type 0
 NextIs a next d = (kept : Activity) → slice_get d.activities.items a ≡ Some kept → next ≡ kept.next
 
 -- whether its frames are kept
@@ -123,11 +123,11 @@ has_frames Unwinds = true
 has_frames Gone = false
 
 -- it hasn't ended, and its frames aren't lent
-abbrev pub IsLive : ℕ → Desk → Type 0
+abbrev pub IsLive : ℕ → KernelTables → Type 0
 IsLive a d = (kept : Activity) → slice_get d.activities.items a ≡ Some kept → has_frames kept.next ≡ true
 
 -- the activity runs, and its frames stand before the work that is left to the kernel
-abbrev pub StandsBefore : Image → ℕ → Did → Desk → Type 0
+abbrev pub StandsBefore : Image → ℕ → Did → KernelTables → Type 0
 StandsBefore image a left d =
     (kept : Activity) → slice_get d.activities.items a ≡ Some kept → (Runs ≡ kept.next) × IsBefore image left (frames_in kept.frames)
 
@@ -142,11 +142,11 @@ waits_for_condition (Entrant a) = false
 waits_for_condition Free = false
 
 -- it stands before the work that is left to the kernel, in the state too
-abbrev pub IsAt : Image → ℕ → Did → Desk → State Memory Frames → Type 0
+abbrev pub IsAt : Image → ℕ → Did → KernelTables → State Memory Frames → Type 0
 IsAt image a left d st = StandsBefore image a left d × StandsAtWork image left (st.frames a).frames
 
 -- it awaits this condition
-abbrev pub AwaitsIn : (condition : ℕ) → ℕ → Desk → Type 0
+abbrev pub AwaitsIn : (condition : ℕ) → ℕ → KernelTables → Type 0
 AwaitsIn c a d = (kept : Activity) × (slice_get d.activities.items a ≡ Some kept) × IsAwaiting c kept
 
 -- the lock l, which a gave up, is b's, who is ready
@@ -160,13 +160,13 @@ goes_or_traps image b Fails st = go_past (machine image) b st
 goes_or_traps image b (Traps n) st = on_book (book.next_is b (book.WillTrap n)) st
 
 -- all is done but that b, which stands before this work, goes on
-pub record IsHanded (image : Image) (earlier : List Event) (a : ℕ) (l : LockName) (b : ℕ) (waiter : Bool) (left : Did) (new : Desk) (st : State Memory Frames) : Type 0 where
+pub record IsHanded (image : Image) (earlier : List Event) (a : ℕ) (l : LockName) (b : ℕ) (waiter : Bool) (left : Did) (new : KernelTables) (st : State Memory Frames) : Type 0 where
   pub shows : Shows image earlier new (handed a l b waiter st)
   pub at : IsAt image b left new (handed a l b waiter st)
   pub out : StandsAtNoLock b (handed a l b waiter st)
 
 -- a lock that a gave up has passed, and all is done but that the heir goes on, or traps
-abbrev pub HasHeir : Image → List Event → ℕ → LockName → Passed → Desk → State Memory Frames → Type 0
+abbrev pub HasHeir : Image → List Event → ℕ → LockName → Passed → KernelTables → State Memory Frames → Type 0
 HasHeir image earlier a l Free new st = Shows image earlier new (release (machine image) a l st)
 HasHeir image earlier a l (Entrant b) new st =
     (release (machine image) a l st ≡ go_past (machine image) b (handed a l b false st)) × IsHanded image earlier a l b false (Enter l) new st
@@ -184,8 +184,8 @@ IsPopped (Some l) old new = old ≡ new ++ l ∷ []
 abbrev pub IsEmptied : Kept → Kept → Type 0
 IsEmptied old new = (new.begun ≡ old.begun) × (frames_in new ≡ record { following = []; frames = [] })
 
--- the desk has what it had, and perhaps more room
-pub record HasSame (old new : Desk) : Type 0 where
+-- the tables have what they had, and perhaps more room
+pub record HasSame (old new : KernelTables) : Type 0 where
   pub store : new.store ≡ old.store
   pub activities : new.activities.items ≡ old.activities.items
   pub line : StandsSame old.line new.line
@@ -198,6 +198,6 @@ pub record HasSame (old new : Desk) : Type 0 where
   pub budget : new.budget ≡ old.budget
   pub spent : new.spent ≡ old.spent
 
--- the desk has handed out its events
-abbrev pub HandsOut : Desk → Desk → Type 0
+-- the tables have handed out their events
+abbrev pub HandsOut : KernelTables → KernelTables → Type 0
 HandsOut old new = (new.events.items ≡ []) × (new ≡ record old { events = new.events })

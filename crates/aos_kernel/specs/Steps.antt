@@ -6,14 +6,14 @@ use Rattle.aos_base.specs.Schedule.{choices}
 use Rattle.aos_code.specs.declared.image.Image.{Image}
 use Rattle.aos_code.specs.Memory.{Memory}
 use Rattle.aos_code.specs.Machine.{Frames, machine}
-use Rattle.aos_kernel.specs.declared.desk.Desk.{Desk}
+use Rattle.aos_kernel.specs.declared.tables.KernelTables.{KernelTables}
 use Rattle.aos_kernel.specs.declared.log.Stepped.{Stepped}
 use Rattle.aos_kernel.specs.declared.log.Stepped.TheVariants.{Turned, Dispatched, Idle, Over}
 use Rattle.aos_kernel.specs.Run.{Run, state_of, comes_to}
 use Rattle.aos_kernel.specs.Shows.{Shows}
 
--- so many steps of a worker come to what the desk shows, and no event happens in any of them
-pub record GoesQuietly (image : Image) (earlier : List Event) (w made : ℕ) (new : Desk) (st : State Memory Frames) : Type 0 where
+-- so many steps of a worker come to what the tables show, and no event happens in any of them
+pub record GoesQuietly (image : Image) (earlier : List Event) (w made : ℕ) (new : KernelTables) (st : State Memory Frames) : Type 0 where
   pub shows : Shows image earlier new (execution (machine image) (replicate made (Step w)) st)
   pub quiet : (i : ℕ) → i ≤ made → (execution (machine image) (replicate i (Step w)) st).book.events ≡ st.book.events
 

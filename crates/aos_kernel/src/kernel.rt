@@ -15,7 +15,7 @@ ghost use Rattle.aos_kernel.specs.Run.{among, state_of, events_of, traps_of, wai
 
 use crate::activity::{Activity, Next, next_of};
 use crate::conditions::stack_for;
-use crate::desk::Desk;
+use crate::tables::KernelTables;
 use crate::loans::{is_among, take_out};
 use crate::log::{Stepped, add_step};
 use crate::runs::{add_steps, in_entry};
@@ -42,7 +42,7 @@ pub struct Kernel {
     image: Arc<Image>,
     workers: u32,
     budget: u64,
-    desk: Desk,
+    tables: KernelTables,
     events: Vec<Event>,
     log: Vec<Sched>,
     lent: Vec<u32>,
@@ -75,7 +75,7 @@ impl Model for Kernel {
           lent = k.lent.items;
           loans = k.loans;
         })
-        k.desk k.events.items × HasLogRoom k.log k.lent.items };
+        k.tables k.events.items × HasLogRoom k.log k.lent.items };
 }
 
 /// The body of this number behind the others, where there is one.
@@ -112,10 +112,10 @@ fn frames_of_modules(alloc: Global, image: &Image) -> Result<Frames, NoMemory>
     Ok(frames)
 }
 
-/// The desk where nothing has happened yet.
-fn first_desk(alloc: Global, image: &Image, budget: u64) -> Result<Desk, NoMemory>
+/// The tables where nothing has happened yet.
+fn first_tables(alloc: Global, image: &Image, budget: u64) -> Result<KernelTables, NoMemory>
     requires { 1 ≤ budget }
-    ensures { IfOk result (λ desk. Shows image.now [] desk (first_state image.now budget)) }
+    ensures { IfOk result (λ tables. Shows image.now [] tables (first_state image.now budget)) }
 {
     let store = Store::new(alloc, image)?;
     let frames = frames_of_modules(alloc, image)?;
@@ -133,7 +133,7 @@ fn first_desk(alloc: Global, image: &Image, budget: u64) -> Result<Desk, NoMemor
     line.reserve()?;
     line.bear(Priority::Normal);
     let stack = stack_for(alloc, image)?;
-    Ok(Desk {
+    Ok(KernelTables {
         alloc,
         store,
         activities,
@@ -147,13 +147,13 @@ fn first_desk(alloc: Global, image: &Image, budget: u64) -> Result<Desk, NoMemor
     })
 }
 
-/// The events that the desk has told are handed out, in place of the earlier ones.
-fn hand_out(events: &mut Vec<Event>, desk: &mut Desk)
-    ensures events { events.new.items ≡ desk.old.events.items }
-    ensures desk { HandsOut desk.old desk.new }
+/// The events that the tables have told are handed out, in place of the earlier ones.
+fn hand_out(events: &mut Vec<Event>, tables: &mut KernelTables)
+    ensures events { events.new.items ≡ tables.old.events.items }
+    ensures tables { HandsOut tables.old tables.new }
 {
-    mem::swap(events, &mut desk.events);
-    desk.events.clear();
+    mem::swap(events, &mut tables.events);
+    tables.events.clear();
 }
 
 /// No event is handed out, in place of the earlier ones.
@@ -184,12 +184,12 @@ impl Kernel {
               loans = 0;
             }) }
     {
-        let desk = first_desk(alloc, &image, budget)?;
+        let tables = first_tables(alloc, &image, budget)?;
         let kernel = Kernel {
             image,
             workers,
             budget,
-            desk,
+            tables,
             events: Vec::new(alloc),
             log: Vec::new(alloc),
             lent: Vec::new(alloc),
@@ -236,28 +236,28 @@ impl Kernel {
     pub fn outcome(&self) -> Outcome
         ensures { result ≡ outcome (state_of self.now).book }
     {
-        self.desk.outcome()
+        self.tables.outcome()
     }
 
     /// What the execution has written.
     pub fn output(&self) -> &[u8]
         ensures { result.now ≡ (state_of self.now).book.output }
     {
-        &self.desk.output
+        &self.tables.output
     }
 
     /// The traps that have happened, in their order.
     pub fn traps(&self) -> &[TrapRec]
         ensures { result.now ≡ traps_of self.now }
     {
-        &self.desk.traps
+        &self.tables.traps
     }
 
     /// The activities that wait for locks, in the order of their numbers.
     pub fn waits(&self, alloc: Global) -> Result<Vec<WaitRec>, NoMemory>
         ensures { IfOk result (λ waits. waits.items ≡ waits_of self.now) }
     {
-        self.desk.waits(alloc, &self.image)
+        self.tables.waits(alloc, &self.image)
     }
 
     /// The events of the last step or tick of the log, in their order; none where the log is empty.
@@ -271,8 +271,8 @@ impl Kernel {
     pub fn spent(&self) -> Option<u32>
         ensures { result ≡ spent_of self.now }
     {
-        if let Outcome::Spent = self.desk.outcome() {
-            self.desk.spent
+        if let Outcome::Spent = self.tables.outcome() {
+            self.tables.spent
         } else {
             None
         }
@@ -292,22 +292,22 @@ impl Kernel {
             happens (machine self.old.image) (Step w) (state_of self.old)) }
         ensures err { OnErr result (self.new ≡ self.old) }
     {
-        let Outcome::Going = self.desk.outcome() else {
+        let Outcome::Going = self.tables.outcome() else {
             return Ok(Stepped::Over);
         };
-        match self.desk.on(w) {
+        match self.tables.on(w) {
             Some(activity) => {
                 self.log.reserve(1 + self.lent.len())?;
-                self.desk.turn(&self.image, activity)?;
-                hand_out(&mut self.events, &mut self.desk);
+                self.tables.turn(&self.image, activity)?;
+                hand_out(&mut self.events, &mut self.tables);
                 add_step(&mut self.log, w);
                 Ok(Stepped::Turned)
             }
             None => {
                 self.log.reserve(1 + self.lent.len())?;
-                match self.desk.dispatch(w) {
+                match self.tables.dispatch(w) {
                     Some(_) => {
-                        hand_out(&mut self.events, &mut self.desk);
+                        hand_out(&mut self.events, &mut self.tables);
                         add_step(&mut self.log, w);
                         Ok(Stepped::Dispatched)
                     }
@@ -327,14 +327,14 @@ impl Kernel {
         ensures same { self.new ≡ record self.old { log = self.new.log } }
         ensures err { OnErr result (self.new ≡ self.old) }
     {
-        let Outcome::Going = self.desk.outcome() else {
+        let Outcome::Going = self.tables.outcome() else {
             return Ok(0);
         };
-        let Some(activity) = self.desk.on(w) else {
+        let Some(activity) = self.tables.on(w) else {
             return Ok(0);
         };
         self.log.reserve(1 + self.lent.len())?;
-        let made = self.desk.run_on(&self.image, activity, in_entry(most));
+        let made = self.tables.run_on(&self.image, activity, in_entry(most));
         if made == 0 {
             return Ok(0);
         }
@@ -357,14 +357,14 @@ impl Kernel {
             happens (machine self.old.image) (Tick w) (state_of self.old)) }
         ensures err { OnErr result (self.new ≡ self.old) }
     {
-        let Outcome::Going = self.desk.outcome() else {
+        let Outcome::Going = self.tables.outcome() else {
             return Ok(false);
         };
-        match self.desk.on(w) {
+        match self.tables.on(w) {
             Some(activity) => {
                 self.log.reserve(1 + self.lent.len())?;
-                self.desk.ready(activity);
-                hand_out(&mut self.events, &mut self.desk);
+                self.tables.ready(activity);
+                hand_out(&mut self.events, &mut self.tables);
                 self.log.push_reserved(Sched::Tick(w));
                 Ok(true)
             }
@@ -406,10 +406,10 @@ impl Kernel {
         if is_among(w, &self.lent) {
             return Ok(None);
         }
-        let Outcome::Going = self.desk.outcome() else {
+        let Outcome::Going = self.tables.outcome() else {
             return Ok(None);
         };
-        let Some(activity) = self.desk.on(w) else {
+        let Some(activity) = self.tables.on(w) else {
             return Ok(None);
         };
         let many = self.lent.len();
@@ -417,8 +417,8 @@ impl Kernel {
         self.log.reserve(room)?;
         self.lent.reserve(1)?;
         let image = self.image.clone()?;
-        match next_of(&self.desk.activities, activity) {
-            Next::Runs => match self.desk.take_frames(&self.image, activity)? {
+        match next_of(&self.tables.activities, activity) {
+            Next::Runs => match self.tables.take_frames(&self.image, activity)? {
                 Some(frames) => {
                     self.lent.push_reserved(w);
                     Ok(Some(Loan::new(image, self.budget, frames)))
@@ -447,14 +447,14 @@ impl Kernel {
             execution (machine self.old.image) (replicate loan.turns (Step w)) (state_of self.old) }
     {
         take_out(w, &mut self.lent);
-        let Outcome::Going = self.desk.outcome() else {
+        let Outcome::Going = self.tables.outcome() else {
             return Stepped::Over;
         };
-        let Some(activity) = self.desk.on(w) else {
+        let Some(activity) = self.tables.on(w) else {
             return Stepped::Over;
         };
         let turns = loan.turns();
-        self.desk.put_frames(activity, loan.into_frames());
+        self.tables.put_frames(activity, loan.into_frames());
         if turns == 0 {
             return Stepped::Idle;
         }

@@ -4,7 +4,7 @@
 mod activity;
 mod births;
 mod conditions;
-mod desk;
+mod tables;
 pub mod kernel;
 mod laws;
 mod loans;

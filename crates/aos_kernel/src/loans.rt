@@ -10,14 +10,14 @@ ghost use Rattle.aos_kernel.specs.Shows.{Shows, ShowsSame, NextIs, HasTurn};
 ghost use Rattle.aos_kernel.specs.Lends.{GoesOut, IsShared, ComeBack};
 
 use crate::activity::Next;
-use crate::desk::{Desk, spent_after};
+use crate::tables::{KernelTables, spent_after};
 use aos_base::NoMemory;
 use aos_code::Image;
 use aos_private::is_next_private;
 use aos_store::Frames;
 use std::mem;
 
-impl Desk {
+impl KernelTables {
     /// The frames of an activity that runs go out where its next turn is private; of them only the count of statements is left.
     /// Else only silent work is done.
     pub fn take_frames(&mut self, image: &Image, activity: u32) -> Result<Option<Frames>, NoMemory>

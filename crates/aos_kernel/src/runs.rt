@@ -11,12 +11,12 @@ ghost use Rattle.aos_kernel.specs.Shows.{Shows, HasTurn};
 ghost use Rattle.aos_kernel.specs.Steps.{GoesQuietly};
 
 use crate::activity::{Next, next_of};
-use crate::desk::{Desk, spent_after};
+use crate::tables::{KernelTables, spent_after};
 use aos_base::{MAX_STEPS, Sched};
 use aos_code::Image;
 use aos_cpu::many;
 
-impl Desk {
+impl KernelTables {
     /// Turns in place of an activity, so many at most, one behind another: how many have been made; none, where it doesn't run. Each
     /// is a step of its worker. Behind them only silent work is done, and no memory is taken.
     pub fn run_on(&mut self, image: &Image, activity: u32, most: u32) -> u32

@@ -10,7 +10,7 @@ use Rattle.aos_types.specs.Contents.{contents, with_parts, of_base}
 use Rattle.aos_types.specs.Chain.{NoneContainsItself}
 use Rattle.aos_types.proofs.Ranks.{ranked}
 use Rattle.aos_types.proofs.Tables.{by_parts}
-use Rattle.aos_layout.specs.Part.{width, variable, fields}
+use Rattle.aos_layout.specs.TypeParts.{width, variable, fields}
 use Rattle.aos_layout.proofs.Joins.{join_assoc, row_ends}
 
 -- each number below that of the parts leads to one

@@ -16,7 +16,7 @@ use Rattle.aos_layout.specs.Frame.{IsThere}
 use Rattle.aos_dispatch.specs.declared.routines.Routine.{Routine as CodeRoutine}
 use Rattle.aos_dispatch.specs.Routines.{IsTypedBy, seen_routine, seen_routines}
 use Rattle.aos_dispatch.proofs.Listed.{routines_typed}
-use Rattle.aos_laid.specs.Handed.{AreHandedThere, handed_by}
+use Rattle.aos_laid.specs.Parameters.{AreHandedThere, handed_by}
 
 -- one number more
 pub numbers_more : (n i : ℕ) (kinds : List Kind) → i < n → (kinds ++ N ∷ []) ++ replicate (n - (i + 1)) N ≡ kinds ++ replicate (n - i) N

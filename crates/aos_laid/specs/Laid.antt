@@ -13,7 +13,7 @@ use Rattle.aos_layout.specs.declared.block.BlockShape.{BlockShape as CodeBlockSh
 use Rattle.aos_layout.specs.Layout.{leaves, variable_cells, block}
 use Rattle.aos_layout.specs.Block.{BlockShape, block_shape}
 use Rattle.aos_layout.specs.Seen.{seen_block}
-use Rattle.aos_laid.specs.Handed.{AreHandedThere}
+use Rattle.aos_laid.specs.Parameters.{AreHandedThere}
 
 -- these are the cells of each module
 abbrev pub AreBlocks : Program → List CodeBlockShape → Type 0

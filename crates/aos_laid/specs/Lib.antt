@@ -1,2 +1,2 @@
-pub mod Handed
+pub mod Parameters
 pub mod Laid

@@ -16,7 +16,7 @@ ghost use Rattle.aos_typed.specs.Routines.{parameters_at};
 ghost use Rattle.aos_typed.specs.Source.{module_shape};
 ghost use Rattle.aos_laid.specs.Laid.{AreBlocks, AreNarrow, cell_in, variables_in, module_kinds};
 
-use crate::handed::taken_by;
+use crate::parameters::taken_by;
 use aos_base::{NoMemory, Priority};
 use aos_code::Kind;
 use aos_dispatch::{Dispatch, type_in};

@@ -1,7 +1,7 @@
 //! A well-typed program laid out: the cells of its modules and of its procedures' frames, beside what is dispatched in it.
 #![tactic(auto)]
 
-mod handed;
+mod parameters;
 mod laid;
 
 pub use laid::Laid;

@@ -16,7 +16,7 @@ use Rattle.aos_types.specs.Shape.{Shape, One, Nothing, Pair, join}
 use Rattle.aos_types.specs.Table.{row_of as type_row, is_open, is_record, is_scalar}
 use Rattle.aos_types.specs.World.{World, read, shape_at}
 use Rattle.aos_typed.specs.declared.tree.TType.TheVariants.{Char as CharType}
-use Rattle.aos_typed.specs.Handed.{Part, copied, hand, handed, head, open_part, own_part, scalar, whole}
+use Rattle.aos_typed.specs.CallFrame.{Part, copied, hand, handed, head, open_part, own_part, scalar, whole}
 use Rattle.aos_typed.specs.Numbers.{id_of}
 use Rattle.aos_typed.specs.Open.{open_dimensions, open_element}
 use Rattle.aos_typed.specs.Program.{Parameter, Procedure, Program}

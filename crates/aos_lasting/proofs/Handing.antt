@@ -14,7 +14,7 @@ use Rattle.aos_concurrency.specs.Regions.{Outside, times}
 use Rattle.aos_concurrency.specs.Sound.{Sound}
 use Rattle.aos_concurrency.proofs.Begin.{start_sound}
 use Rattle.aos_concurrency.proofs.Changes.{execution_tidy}
-use Rattle.aos_concurrency.proofs.Handed.{hands_over}
+use Rattle.aos_concurrency.proofs.Heirs.{hands_over}
 use Rattle.aos_concurrency.proofs.Itself.{sound_fitting}
 use Rattle.aos_concurrency.proofs.Steps.{execution_sound, sound_always}
 use Rattle.aos_typed.specs.Program.{Module, Program}

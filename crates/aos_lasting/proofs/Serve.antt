@@ -9,7 +9,7 @@ use Rattle.aos_types.specs.Table.{row_of as type_row, is_open, is_record, is_sca
 use Rattle.aos_types.specs.World.{World}
 use Rattle.aos_typed.specs.declared.tree.TType.{TType}
 use Rattle.aos_typed.specs.declared.tree.TType.TheVariants.{Boolean}
-use Rattle.aos_typed.specs.Handed.{content_at, copied, hand, handed, head, open_part, own_part, scalar, whole}
+use Rattle.aos_typed.specs.CallFrame.{content_at, copied, hand, handed, head, open_part, own_part, scalar, whole}
 use Rattle.aos_typed.specs.Numbers.{id_of}
 use Rattle.aos_typed.specs.Open.{open_dimensions, open_element}
 use Rattle.aos_typed.specs.Program.{Parameter, Procedure, Program, Repeat}

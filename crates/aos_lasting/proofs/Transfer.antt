@@ -11,7 +11,7 @@ use Rattle.aos_concurrency.specs.Handover.{GuardsBy, HandsOver, HasLock, IsGiven
 use Rattle.aos_concurrency.specs.Regions.{Outside}
 use Rattle.aos_concurrency.specs.Sound.{Sound}
 use Rattle.aos_concurrency.specs.Traps.{turn_of}
-use Rattle.aos_concurrency.proofs.Handed.{hands_over}
+use Rattle.aos_concurrency.proofs.Heirs.{hands_over}
 use Rattle.aos_concurrency.proofs.Matching.{execution_matches, happens_matches}
 use Rattle.aos_concurrency.proofs.LocalStates.{runs_there}
 use Rattle.aos_concurrency.proofs.Steps.{sound_always}

@@ -10,7 +10,7 @@ use Rattle.aos_types.specs.Table.{row_of, is_object, is_open}
 use Rattle.aos_typed.specs.declared.tree.TType.{TType}
 use Rattle.aos_typed.specs.Fields.{declarer}
 use Rattle.aos_typed.specs.Formals.{HasFormals, pattern_of}
-use Rattle.aos_typed.specs.Handed.{head}
+use Rattle.aos_typed.specs.CallFrame.{head}
 use Rattle.aos_typed.specs.Numbers.{id_of, id_of_made}
 use Rattle.aos_typed.specs.Open.{open_dimensions}
 use Rattle.aos_typed.specs.Program.{Parameter, Procedure, Program}

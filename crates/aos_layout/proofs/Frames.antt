@@ -11,7 +11,7 @@ use Rattle.aos_types.specs.Shape.{Shape, One, Nothing, Pair, size, row, repeated
 use Rattle.aos_code.specs.declared.instr.Kind.{Kind}
 use Rattle.aos_code.specs.declared.instr.Kind.TheVariants.{N}
 use Rattle.aos_layout.specs.Layout.{leaves, shaped, kind_of, kinds, type_kinds, cells, text_cells}
-use Rattle.aos_layout.specs.Part.{variable}
+use Rattle.aos_layout.specs.TypeParts.{variable}
 use Rattle.aos_code.specs.declared.image.ParamKind.TheVariants.{Whole, Open}
 use Rattle.aos_typed.specs.Program.{Parameter}
 use Rattle.aos_typed.specs.Numbers.{id_of}

@@ -3,7 +3,7 @@ use Rattle.std.proofs.Common.{◌≡◌, ℕ, zero, suc, ◌+◌, ◌*◌, ◌<�
 use Rattle.std.proofs.Math.Nat.{suc-mul}
 use Rattle.aos_types.specs.Shape as shape
 use Rattle.aos_types.specs.Shape.{Shape, One, Nothing, Pair, size, join, part, before}
-use Rattle.aos_layout.specs.Part.{width}
+use Rattle.aos_layout.specs.TypeParts.{width}
 
 pub width_repeated : {S : Type 0} (n : ℕ) (s : Shape S) → width (shape.repeated n s) ≡ n
 width_repeated zero s = refl

@@ -19,7 +19,7 @@ use Rattle.aos_code.specs.declared.instr.Kind.{Kind}
 use Rattle.aos_code.specs.declared.instr.Kind.TheVariants.{R}
 use Rattle.aos_layout.specs.declared.work.Task.{Task}
 use Rattle.aos_layout.specs.Layout.{leaves, kind_in, kind_of, kinds}
-use Rattle.aos_layout.specs.Part.{variable, fields}
+use Rattle.aos_layout.specs.TypeParts.{variable, fields}
 use Rattle.aos_layout.specs.Work.{variable_kinds, field_kinds, base_kinds, again, fields_of, done, all_done, sum_of, steps_by, steps, variable_steps, field_steps, task_steps, all_steps}
 
 -- one more task

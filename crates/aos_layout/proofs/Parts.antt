@@ -11,7 +11,7 @@ use Rattle.aos_types.specs.Contents.{contents, with_parts, of_base, levels}
 use Rattle.aos_types.specs.Chain.{IsRanked, NoneContainsItself}
 use Rattle.aos_types.proofs.Ranks.{ranked}
 use Rattle.aos_types.proofs.Tables.{base_part, by_parts}
-use Rattle.aos_layout.specs.Part.{width, variable, fields, own_by, own, front, parts}
+use Rattle.aos_layout.specs.TypeParts.{width, variable, fields, own_by, own, front, parts}
 use Rattle.aos_layout.proofs.Joins.{width_row, width_repeated, part_repeated, before_repeated, width_join, size_join, join_assoc, row_ends, repeated_ends, part_first, before_first, part_second, before_second}
 
 pub width_fields : (rows : List TypeRow) (ts : List TypeId) → width (fields rows ts) ≡ length ts

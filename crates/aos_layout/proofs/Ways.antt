@@ -8,7 +8,7 @@ use Rattle.aos_types.specs.Table.{row_of, is_object}
 use Rattle.aos_types.specs.Shape.{Shape, One, size, part, before, inside, offset, number_of}
 use Rattle.aos_types.specs.Contents.{contents}
 use Rattle.aos_types.proofs.Offsets.{inside_within}
-use Rattle.aos_layout.specs.Part.{variable}
+use Rattle.aos_layout.specs.TypeParts.{variable}
 use Rattle.aos_layout.proofs.Joins.{before_within}
 
 is_there : {A : Type 0} (o : Option A) → is_some o ≡ true → (m : A) × (o ≡ Some m)

@@ -1,6 +1,6 @@
 pub mod Layout
 pub mod Frame
-pub mod Part
+pub mod TypeParts
 pub mod Work
 pub mod Cells
 pub mod Seen

@@ -12,7 +12,7 @@ use Rattle.aos_layout.specs.declared.work.Task.{Task}
 use Rattle.aos_layout.specs.declared.work.Task.TheVariants.{Contents, Fields, Again}
 use Rattle.aos_layout.specs.declared.work.Work.{Work}
 use Rattle.aos_layout.specs.Layout.{leaves, kind_of, kinds}
-use Rattle.aos_layout.specs.Part.{variable}
+use Rattle.aos_layout.specs.TypeParts.{variable}
 
 -- the kinds of a variable, an element or a field of a type
 abbrev pub variable_kinds : List TypeRow → TypeId → List Kind

@@ -10,7 +10,7 @@ ghost use Rattle.aos_layout.specs.Cells as cells_of;
 ghost use Rattle.aos_layout.specs.Frame as frame;
 ghost use Rattle.aos_layout.specs.Layout as layout;
 
-use crate::part::row_of;
+use crate::type_parts::row_of;
 use crate::work::{is_object, kinds_of};
 use aos_base::Width;
 use aos_code::Kind;

@@ -13,7 +13,7 @@ ghost use Rattle.aos_layout.specs.Layout as layout;
 ghost use Rattle.aos_layout.specs.Seen.{seen_frame};
 
 use crate::cells::{Cells, id_of, is_open};
-use crate::part::{row_of, variable_scalars};
+use crate::type_parts::{row_of, variable_scalars};
 use crate::work::kind_of;
 use aos_base::NoMemory;
 use aos_code::{Kind, ParamKind, ProcShape};

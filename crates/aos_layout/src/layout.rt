@@ -10,7 +10,7 @@ ghost use Rattle.aos_layout.specs.Layout as layout;
 ghost use Rattle.aos_layout.specs.Marks.{AreMade};
 
 use crate::cells::{PREDECLARED_TYPES, is_open, push_variable};
-use crate::part::{base_of, part_of};
+use crate::type_parts::{base_of, part_of};
 use crate::work::kinds_of;
 use aos_base::NoMemory;
 use aos_code::Kind;

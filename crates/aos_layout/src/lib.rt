@@ -7,7 +7,7 @@ mod frame;
 mod laws;
 mod layout;
 mod made;
-mod part;
+mod type_parts;
 mod work;
 
 pub use block::{BlockShape, block_shape};
@@ -16,5 +16,5 @@ pub use frame::{FrameShape, frame_shape, parameter_kinds};
 pub use laws::{law_of_blocks, law_of_frames, law_of_records};
 pub use layout::{base_number, made_kinds, offset, shape};
 pub use made::made_types;
-pub use part::{base_of, row_of, scalars, variable_scalars, width};
+pub use type_parts::{base_of, row_of, scalars, variable_scalars, width};
 pub use work::{object_base, object_kinds};

@@ -5,7 +5,7 @@ ghost use Rattle.aos_types.specs.Table as table;
 ghost use Rattle.aos_typed.specs.Open.{first_same as first_same_of};
 ghost use Rattle.aos_layout.specs.Marks as marks_of;
 
-use crate::part::row_of;
+use crate::type_parts::row_of;
 use crate::work::is_object;
 use aos_base::NoMemory;
 use aos_types::{TypeId, TypeRow, Types};

@@ -8,7 +8,7 @@ ghost use Rattle.aos_types.specs.Table as table;
 ghost use Rattle.aos_layout.specs.Layout as layout;
 ghost use Rattle.aos_layout.specs.Work as work;
 
-use crate::part::{base_of, is_empty, row_of};
+use crate::type_parts::{base_of, is_empty, row_of};
 use aos_base::NoMemory;
 use aos_code::Kind;
 use aos_types::{Basic, TypeId, TypeRow, Types};

@@ -16,7 +16,7 @@ use Rattle.aos_typed.specs.Numbers.{id_of}
 use Rattle.aos_typed.specs.Program.{Parameter}
 use Rattle.aos_layout.specs.Layout.{kind_of, cells, shaped}
 use Rattle.aos_layout.specs.Frame.{open_cells, open_dimensions, parameter_cells}
-use Rattle.aos_layout.specs.Part.{variable}
+use Rattle.aos_layout.specs.TypeParts.{variable}
 use Rattle.aos_layout.proofs.Frames.{size_shaped}
 use Rattle.aos_dispatch.specs.Dispatch.{there_in}
 use Rattle.aos_dispatch.proofs.Lists.{next_of}

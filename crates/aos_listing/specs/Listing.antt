@@ -16,7 +16,7 @@ use Rattle.aos_typed.specs.Numbers.{id_of}
 use Rattle.aos_typed.specs.Program.{Variable, Procedure, Method, ObjectType, Module, Program}
 use Rattle.aos_layout.specs.Layout.{cells, variable_cells}
 use Rattle.aos_layout.specs.Frame.{frame}
-use Rattle.aos_layout.specs.Part.{front}
+use Rattle.aos_layout.specs.TypeParts.{front}
 
 abbrev pub line : (word : ℕ) → (name : List ℕ) → (at cells : ℕ) → Line
 line word name at cells = record { word = word; name = name; at = at; cells = cells }

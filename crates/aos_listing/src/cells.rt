@@ -11,7 +11,7 @@ ghost use Rattle.aos_typed.specs.Seen.{seen_parameter, seen_procedure, seen_vari
 ghost use Rattle.aos_typed.specs.WellTyped.{AreTypes};
 ghost use Rattle.aos_layout.specs.Frame as frame;
 ghost use Rattle.aos_layout.specs.Layout as layout;
-ghost use Rattle.aos_layout.specs.Part as parts;
+ghost use Rattle.aos_layout.specs.TypeParts as parts;
 ghost use Rattle.aos_listing.specs.Listing as listing;
 
 use aos_dispatch::type_in;

@@ -1,4 +1,4 @@
-pub mod Handed
+pub mod KeptArgument
 pub mod Kept
 pub mod KeptCallee
 pub mod Looked

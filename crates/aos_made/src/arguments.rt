@@ -33,7 +33,7 @@ impl Model for MadeArgument {
 
     ghost coded = { Prim.hlevel (codes, tree.the_row.coded) };
 
-    ghost use Rattle.aos_made.specs.Handed.{argument_of};
+    ghost use Rattle.aos_made.specs.KeptArgument.{argument_of};
 
     ghost view = { λ a. argument_of a.kept };
 }

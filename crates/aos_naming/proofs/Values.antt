@@ -14,7 +14,7 @@ use Rattle.aos_types.specs.Table.{row_of as type_row, is_open, is_record, is_sca
 use Rattle.aos_types.specs.Shape.{Shape, One, Nothing, Pair}
 use Rattle.aos_types.specs.Content.{Content, Scalar, Empty, Row, element, with_element, found, placed, overlay, cut, first_content}
 use Rattle.aos_types.specs.World.{read}
-use Rattle.aos_typed.specs.Handed.{Part, Handed, content_row, head, scalar, or_empty, open_part, content_at, whole, own_part, copied, handed, hand}
+use Rattle.aos_typed.specs.CallFrame.{Part, Handed, content_row, head, scalar, or_empty, open_part, content_at, whole, own_part, copied, handed, hand}
 use Rattle.aos_typed.specs.Numbers.{id_of}
 use Rattle.aos_typed.specs.Open.{open_dimensions, open_element}
 use Rattle.aos_typed.specs.Program.{Parameter, Variable as TypedVariable, Program}

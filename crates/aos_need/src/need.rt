@@ -4,11 +4,11 @@ ghost use Rattle.std.specs.Prelude.{◌≡◌, ◌+◌, ◌≤◌, suc, map, max
 ghost use Rattle.aos_typed.specs.Seen.{seen_place, seen_rows, seen_argument, seen_list, seen_callee, seen_expr, seen_call, seen_stat, seen_stats, seen_else, arms_of, cases_of};
 ghost use Rattle.aos_typed.specs.Program.{Arguments};
 ghost use Rattle.aos_dispatch.specs.Sizes.{place_size, rows_size, callee_size, value_size, front_size, rest_size};
-ghost use Rattle.aos_need.specs.Fronts.{around_need, whole_need};
-ghost use Rattle.aos_need.specs.Fronts as fronts;
+ghost use Rattle.aos_need.specs.Prefixes.{around_need, whole_need};
+ghost use Rattle.aos_need.specs.Prefixes as prefixes;
 ghost use Rattle.aos_sim.specs.Need as need_of;
 
-use aos_dispatch::{Front, after, dimensions, operands};
+use aos_dispatch::{Prefix, after, dimensions, operands};
 use aos_typed::{
     Change, OutCall, TArgument, TArm, TCallee, TCase, TElse, TExpr, TPlace, TRows, TStat,
 };
@@ -26,7 +26,7 @@ fn above(others: u32, need: u32) -> Result<u32, AllocError>
 
 // How many operands the last instructions of a designator need, and what stands before these: both together need as many as it does.
 #[cycle(value_need)]
-fn place_end<'b>(place: &'b TPlace) -> Result<(u32, Option<Front<'b>>), AllocError>
+fn place_end<'b>(place: &'b TPlace) -> Result<(u32, Option<Prefix<'b>>), AllocError>
     ensures need { IfOk result (λ r. whole_need r ≡ need_of.place_need (seen_place place.now)) }
     ensures less { IfOk result (λ r. rest_size r.1 ≤ place_size (seen_place place.now)) }
 {
@@ -34,40 +34,40 @@ fn place_end<'b>(place: &'b TPlace) -> Result<(u32, Option<Front<'b>>), AllocErr
         TPlace::ModuleVar(_, _) => Ok((1, None)),
         TPlace::Local(_) => Ok((1, None)),
         TPlace::Passed(_) => Ok((1, None)),
-        TPlace::Of(rows) => Ok((0, Some(Front::Rows(rows)))),
-        TPlace::Deref(object, _) => Ok((0, Some(Front::Value(object)))),
-        TPlace::Typed(whole, _) => Ok((0, Some(Front::Place(whole)))),
-        TPlace::Guarded(whole, _) => Ok((0, Some(Front::Place(whole)))),
-        TPlace::Field(whole, _, _) => Ok((0, Some(Front::Place(whole)))),
-        TPlace::Index(whole, _, _, index) => both_end(Front::Place(whole), 1, Front::Value(index)),
+        TPlace::Of(rows) => Ok((0, Some(Prefix::Rows(rows)))),
+        TPlace::Deref(object, _) => Ok((0, Some(Prefix::Value(object)))),
+        TPlace::Typed(whole, _) => Ok((0, Some(Prefix::Place(whole)))),
+        TPlace::Guarded(whole, _) => Ok((0, Some(Prefix::Place(whole)))),
+        TPlace::Field(whole, _, _) => Ok((0, Some(Prefix::Place(whole)))),
+        TPlace::Index(whole, _, _, index) => both_end(Prefix::Place(whole), 1, Prefix::Value(index)),
     }
 }
 
 // An array: the lengths of its dimensions lie above its place.
 #[cycle(value_need)]
-fn rows_end<'b>(rows: &'b TRows) -> Result<(u32, Option<Front<'b>>), AllocError>
+fn rows_end<'b>(rows: &'b TRows) -> Result<(u32, Option<Prefix<'b>>), AllocError>
     ensures need { IfOk result (λ r. whole_need r ≡ need_of.rows_need (seen_rows rows.now)) }
     ensures less { IfOk result (λ r. rest_size r.1 ≤ rows_size (seen_rows rows.now)) }
 {
     match rows {
         TRows::Known(place, lengths) => {
             let need = after(1, lengths.len())?;
-            Ok((need, Some(Front::Place(place))))
+            Ok((need, Some(Prefix::Place(place))))
         }
         TRows::Opened(_, count) => Ok((above(1, *count)?, None)),
         TRows::Row(whole, _, index) => {
             let below = above(1, dimensions(whole)?)?;
-            let need = above(below, front_need(Front::Value(index))?)?;
-            Ok((need, Some(Front::Rows(whole))))
+            let need = above(below, front_need(Prefix::Value(index))?)?;
+            Ok((need, Some(Prefix::Rows(whole))))
         }
         TRows::Spread(object, count) => {
             let need = above(1, *count)?;
-            Ok((need, Some(Front::Value(object))))
+            Ok((need, Some(Prefix::Value(object))))
         }
         TRows::Longer(whole, lengths) => {
             let below = above(1, dimensions(whole)?)?;
             let need = after(below, lengths.len())?;
-            Ok((need, Some(Front::Rows(whole))))
+            Ok((need, Some(Prefix::Rows(whole))))
         }
     }
 }
@@ -80,16 +80,16 @@ fn argument_need(argument: &TArgument, behind: u32) -> Result<u32, AllocError>
 {
     match argument {
         TArgument::Scalar(value) => {
-            let own = front_need(Front::Value(value))?;
+            let own = front_need(Prefix::Value(value))?;
             Ok(own.max(above(1, behind)?))
         }
         TArgument::Whole(place) => {
-            let own = front_need(Front::Place(place))?;
+            let own = front_need(Prefix::Place(place))?;
             Ok(own.max(above(1, behind)?))
         }
         TArgument::Opening(rows) => {
             let below = above(1, dimensions(rows)?)?;
-            let own = front_need(Front::Rows(rows))?;
+            let own = front_need(Prefix::Rows(rows))?;
             Ok(own.max(above(below, behind)?))
         }
     }
@@ -123,15 +123,15 @@ fn receivers(callee: &TCallee) -> u32
 }
 
 // What something is called on, which is found before all that it is handed.
-fn receiver_end<'b>(callee: &'b TCallee) -> (u32, Option<Front<'b>>)
+fn receiver_end<'b>(callee: &'b TCallee) -> (u32, Option<Prefix<'b>>)
     ensures need { whole_need result ≡ need_of.receiver_need (seen_callee callee.now) }
     ensures less { rest_size result.1 ≤ suc (callee_size (seen_callee callee.now)) }
 {
     match callee {
         TCallee::Plain(_, _) => (0, None),
-        TCallee::Dispatched(object, _, _) => (0, Some(Front::Value(object))),
+        TCallee::Dispatched(object, _, _) => (0, Some(Prefix::Value(object))),
         TCallee::Upper(_, _) => (1, None),
-        TCallee::Through(value, _) => (0, Some(Front::Value(value))),
+        TCallee::Through(value, _) => (0, Some(Prefix::Value(value))),
     }
 }
 
@@ -141,9 +141,9 @@ fn call_end<'b>(
     least: u32,
     callee: &'b TCallee,
     arguments: &[TArgument],
-) -> Result<(u32, Option<Front<'b>>), AllocError>
+) -> Result<(u32, Option<Prefix<'b>>), AllocError>
     ensures need { IfOk result (λ r. whole_need r ≡
-        max least (fronts.call_need (seen_callee callee.now) (seen_list arguments.now))) }
+        max least (prefixes.call_need (seen_callee callee.now) (seen_list arguments.now))) }
     ensures less { IfOk result (λ r. rest_size r.1 ≤ suc (callee_size (seen_callee callee.now))) }
 {
     let handed = above(receivers(callee), arguments_need(arguments)?)?;
@@ -154,12 +154,12 @@ fn call_end<'b>(
 // What a first part needs, and a second one above so many operands.
 #[cycle(value_need)]
 fn both_end<'b>(
-    first: Front<'b>,
+    first: Prefix<'b>,
     below: u32,
-    second: Front<'_>,
-) -> Result<(u32, Option<Front<'b>>), AllocError>
+    second: Prefix<'_>,
+) -> Result<(u32, Option<Prefix<'b>>), AllocError>
     ensures need { IfOk result (λ r. whole_need r ≡
-        max (fronts.front_need first.entry) (below + fronts.front_need second.entry)) }
+        max (prefixes.front_need first.entry) (below + prefixes.front_need second.entry)) }
     ensures less { IfOk result (λ r.
         rest_size r.1 ≤ suc (front_size first.entry + front_size second.entry)) }
 {
@@ -168,57 +168,57 @@ fn both_end<'b>(
 }
 
 #[cycle(value_need)]
-fn value_end<'b>(value: &'b TExpr) -> Result<(u32, Option<Front<'b>>), AllocError>
+fn value_end<'b>(value: &'b TExpr) -> Result<(u32, Option<Prefix<'b>>), AllocError>
     ensures need { IfOk result (λ r. whole_need r ≡ need_of.value_need (seen_expr value.now)) }
     ensures less { IfOk result (λ r. rest_size r.1 ≤ value_size (seen_expr value.now)) }
 {
     match value {
         TExpr::Lit(_) => Ok((1, None)),
         TExpr::SelfRef => Ok((1, None)),
-        TExpr::Read(_, place) => Ok((0, Some(Front::Place(place)))),
-        TExpr::Len(rows, _) => Ok((0, Some(Front::Rows(rows)))),
-        TExpr::LenBehind(rows, _) => Ok((0, Some(Front::Rows(rows)))),
+        TExpr::Read(_, place) => Ok((0, Some(Prefix::Place(place)))),
+        TExpr::Len(rows, _) => Ok((0, Some(Prefix::Rows(rows)))),
+        TExpr::LenBehind(rows, _) => Ok((0, Some(Prefix::Rows(rows)))),
         TExpr::Function(callee, arguments) => call_end(1, callee, arguments),
-        TExpr::CompareTexts(_, left, right) => both_end(Front::Rows(left), 2, Front::Rows(right)),
-        TExpr::Unary(_, operand) => Ok((0, Some(Front::Value(operand)))),
-        TExpr::Binary(_, left, right) => both_end(Front::Value(left), 1, Front::Value(right)),
+        TExpr::CompareTexts(_, left, right) => both_end(Prefix::Rows(left), 2, Prefix::Rows(right)),
+        TExpr::Unary(_, operand) => Ok((0, Some(Prefix::Value(operand)))),
+        TExpr::Binary(_, left, right) => both_end(Prefix::Value(left), 1, Prefix::Value(right)),
         TExpr::And(left, right) => {
-            let need = front_need(Front::Value(right))?;
-            Ok((need, Some(Front::Value(left))))
+            let need = front_need(Prefix::Value(right))?;
+            Ok((need, Some(Prefix::Value(left))))
         }
         TExpr::Or(left, right) => {
-            let need = front_need(Front::Value(right))?;
-            Ok((need, Some(Front::Value(left))))
+            let need = front_need(Prefix::Value(right))?;
+            Ok((need, Some(Prefix::Value(left))))
         }
-        TExpr::Element(operand) => Ok((2, Some(Front::Value(operand)))),
-        TExpr::Ord(operand) => Ok((0, Some(Front::Value(operand)))),
-        TExpr::Chr(operand) => Ok((0, Some(Front::Value(operand)))),
-        TExpr::Same(left, right) => both_end(Front::Value(left), 1, Front::Value(right)),
-        TExpr::Is(operand, _) => Ok((0, Some(Front::Value(operand)))),
-        TExpr::IsRecord(place, _) => Ok((0, Some(Front::Place(place)))),
-        TExpr::Guard(operand, _) => Ok((0, Some(Front::Value(operand)))),
+        TExpr::Element(operand) => Ok((2, Some(Prefix::Value(operand)))),
+        TExpr::Ord(operand) => Ok((0, Some(Prefix::Value(operand)))),
+        TExpr::Chr(operand) => Ok((0, Some(Prefix::Value(operand)))),
+        TExpr::Same(left, right) => both_end(Prefix::Value(left), 1, Prefix::Value(right)),
+        TExpr::Is(operand, _) => Ok((0, Some(Prefix::Value(operand)))),
+        TExpr::IsRecord(place, _) => Ok((0, Some(Prefix::Place(place)))),
+        TExpr::Guard(operand, _) => Ok((0, Some(Prefix::Value(operand)))),
         TExpr::ProcedureOf(_, _) => Ok((1, None)),
-        TExpr::MethodOf(operand, _, _) => Ok((0, Some(Front::Value(operand)))),
-        TExpr::SameProcedure(left, right) => both_end(Front::Value(left), 1, Front::Value(right)),
+        TExpr::MethodOf(operand, _, _) => Ok((0, Some(Prefix::Value(operand)))),
+        TExpr::SameProcedure(left, right) => both_end(Prefix::Value(left), 1, Prefix::Value(right)),
     }
 }
 
 #[cycle(value_need)]
-fn front_end<'b>(front: Front<'b>) -> Result<(u32, Option<Front<'b>>), AllocError>
-    ensures need { IfOk result (λ r. whole_need r ≡ fronts.front_need front.entry) }
+fn front_end<'b>(front: Prefix<'b>) -> Result<(u32, Option<Prefix<'b>>), AllocError>
+    ensures need { IfOk result (λ r. whole_need r ≡ prefixes.front_need front.entry) }
     ensures less { IfOk result (λ r. rest_size r.1 ≤ front_size front.entry) }
 {
     match front {
-        Front::Value(value) => value_end(value),
-        Front::Place(place) => place_end(place),
-        Front::Rows(rows) => rows_end(rows),
+        Prefix::Value(value) => value_end(value),
+        Prefix::Place(place) => place_end(place),
+        Prefix::Rows(rows) => rows_end(rows),
     }
 }
 
 // A long designator and a long sum have as many parts, one in another: the loop over them takes no stack.
 #[cycle(value_need)]
-fn front_need(all: Front<'_>) -> Result<u32, AllocError>
-    ensures { IfOk result (λ n. n ≡ fronts.front_need all.entry) }
+fn front_need(all: Prefix<'_>) -> Result<u32, AllocError>
+    ensures { IfOk result (λ n. n ≡ prefixes.front_need all.entry) }
 {
     let mut need = 0;
     let mut rest = Some(all);
@@ -234,24 +234,24 @@ fn front_need(all: Front<'_>) -> Result<u32, AllocError>
 pub fn value_need(value: &TExpr) -> Result<u32, AllocError>
     ensures { IfOk result (λ n. n ≡ need_of.value_need (seen_expr value.now)) }
 {
-    front_need(Front::Value(value))
+    front_need(Prefix::Value(value))
 }
 
 fn place_need(place: &TPlace) -> Result<u32, AllocError>
     ensures { IfOk result (λ n. n ≡ need_of.place_need (seen_place place.now)) }
 {
-    front_need(Front::Place(place))
+    front_need(Prefix::Place(place))
 }
 
 fn rows_need(rows: &TRows) -> Result<u32, AllocError>
     ensures { IfOk result (λ n. n ≡ need_of.rows_need (seen_rows rows.now)) }
 {
-    front_need(Front::Rows(rows))
+    front_need(Prefix::Rows(rows))
 }
 
 fn call_need(callee: &TCallee, arguments: &[TArgument]) -> Result<u32, AllocError>
     ensures { IfOk result (λ n. n ≡
-        fronts.call_need (seen_callee callee.now) (seen_list arguments.now)) }
+        prefixes.call_need (seen_callee callee.now) (seen_list arguments.now)) }
 {
     let (handed, rest) = call_end(0, callee, arguments)?;
     match rest {
@@ -412,9 +412,9 @@ fn case_need(selector: &TExpr, cases: &[TCase], otherwise: &TElse) -> Result<u32
 
 // Statements behind what is found before them.
 #[cycle(stat_need)]
-fn behind_need(first: Front<'_>, body: &[TStat]) -> Result<u32, AllocError>
+fn behind_need(first: Prefix<'_>, body: &[TStat]) -> Result<u32, AllocError>
     ensures { IfOk result (λ n. n ≡
-        max (fronts.front_need first.entry) (need_of.stats_need (seen_stats body.now))) }
+        max (prefixes.front_need first.entry) (need_of.stats_need (seen_stats body.now))) }
 {
     let found = front_need(first)?;
     Ok(found.max(stats_need(body)?))
@@ -446,8 +446,8 @@ fn stat_need(statement: &TStat) -> Result<u32, AllocError>
         TStat::PutText(_, _, from, to) => texts_need(from, to),
         TStat::If(_, arms, otherwise) => arms_need(arms, otherwise),
         TStat::Case(_, selector, cases, otherwise) => case_need(selector, cases, otherwise),
-        TStat::While(_, condition, body) => behind_need(Front::Value(condition), body),
-        TStat::Repeat(_, body, condition) => behind_need(Front::Value(condition), body),
+        TStat::While(_, condition, body) => behind_need(Prefix::Value(condition), body),
+        TStat::Repeat(_, body, condition) => behind_need(Prefix::Value(condition), body),
         TStat::Loop(_, body) => stats_need(body),
         TStat::Exit(_) => Ok(0),
         TStat::For(_, _, place, from, to, _, body) => rounds_need(place, from, to, body),
@@ -461,8 +461,8 @@ fn stat_need(statement: &TStat) -> Result<u32, AllocError>
         TStat::Return(_, Some(value)) => value_need(value),
         TStat::New(_, place, _, arguments) => new_need(place, arguments),
         TStat::Make(_, place, _, lengths) => make_need(place, lengths),
-        TStat::With(_, object, body) => behind_need(Front::Value(object), body),
-        TStat::WithRecord(_, place, body) => behind_need(Front::Place(place), body),
+        TStat::With(_, object, body) => behind_need(Prefix::Value(object), body),
+        TStat::WithRecord(_, place, body) => behind_need(Prefix::Place(place), body),
         TStat::Out(_, call) => out_need(call),
     }
 }

@@ -5,7 +5,7 @@
 //! ends at 200.
 #![tactic(auto)]
 
-mod below;
+mod phrases;
 mod declaration;
 mod heading;
 pub mod laws;

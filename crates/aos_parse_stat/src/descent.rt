@@ -12,7 +12,7 @@ ghost use Rattle.aos_parse_expr.specs.Machine.{Moves};
 ghost use Rattle.aos_parse_stat.specs.Grammar.{IsCases};
 ghost use Rattle.aos_parse_stat.specs.Symbols as m;
 
-use crate::part::{designator, expression, labels, marking, option, qualident, word_expr};
+use crate::phrases::{designator, expression, labels, marking, option, qualident, word_expr};
 use crate::token::{ident, split, starts_expr, starts_stat, word};
 use aos_base::Pos;
 use aos_parse_expr::ParseErr;

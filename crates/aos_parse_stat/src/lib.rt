@@ -7,7 +7,7 @@
 
 mod descent;
 pub mod laws;
-mod part;
+mod phrases;
 mod token;
 
 ghost use Rattle.std.specs.Prelude.{◌≡◌, ◌≤◌, ◌<◌, drop, length, IfOk};

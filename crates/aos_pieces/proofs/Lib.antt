@@ -3,7 +3,7 @@ pub mod Pieces
 pub mod Closed
 pub mod Operands
 pub mod Numbers
-pub mod Handed
+pub mod CallKinds
 pub mod Values
 pub mod Statements
 pub mod Bodies

@@ -44,7 +44,7 @@ use Rattle.aos_pieces.specs.Piece.{Round, At, Piece}
 use Rattle.aos_pieces.proofs.Pieces.{Entries, nothing, one, followed, both, one_then, then_one, left_with, moved, recoded, asks_less, jump_forth, branch, choose, arm, repeats, repeats_until, loops, stops}
 use Rattle.aos_pieces.proofs.Numbers.{HasNumbers}
 use Rattle.aos_pieces.proofs.Operands.{value_kind}
-use Rattle.aos_pieces.proofs.Handed.{dimensions_are, kinds_taken, kinds_for, handed_many}
+use Rattle.aos_pieces.proofs.CallKinds.{dimensions_are, kinds_taken, kinds_for, handed_many}
 use Rattle.aos_pieces.proofs.Values.{some_place, some_rows, some_need, as_kind, called_takes, number_there, place_piece, arguments_piece, value_piece, lengths_of, text_piece, texts_piece, call_piece, value_typed}
 
 -- an operand of any kind is stored in a place

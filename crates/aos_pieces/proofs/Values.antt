@@ -40,7 +40,7 @@ use Rattle.aos_sim.proofs.Routines.{routine_there, object_there}
 use Rattle.aos_pieces.specs.Piece.{Round, Piece}
 use Rattle.aos_pieces.proofs.Pieces.{nothing, one, both, one_then, then_one, choose, left_with, recoded}
 use Rattle.aos_pieces.proofs.Operands.{included_kind, literal_kind, taken_kind, given_kind, given_of_two_kind, taken_kinds, number_value, reference_value, procedural_value, pattern_procedural, pattern_there, object_reference, any_or_target, fitted_value, reference_kind, target_kind, procedural_kind, pattern_kind, value_kind, fitted_kind}
-use Rattle.aos_pieces.proofs.Handed.{dimensions_are, pushed, rows_taken, opened_row, opened_longer, reversed_row, kinds_taken, handed_first, scalar_kinds, first_kinds, open_kinds, handed_room, passed_size, opened_size}
+use Rattle.aos_pieces.proofs.CallKinds.{dimensions_are, pushed, rows_taken, opened_row, opened_longer, reversed_row, kinds_taken, handed_first, scalar_kinds, first_kinds, open_kinds, handed_room, passed_size, opened_size}
 use Rattle.aos_pieces.proofs.Numbers.{HasNumbers}
 
 mutual

@@ -26,7 +26,7 @@ use Rattle.aos_cpu.proofs.Characters.{text_from}
 use Rattle.aos_cpu.proofs.Handing.{handed_gifts, put_as}
 use Rattle.aos_cpu.proofs.Own.{own_alike}
 use Rattle.aos_cpu.proofs.Turns.{turn_alike}
-use Rattle.aos_private.specs.Goes.{holds, stored_len, has_cells, takes_text, TellsStop}
+use Rattle.aos_private.specs.Answered.{holds, stored_len, has_cells, takes_text, TellsStop}
 
 -- whatever frames the activity has, and at whatever place it stands
 module _ (following : List ℕ) (at : ℕ) (k : Keeps) (s : Stack) (f : Frame) (fs : List Frame) (mem : Memory) where

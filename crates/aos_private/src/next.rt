@@ -6,9 +6,9 @@ ghost use Rattle.aos_sound.specs.FitFrames.{IsSoundImage, FramesFit};
 ghost use Rattle.aos_silent.specs.Room.{AreRoomy, StayFit};
 ghost use Rattle.aos_cpu.specs.Turns.{Alike, HasCome, StandsAtStop};
 ghost use Rattle.aos_cpu.specs.Private.{no_memory, made_by, is_private};
-ghost use Rattle.aos_private.specs.Goes.{TellsStop};
+ghost use Rattle.aos_private.specs.Answered.{TellsStop};
 
-use crate::goes::goes;
+use crate::answered::is_answered;
 use aos_base::NoMemory;
 use aos_code::Image;
 use aos_cpu::alone::is_own_stop;
@@ -65,7 +65,7 @@ fn goes_on(image: &Image, frames: &Frames, store: &Store, stop: Stop) -> bool
     ensures { TellsStop result image.now.shapes.items image.now.types.items stop frames.now (memory_in store.now) }
 {
     match stop {
-        Stop::Work(question, _) => goes(image, question, frames, store),
+        Stop::Work(question, _) => is_answered(image, question, frames, store),
         Stop::Begins(_, _) => true,
         Stop::Fails(_, _) => false,
         Stop::Decides(_) => false,

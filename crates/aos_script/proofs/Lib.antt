@@ -1,6 +1,6 @@
 pub mod Cuts
 pub mod Sole
-pub mod Fronts
+pub mod FirstLines
 pub mod Lasting
 pub mod Rests
 pub mod Whole

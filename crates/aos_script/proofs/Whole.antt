@@ -14,7 +14,7 @@ use Rattle.aos_script.specs.Listing.{head_line, IsSetting, AreRuns, IsScript}
 use Rattle.aos_script.specs.Refusals.{BeginsListing, BeginsScript, IsBadLine, IsRefused}
 use Rattle.aos_script.specs.Rest.{Skips, TakesSetting, LacksSetting, ReadsRuns, GoesWrong, FailsAt, no_run, behind_end, no_worker, no_memory}
 use Rattle.aos_script.proofs.Rests.{AreRuns-push, length-AreRuns}
-use Rattle.aos_script.proofs.Fronts.{Header, behind, behind-append, listing_of, rest_same, skipped_alone, begins_script, ends_script, no_listing, no_more, no_script, has_form, no_last, begins_skipped, begins_head, begins_workers, Stops, bad_line, bad_worker}
+use Rattle.aos_script.proofs.FirstLines.{Header, behind, behind-append, listing_of, rest_same, skipped_alone, begins_script, ends_script, no_listing, no_more, no_script, has_form, no_last, begins_skipped, begins_head, begins_workers, Stops, bad_line, bad_worker}
 
 -- a text has a line more than bytes at most
 strip_last-short : (b : Bool) (text : List ℕ) → length (if b then take (length text - 1) text else text) ≤ length text

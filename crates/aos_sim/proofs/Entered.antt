@@ -21,8 +21,8 @@ use Rattle.aos_typed.specs.Routines.{Routine, parameters_of, locals_of, has_self
 use Rattle.aos_typed.specs.Sort.{Sort, Length, variable_shape}
 use Rattle.aos_typed.specs.Value.{Value}
 use Rattle.aos_typed.specs.Typing.{Is}
-use Rattle.aos_typed.specs.Handed as H
-use Rattle.aos_typed.specs.Handed.{Part, Handed}
+use Rattle.aos_typed.specs.CallFrame as H
+use Rattle.aos_typed.specs.CallFrame.{Part, Handed}
 use Rattle.aos_typed.specs.Store.{Store}
 use Rattle.aos_typed.specs.Source as S
 use Rattle.aos_typed.specs.Source.{local_part}
@@ -48,7 +48,7 @@ use Rattle.aos_sim.proofs.Parts.{before_step, part_of_row, cells_size}
 use Rattle.aos_sim.proofs.First.{get_left, get_right, local_shown}
 use Rattle.aos_sim.proofs.Does.{scheme, IsPart, IsFrameOf, Given}
 use Rattle.aos_sim.proofs.States.{world_of, shapes_of, top_shape, body_frame, with_answer, Waiting}
-use Rattle.aos_sim.proofs.Handed.{taken_as, AreParts, shape_of_parts, content_of_parts, PartsShown, parts_shown, none_shown, more_shown, Stand, Alike, handed_alike}
+use Rattle.aos_sim.proofs.CallFrames.{taken_as, AreParts, shape_of_parts, content_of_parts, PartsShown, parts_shown, none_shown, more_shown, Stand, Alike, handed_alike}
 
 -- Shapes of the same sizes, one by one
 

@@ -16,6 +16,6 @@ pub mod Text
 pub mod Open
 pub mod Operands
 pub mod Fields
-pub mod Handed
+pub mod CallFrame
 pub mod Location
 pub mod Typing

@@ -33,7 +33,7 @@ use Rattle.aos_types.specs.Shape as shape
 use Rattle.aos_types.specs.Content.{Content, Scalar, Empty, Row, found, placed, overlay, first_content}
 use Rattle.aos_types.specs.World.{read}
 use Rattle.aos_typed.specs.Program.{Body, Repeat, Variable as TypedVariable, ObjectType, Module, Program}
-use Rattle.aos_typed.specs.Handed.{Part, nested, head, handed}
+use Rattle.aos_typed.specs.CallFrame.{Part, nested, head, handed}
 use Rattle.aos_typed.specs.Numbers.{id_of, id_of_made}
 use Rattle.aos_typed.specs.Open.{open_element}
 use Rattle.aos_typed.specs.Conditions.{Condition, conditions}

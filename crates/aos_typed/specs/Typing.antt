@@ -23,7 +23,7 @@ use Rattle.aos_typed.specs.Open.{open_dimensions, first_same}
 use Rattle.aos_typed.specs.Location.{Location}
 use Rattle.aos_typed.specs.Value.{Value, Int, Flag, Char, Set, Object, Callable, Place}
 use Rattle.aos_typed.specs.Source.{first_in}
-pub use Rattle.aos_typed.specs.Handed.{nested}
+pub use Rattle.aos_typed.specs.CallFrame.{nested}
 use Rattle.aos_typed.specs.Sort.{Sort, Plain, Variable, Alias, Elements, Length, variable_shape, object_shape}
 
 abbrev pub IsInteger : Width → Value → Type 0

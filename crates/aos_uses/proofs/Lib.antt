@@ -1,3 +1,3 @@
 pub mod Said
-pub mod Handed
+pub mod UsedArguments
 pub mod Largest

@@ -1,3 +1,3 @@
 pub mod Uses
 pub mod Guarded
-pub mod Fronts
+pub mod Prefixes

@@ -7,12 +7,12 @@ ghost use Rattle.aos_typed.specs.Routines.{parameters_of};
 ghost use Rattle.aos_dispatch.specs.Routines.{seen_routine};
 ghost use Rattle.aos_typed.specs.Seen.{seen_argument, seen_callee, seen_expr, seen_list, seen_parameter, seen_place, seen_program, seen_rows};
 ghost use Rattle.aos_dispatch.specs.Sizes.{callee_size, front_size, place_size, rest_size, rows_size, value_size};
-ghost use Rattle.aos_uses.specs.Fronts.{front_uses, rest_uses};
+ghost use Rattle.aos_uses.specs.Prefixes.{front_uses, rest_uses};
 ghost use Rattle.aos_uses.specs.Uses.{arguments_uses, call_uses, called, callee_number, expr_uses, follows, is_variable, place_uses, receiver_uses, rows_target, rows_uses, target, varies};
 
 use crate::target::{array_target, is_own, is_self, place_target};
 use crate::uses::{Target, Use};
-use aos_dispatch::{Dispatch, Front, Routine};
+use aos_dispatch::{Dispatch, Prefix, Routine};
 use aos_typed::{TArgument, TCallee, TExpr, TParameter, TPlace, TRows};
 use std::alloc::AllocError;
 
@@ -113,7 +113,7 @@ fn place_end<'b>(
     dispatch: &Dispatch<'_>,
     uses: &mut Vec<Use>,
     place: &'b TPlace,
-) -> Result<Option<Front<'b>>, AllocError>
+) -> Result<Option<Prefix<'b>>, AllocError>
     ensures uses { IfOk result (λ rest.
         uses.new.items ++ rest_uses (seen_program dispatch.now) rest ≡
         uses.old.items ++ place_uses (seen_program dispatch.now) (seen_place place.now)) }
@@ -127,19 +127,19 @@ fn place_end<'b>(
             if is_own(whole) {
                 return Ok(None);
             }
-            Ok(Some(Front::Place(whole)))
+            Ok(Some(Prefix::Place(whole)))
         }
         TPlace::Index(whole, _, _, index) => {
             value_uses(dispatch, uses, index)?;
-            Ok(Some(Front::Place(whole)))
+            Ok(Some(Prefix::Place(whole)))
         }
-        TPlace::Of(rows) => Ok(Some(Front::Rows(rows))),
+        TPlace::Of(rows) => Ok(Some(Prefix::Rows(rows))),
         TPlace::Deref(object, _) => {
             put(uses, Use::Follows)?;
-            Ok(Some(Front::Value(object)))
+            Ok(Some(Prefix::Value(object)))
         }
-        TPlace::Typed(whole, _) => Ok(Some(Front::Place(whole))),
-        TPlace::Guarded(whole, _) => Ok(Some(Front::Place(whole))),
+        TPlace::Typed(whole, _) => Ok(Some(Prefix::Place(whole))),
+        TPlace::Guarded(whole, _) => Ok(Some(Prefix::Place(whole))),
     }
 }
 
@@ -148,24 +148,24 @@ fn rows_end<'b>(
     dispatch: &Dispatch<'_>,
     uses: &mut Vec<Use>,
     rows: &'b TRows,
-) -> Result<Option<Front<'b>>, AllocError>
+) -> Result<Option<Prefix<'b>>, AllocError>
     ensures uses { IfOk result (λ rest.
         uses.new.items ++ rest_uses (seen_program dispatch.now) rest ≡
         uses.old.items ++ rows_uses (seen_program dispatch.now) (seen_rows rows.now)) }
     ensures less { IfOk result (λ rest. rest_size rest ≤ rows_size (seen_rows rows.now)) }
 {
     match rows {
-        TRows::Known(place, _) => Ok(Some(Front::Place(place))),
+        TRows::Known(place, _) => Ok(Some(Prefix::Place(place))),
         TRows::Opened(_, _) => Ok(None),
         TRows::Row(whole, _, index) => {
             value_uses(dispatch, uses, index)?;
-            Ok(Some(Front::Rows(whole)))
+            Ok(Some(Prefix::Rows(whole)))
         }
         TRows::Spread(object, _) => {
             put(uses, Use::Follows)?;
-            Ok(Some(Front::Value(object)))
+            Ok(Some(Prefix::Value(object)))
         }
-        TRows::Longer(whole, _) => Ok(Some(Front::Rows(whole))),
+        TRows::Longer(whole, _) => Ok(Some(Prefix::Rows(whole))),
     }
 }
 
@@ -216,15 +216,15 @@ pub fn arguments_uses(
 }
 
 // What something is called on.
-fn receiver_of<'b>(callee: &'b TCallee) -> Option<Front<'b>>
+fn receiver_of<'b>(callee: &'b TCallee) -> Option<Prefix<'b>>
     ensures uses { (p : Program) → rest_uses p result ≡ receiver_uses p (seen_callee callee.now) }
     ensures less { rest_size result ≤ suc (callee_size (seen_callee callee.now)) }
 {
     match callee {
         TCallee::Plain(_, _) => None,
-        TCallee::Dispatched(object, _, _) => Some(Front::Value(object)),
+        TCallee::Dispatched(object, _, _) => Some(Prefix::Value(object)),
         TCallee::Upper(_, _) => None,
-        TCallee::Through(value, _) => Some(Front::Value(value)),
+        TCallee::Through(value, _) => Some(Prefix::Value(value)),
     }
 }
 
@@ -235,7 +235,7 @@ fn call_end<'b>(
     uses: &mut Vec<Use>,
     callee: &'b TCallee,
     arguments: &[TArgument],
-) -> Result<Option<Front<'b>>, AllocError>
+) -> Result<Option<Prefix<'b>>, AllocError>
     ensures uses { IfOk result (λ rest.
         uses.new.items ++ rest_uses (seen_program dispatch.now) rest ≡
         uses.old.items ++ call_uses (seen_program dispatch.now) (seen_callee callee.now) (seen_list arguments.now)) }
@@ -252,13 +252,13 @@ fn read_end<'b>(
     dispatch: &Dispatch<'_>,
     uses: &mut Vec<Use>,
     place: &'b TPlace,
-) -> Result<Option<Front<'b>>, AllocError>
+) -> Result<Option<Prefix<'b>>, AllocError>
     ensures uses { IfOk result (λ rest. uses.new.items ++ rest_uses (seen_program dispatch.now) rest ≡ uses.old.items ++
         (Use.Reads (target (seen_program dispatch.now) (seen_place place.now)) ∷ place_uses (seen_program dispatch.now) (seen_place place.now))) }
     ensures less { IfOk result (λ rest. rest_size rest ≤ suc (place_size (seen_place place.now))) }
 {
     put(uses, Use::Reads(place_target(dispatch, place)?))?;
-    Ok(Some(Front::Place(place)))
+    Ok(Some(Prefix::Place(place)))
 }
 
 // Two texts, but what the first one begins with.
@@ -268,7 +268,7 @@ fn texts_end<'b>(
     uses: &mut Vec<Use>,
     left: &'b TRows,
     right: &TRows,
-) -> Result<Option<Front<'b>>, AllocError>
+) -> Result<Option<Prefix<'b>>, AllocError>
     ensures uses { IfOk result (λ rest. uses.new.items ++ rest_uses (seen_program dispatch.now) rest ≡ uses.old.items ++
         ((Use.Reads (rows_target (seen_program dispatch.now) (seen_rows right.now)) ∷ rows_uses (seen_program dispatch.now) (seen_rows right.now)) ++
         (Use.Reads (rows_target (seen_program dispatch.now) (seen_rows left.now)) ∷ rows_uses (seen_program dispatch.now) (seen_rows left.now)))) }
@@ -276,7 +276,7 @@ fn texts_end<'b>(
 {
     array_read(dispatch, uses, right)?;
     put(uses, Use::Reads(array_target(dispatch, left)?))?;
-    Ok(Some(Front::Rows(left)))
+    Ok(Some(Prefix::Rows(left)))
 }
 
 // A method as a value, but the object.
@@ -285,7 +285,7 @@ fn method_end<'b>(
     object: &'b TExpr,
     of: u32,
     slot: u32,
-) -> Result<Option<Front<'b>>, AllocError>
+) -> Result<Option<Prefix<'b>>, AllocError>
     ensures uses { IfOk result (λ rest. (p : Program) → uses.new.items ++ rest_uses p rest ≡
         uses.old.items ++ expr_uses p (MethodOf (seen_expr object.now) of slot)) }
     ensures less { IfOk result (λ rest. rest_size rest ≤ suc (value_size (seen_expr object.now))) }
@@ -293,7 +293,7 @@ fn method_end<'b>(
     put(uses, Use::Binds)?;
     put(uses, Use::Finds(of, slot))?;
     put_follows(uses, object)?;
-    Ok(Some(Front::Value(object)))
+    Ok(Some(Prefix::Value(object)))
 }
 
 // Two operands, but the first one.
@@ -303,13 +303,13 @@ fn both_end<'b>(
     uses: &mut Vec<Use>,
     left: &'b TExpr,
     right: &TExpr,
-) -> Result<Option<Front<'b>>, AllocError>
+) -> Result<Option<Prefix<'b>>, AllocError>
     ensures uses { IfOk result (λ rest. uses.new.items ++ rest_uses (seen_program dispatch.now) rest ≡ uses.old.items ++
         (expr_uses (seen_program dispatch.now) (seen_expr right.now) ++ expr_uses (seen_program dispatch.now) (seen_expr left.now))) }
     ensures less { IfOk result (λ rest. rest_size rest ≤ suc (value_size (seen_expr left.now))) }
 {
     value_uses(dispatch, uses, right)?;
-    Ok(Some(Front::Value(left)))
+    Ok(Some(Prefix::Value(left)))
 }
 
 // An expression, but what it begins with.
@@ -318,7 +318,7 @@ fn value_end<'b>(
     dispatch: &Dispatch<'_>,
     uses: &mut Vec<Use>,
     value: &'b TExpr,
-) -> Result<Option<Front<'b>>, AllocError>
+) -> Result<Option<Prefix<'b>>, AllocError>
     ensures uses { IfOk result (λ rest.
         uses.new.items ++ rest_uses (seen_program dispatch.now) rest ≡
         uses.old.items ++ expr_uses (seen_program dispatch.now) (seen_expr value.now)) }
@@ -331,21 +331,21 @@ fn value_end<'b>(
             Ok(None)
         }
         TExpr::Read(_, place) => read_end(dispatch, uses, place),
-        TExpr::Len(rows, _) => Ok(Some(Front::Rows(rows))),
-        TExpr::LenBehind(rows, _) => Ok(Some(Front::Rows(rows))),
+        TExpr::Len(rows, _) => Ok(Some(Prefix::Rows(rows))),
+        TExpr::LenBehind(rows, _) => Ok(Some(Prefix::Rows(rows))),
         TExpr::Function(callee, arguments) => call_end(dispatch, uses, callee, arguments),
         TExpr::CompareTexts(_, left, right) => texts_end(dispatch, uses, left, right),
-        TExpr::Unary(_, operand) => Ok(Some(Front::Value(operand))),
+        TExpr::Unary(_, operand) => Ok(Some(Prefix::Value(operand))),
         TExpr::Binary(_, left, right) => both_end(dispatch, uses, left, right),
         TExpr::And(left, right) => both_end(dispatch, uses, left, right),
         TExpr::Or(left, right) => both_end(dispatch, uses, left, right),
-        TExpr::Element(operand) => Ok(Some(Front::Value(operand))),
-        TExpr::Ord(operand) => Ok(Some(Front::Value(operand))),
-        TExpr::Chr(operand) => Ok(Some(Front::Value(operand))),
+        TExpr::Element(operand) => Ok(Some(Prefix::Value(operand))),
+        TExpr::Ord(operand) => Ok(Some(Prefix::Value(operand))),
+        TExpr::Chr(operand) => Ok(Some(Prefix::Value(operand))),
         TExpr::Same(left, right) => both_end(dispatch, uses, left, right),
-        TExpr::Is(operand, _) => Ok(Some(Front::Value(operand))),
+        TExpr::Is(operand, _) => Ok(Some(Prefix::Value(operand))),
         TExpr::IsRecord(place, _) => read_end(dispatch, uses, place),
-        TExpr::Guard(operand, _) => Ok(Some(Front::Value(operand))),
+        TExpr::Guard(operand, _) => Ok(Some(Prefix::Value(operand))),
         TExpr::ProcedureOf(_, _) => Ok(None),
         TExpr::MethodOf(object, of, slot) => method_end(uses, object, *of, *slot),
         TExpr::SameProcedure(left, right) => both_end(dispatch, uses, left, right),
@@ -356,17 +356,17 @@ fn value_end<'b>(
 fn front_end<'b>(
     dispatch: &Dispatch<'_>,
     uses: &mut Vec<Use>,
-    front: Front<'b>,
-) -> Result<Option<Front<'b>>, AllocError>
+    front: Prefix<'b>,
+) -> Result<Option<Prefix<'b>>, AllocError>
     ensures uses { IfOk result (λ rest.
         uses.new.items ++ rest_uses (seen_program dispatch.now) rest ≡
         uses.old.items ++ front_uses (seen_program dispatch.now) front.entry) }
     ensures less { IfOk result (λ rest. rest_size rest ≤ front_size front.entry) }
 {
     match front {
-        Front::Value(value) => value_end(dispatch, uses, value),
-        Front::Place(place) => place_end(dispatch, uses, place),
-        Front::Rows(rows) => rows_end(dispatch, uses, rows),
+        Prefix::Value(value) => value_end(dispatch, uses, value),
+        Prefix::Place(place) => place_end(dispatch, uses, place),
+        Prefix::Rows(rows) => rows_end(dispatch, uses, rows),
     }
 }
 
@@ -375,7 +375,7 @@ fn front_end<'b>(
 fn front_uses(
     dispatch: &Dispatch<'_>,
     uses: &mut Vec<Use>,
-    all: Front<'_>,
+    all: Prefix<'_>,
 ) -> Result<(), AllocError>
     ensures { OnOk result (uses.new.items ≡ uses.old.items ++ front_uses (seen_program dispatch.now) all.entry) }
 {
@@ -395,7 +395,7 @@ pub fn value_uses(
 ) -> Result<(), AllocError>
     ensures { OnOk result (uses.new.items ≡ uses.old.items ++ expr_uses (seen_program dispatch.now) (seen_expr value.now)) }
 {
-    front_uses(dispatch, uses, Front::Value(value))
+    front_uses(dispatch, uses, Prefix::Value(value))
 }
 
 /// What finding a designator's place uses.
@@ -407,7 +407,7 @@ pub fn place_uses(
 ) -> Result<(), AllocError>
     ensures { OnOk result (uses.new.items ≡ uses.old.items ++ place_uses (seen_program dispatch.now) (seen_place place.now)) }
 {
-    front_uses(dispatch, uses, Front::Place(place))
+    front_uses(dispatch, uses, Prefix::Place(place))
 }
 
 /// What finding an array uses.
@@ -419,7 +419,7 @@ pub fn rows_uses(
 ) -> Result<(), AllocError>
     ensures { OnOk result (uses.new.items ≡ uses.old.items ++ rows_uses (seen_program dispatch.now) (seen_rows rows.now)) }
 {
-    front_uses(dispatch, uses, Front::Rows(rows))
+    front_uses(dispatch, uses, Prefix::Rows(rows))
 }
 
 /// An array that is read.

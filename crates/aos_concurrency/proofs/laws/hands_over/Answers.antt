@@ -5,7 +5,7 @@ use Rattle.aos_concurrency.proofs.Begin.{start_sound}
 use Rattle.aos_concurrency.proofs.Steps.{execution_sound, sound_always}
 use Rattle.aos_concurrency.proofs.Itself.{sound_fitting}
 use Rattle.aos_concurrency.proofs.Changes.{execution_tidy}
-use Rattle.aos_concurrency.proofs.Handed.{hands_over}
+use Rattle.aos_concurrency.proofs.Heirs.{hands_over}
 use Rattle.aos_concurrency.proofs.laws.hands_over.Goals as goal
 
 pub returns : goal.returns

@@ -1,7 +1,7 @@
 use Rattle.std.proofs.Common.{◌<◌, Some, ap, ◌∙◌, arith}
 use Rattle.std.proofs.lemmas.Bool.{ltb-true}
 use Rattle.aos_types.specs.Contents.{contents}
-use Rattle.aos_layout.specs.Part.{width}
+use Rattle.aos_layout.specs.TypeParts.{width}
 use Rattle.aos_laid.proofs.Fields.{record_field, object_field}
 use Rattle.aos_laid.proofs.laid.has_field.Goals as goal
 

@@ -3,7 +3,7 @@ use Rattle.aos_typed.specs.Program.{NoMore}
 use Rattle.aos_typed.specs.Seen.{seen_place, seen_rows, seen_argument, seen_list, seen_callee, seen_expr}
 use Rattle.aos_sim.specs.Need.{arguments_need}
 use Rattle.aos_dispatch.specs.Sizes.{place_size, rows_size, arguments_size, callee_size, value_size, front_size, rest_size}
-use Rattle.aos_need.specs.Fronts.{front_need, rest_need}
+use Rattle.aos_need.specs.Prefixes.{front_need, rest_need}
 use Rattle.aos_need.proofs.need.+value_need.Given as goal
 
 -- the need so far and that of what is left is that of all, and what is left is no more

@@ -1,7 +1,7 @@
 use Rattle.std.proofs.Common.{◌≡◌, ◌≤◌, ◌-◌, replicate, sym, ◌∙◌, ap, subst, arith}
 use Rattle.aos_base.specs.Machine.{Step}
 use Rattle.aos_kernel.specs.Run.{state_of}
-use Rattle.aos_kernel.proofs.Desks.{on_err}
+use Rattle.aos_kernel.proofs.TablesShown.{on_err}
 use Rattle.aos_replay.specs.Continues.{Continues}
 use Rattle.aos_replay.proofs.Going.{goes_nowhere, goes_more, goes_steps_idly, part_of_steps}
 use Rattle.aos_replay.proofs.Telling.{tells_nothing, tells_then}

@@ -3,7 +3,7 @@ use Rattle.std.proofs.Common.{◌≡◌, ◌≤◌, ◌+◌, ◌*◌, ◌++◌, 
 use Rattle.aos_typed.specs.Program.{NoMore}
 use Rattle.aos_typed.specs.Seen.{seen_place, seen_rows, seen_argument, seen_list, seen_callee, seen_expr, seen_program}
 use Rattle.aos_dispatch.specs.Sizes.{place_size, rows_size, arguments_size, callee_size, value_size, front_size, rest_size}
-use Rattle.aos_uses.specs.Fronts.{front_uses, rest_uses}
+use Rattle.aos_uses.specs.Prefixes.{front_uses, rest_uses}
 use Rattle.aos_uses.specs.Uses.{arguments_uses}
 use Rattle.aos_uses.proofs.exprs.+value_uses.Given as goal
 

@@ -2,7 +2,7 @@ use Rattle.std.proofs.Common.{◌≤◌, ◌-◌, length, refl, sym, arith}
 use Rattle.std.proofs.lemmas.Bool.{ltb-true, ltb-false}
 use Rattle.std.proofs.lemmas.Option.{slice_get_read, slice_get_past}
 use Rattle.aos_typed.specs.Seen.{seen_program}
-use Rattle.aos_uses.proofs.Handed.{reference_there, reference_none}
+use Rattle.aos_uses.proofs.UsedArguments.{reference_there, reference_none}
 use Rattle.aos_uses.proofs.exprs.is_variable.Goals as goal
 
 pub returns-in-Some : goal.returns-in-Some

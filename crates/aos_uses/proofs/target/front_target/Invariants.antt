@@ -2,7 +2,7 @@
 use Rattle.std.proofs.Common.{◌≡◌, ◌≤◌, suc}
 use Rattle.aos_typed.specs.Seen.{seen_program}
 use Rattle.aos_dispatch.specs.Sizes.{front_size, rest_size}
-use Rattle.aos_uses.specs.Fronts.{front_target, rest_target}
+use Rattle.aos_uses.specs.Prefixes.{front_target, rest_target}
 use Rattle.aos_uses.proofs.target.front_target.Given as goal
 
 -- what is left names the same variable, and is no more

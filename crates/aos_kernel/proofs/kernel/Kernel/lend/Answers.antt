@@ -21,7 +21,7 @@ use Rattle.aos_kernel.specs.Keeps.{Keeps}
 use Rattle.aos_kernel.specs.Lends.{GoesOut, IsShared, LendsNone, Lends}
 use Rattle.aos_kernel.specs.Shows.{Shows}
 use Rattle.aos_kernel.proofs.Histories.{keeps_silent, has_turn}
-use Rattle.aos_kernel.proofs.Desks.{next_is_in}
+use Rattle.aos_kernel.proofs.TablesShown.{next_is_in}
 use Rattle.aos_kernel.proofs.Lending.{is_lent}
 use Rattle.aos_kernel.proofs.kernel.Kernel.lend.Goals as goal
 
@@ -57,7 +57,7 @@ take_frames-requires-clause-turn c =
     let w = c.args.w in
     let a = c.in-Some.activity in
     let on : on_worker w st.book.line ≡ Some a = sym (c.in-Some.ensures.on r.image st.book.events st h.shows) in
-    let turn = has_turn r k.desk told h w a (subst (λ (x : Run). w < x.workers) (sym c.self.view_is) c.requires) on in
+    let turn = has_turn r k.tables told h w a (subst (λ (x : Run). w < x.workers) (sym c.self.view_is) c.requires) on in
     turn
 
 pub invariant_of-self-in_err-frames-in-Runs : goal.invariant_of-self-in_err-frames-in-Runs
@@ -72,9 +72,9 @@ invariant_of-self-in_err-frames-in-Runs c =
     let len = c.reserve.ensures.len in
     let cap = c.reserve.ensures.capacity in
     let same_lent = ap length c.reserve-2.ensures.items in
-    let shows_same = subst (λ (i : Image). (earlier : List Event) (x : State Memory Frames) → Shows i earlier k.desk x → Shows i earlier c.take_frames.new.self x) c.deref-in-Runs.ensures c.take_frames.ensures.same in
+    let shows_same = subst (λ (i : Image). (earlier : List Event) (x : State Memory Frames) → Shows i earlier k.tables x → Shows i earlier c.take_frames.new.self x) c.deref-in-Runs.ensures c.take_frames.ensures.same in
     let shown = shows_same st.book.events st h.shows in
-    let K : Keeps r c.take_frames.new.self told = keeps_silent r k.desk told h c.take_frames.new.self k.log.items shown refl in
+    let K : Keeps r c.take_frames.new.self told = keeps_silent r k.tables told h c.take_frames.new.self k.log.items shown refl in
     (subst (λ (x : List Sched × List ℕ). Keeps (record r { log = x.0; lent = x.1 }) c.take_frames.new.self told) (λ i. (sym c.reserve.ensures.items i, sym c.reserve-2.ensures.items i)) K, omega (arith, has, len, cap, same_lent))
 
 pub invariant_of-self-in-None-branch-5 : goal.invariant_of-self-in-None-branch-5
@@ -89,9 +89,9 @@ invariant_of-self-in-None-branch-5 c =
     let len = c.reserve.ensures.len in
     let cap = c.reserve.ensures.capacity in
     let same_lent = ap length c.reserve-2.ensures.items in
-    let shows_same = subst (λ (i : Image). (earlier : List Event) (x : State Memory Frames) → Shows i earlier k.desk x → Shows i earlier c.take_frames.new.self x) c.deref-in-Runs.ensures c.take_frames.ensures.same in
+    let shows_same = subst (λ (i : Image). (earlier : List Event) (x : State Memory Frames) → Shows i earlier k.tables x → Shows i earlier c.take_frames.new.self x) c.deref-in-Runs.ensures c.take_frames.ensures.same in
     let shown = shows_same st.book.events st h.shows in
-    let K : Keeps r c.take_frames.new.self told = keeps_silent r k.desk told h c.take_frames.new.self k.log.items shown refl in
+    let K : Keeps r c.take_frames.new.self told = keeps_silent r k.tables told h c.take_frames.new.self k.log.items shown refl in
     (subst (λ (x : List Sched × List ℕ). Keeps (record r { log = x.0; lent = x.1 }) c.take_frames.new.self told) (λ i. (sym c.reserve.ensures.items i, sym c.reserve-2.ensures.items i)) K, omega (arith, has, len, cap, same_lent))
 
 pub invariant_of-self-in-Lent-1 : goal.invariant_of-self-in-Lent-1
@@ -106,8 +106,8 @@ invariant_of-self-in-Lent-1 c =
     let len = c.reserve.ensures.len in
     let cap = c.reserve.ensures.capacity in
     let same_lent = ap length c.reserve-2.ensures.items in
-    let K : Keeps r k.desk told = keeps_silent r k.desk told h k.desk k.log.items h.shows refl in
-    (subst (λ (x : List Sched × List ℕ). Keeps (record r { log = x.0; lent = x.1 }) k.desk told) (λ i. (sym c.reserve.ensures.items i, sym c.reserve-2.ensures.items i)) K, omega (arith, has, len, cap, same_lent))
+    let K : Keeps r k.tables told = keeps_silent r k.tables told h k.tables k.log.items h.shows refl in
+    (subst (λ (x : List Sched × List ℕ). Keeps (record r { log = x.0; lent = x.1 }) k.tables told) (λ i. (sym c.reserve.ensures.items i, sym c.reserve-2.ensures.items i)) K, omega (arith, has, len, cap, same_lent))
 
 pub invariant_of-self-in-WillTrap-1 : goal.invariant_of-self-in-WillTrap-1
 invariant_of-self-in-WillTrap-1 c =
@@ -121,8 +121,8 @@ invariant_of-self-in-WillTrap-1 c =
     let len = c.reserve.ensures.len in
     let cap = c.reserve.ensures.capacity in
     let same_lent = ap length c.reserve-2.ensures.items in
-    let K : Keeps r k.desk told = keeps_silent r k.desk told h k.desk k.log.items h.shows refl in
-    (subst (λ (x : List Sched × List ℕ). Keeps (record r { log = x.0; lent = x.1 }) k.desk told) (λ i. (sym c.reserve.ensures.items i, sym c.reserve-2.ensures.items i)) K, omega (arith, has, len, cap, same_lent))
+    let K : Keeps r k.tables told = keeps_silent r k.tables told h k.tables k.log.items h.shows refl in
+    (subst (λ (x : List Sched × List ℕ). Keeps (record r { log = x.0; lent = x.1 }) k.tables told) (λ i. (sym c.reserve.ensures.items i, sym c.reserve-2.ensures.items i)) K, omega (arith, has, len, cap, same_lent))
 
 pub invariant_of-self-in-Unwinds-1 : goal.invariant_of-self-in-Unwinds-1
 invariant_of-self-in-Unwinds-1 c =
@@ -136,8 +136,8 @@ invariant_of-self-in-Unwinds-1 c =
     let len = c.reserve.ensures.len in
     let cap = c.reserve.ensures.capacity in
     let same_lent = ap length c.reserve-2.ensures.items in
-    let K : Keeps r k.desk told = keeps_silent r k.desk told h k.desk k.log.items h.shows refl in
-    (subst (λ (x : List Sched × List ℕ). Keeps (record r { log = x.0; lent = x.1 }) k.desk told) (λ i. (sym c.reserve.ensures.items i, sym c.reserve-2.ensures.items i)) K, omega (arith, has, len, cap, same_lent))
+    let K : Keeps r k.tables told = keeps_silent r k.tables told h k.tables k.log.items h.shows refl in
+    (subst (λ (x : List Sched × List ℕ). Keeps (record r { log = x.0; lent = x.1 }) k.tables told) (λ i. (sym c.reserve.ensures.items i, sym c.reserve-2.ensures.items i)) K, omega (arith, has, len, cap, same_lent))
 
 pub invariant_of-self-in-Gone-1 : goal.invariant_of-self-in-Gone-1
 invariant_of-self-in-Gone-1 c =
@@ -151,8 +151,8 @@ invariant_of-self-in-Gone-1 c =
     let len = c.reserve.ensures.len in
     let cap = c.reserve.ensures.capacity in
     let same_lent = ap length c.reserve-2.ensures.items in
-    let K : Keeps r k.desk told = keeps_silent r k.desk told h k.desk k.log.items h.shows refl in
-    (subst (λ (x : List Sched × List ℕ). Keeps (record r { log = x.0; lent = x.1 }) k.desk told) (λ i. (sym c.reserve.ensures.items i, sym c.reserve-2.ensures.items i)) K, omega (arith, has, len, cap, same_lent))
+    let K : Keeps r k.tables told = keeps_silent r k.tables told h k.tables k.log.items h.shows refl in
+    (subst (λ (x : List Sched × List ℕ). Keeps (record r { log = x.0; lent = x.1 }) k.tables told) (λ i. (sym c.reserve.ensures.items i, sym c.reserve-2.ensures.items i)) K, omega (arith, has, len, cap, same_lent))
 
 pub invariant_of-self-in-Some-2 : goal.invariant_of-self-in-Some-2
 invariant_of-self-in-Some-2 c =
@@ -162,9 +162,9 @@ invariant_of-self-in-Some-2 c =
     let h = c.self.invariant.0 in
     let st = state_of r in
     let w = c.args.w in
-    let shows_same = subst (λ (i : Image). (earlier : List Event) (x : State Memory Frames) → Shows i earlier k.desk x → Shows i earlier c.take_frames.new.self x) c.deref-in-Runs.ensures c.take_frames.ensures.same in
+    let shows_same = subst (λ (i : Image). (earlier : List Event) (x : State Memory Frames) → Shows i earlier k.tables x → Shows i earlier c.take_frames.new.self x) c.deref-in-Runs.ensures c.take_frames.ensures.same in
     let shown = shows_same st.book.events st h.shows in
-    let K : Keeps r c.take_frames.new.self told = keeps_silent r k.desk told h c.take_frames.new.self k.log.items shown refl in
+    let K : Keeps r c.take_frames.new.self told = keeps_silent r k.tables told h c.take_frames.new.self k.log.items shown refl in
     let lent = c.push_reserved.ensures.items ∙ ap (λ (x : List ℕ). x ++ w ∷ []) c.reserve-2.ensures.items in
     let n0 = ap length lent in
     let n1 = length-append k.lent.items (w ∷ []) in
@@ -184,11 +184,11 @@ returns-in-Some-2-clause-loan c =
     let w = c.args.w in
     let a = c.in-Some.activity in
     let on : on_worker w st.book.line ≡ Some a = sym (c.in-Some.ensures.on r.image st.book.events st h.shows) in
-    let turn = has_turn r k.desk told h w a (subst (λ (x : Run). w < x.workers) (sym c.self.view_is) c.requires) on in
+    let turn = has_turn r k.tables told h w a (subst (λ (x : Run). w < x.workers) (sym c.self.view_is) c.requires) on in
     let now = subst (λ (xs : List Activity). (kept : Activity) → slice_get xs a ≡ Some kept → Runs ≡ kept.next) c.deref-2.ensures.value c.in-Runs.ensures in
-    let next = next_is_in r.image st.book.events k.desk st a h.shows turn Runs now in
-    let outs = subst (λ (i : Image). IfSome c.in_ok-frames-in-Runs.field-0 (λ (f : Kept). (earlier : List Event) (x : State Memory Frames) → Shows i earlier k.desk x → GoesOut i a f x)) c.deref-in-Runs.ensures c.in_ok-frames-in-Runs.ensures.out in
-    let goes = subst (λ (o : Option Kept). IfSome o (λ (f : Kept). (earlier : List Event) (x : State Memory Frames) → Shows r.image earlier k.desk x → GoesOut r.image a f x)) c.in-Some-2.is outs in
+    let next = next_is_in r.image st.book.events k.tables st a h.shows turn Runs now in
+    let outs = subst (λ (i : Image). IfSome c.in_ok-frames-in-Runs.field-0 (λ (f : Kept). (earlier : List Event) (x : State Memory Frames) → Shows i earlier k.tables x → GoesOut i a f x)) c.deref-in-Runs.ensures c.in_ok-frames-in-Runs.ensures.out in
+    let goes = subst (λ (o : Option Kept). IfSome o (λ (f : Kept). (earlier : List Event) (x : State Memory Frames) → Shows r.image earlier k.tables x → GoesOut r.image a f x)) c.in-Some-2.is outs in
     let gone : GoesOut r.image a c.in-Some-2.frames st = goes st.book.events st h.shows in
     let l : Lending = record { image = arc_value c.in_ok-image.image; budget = k.budget; turns = 0; frames = c.in-Some-2.frames } in
     let same : l.image ≡ r.image = c.in_ok-image.ensures.cases in
@@ -213,9 +213,9 @@ returns-in-None-clause-none c =
     let w = c.args.w in
     let a = c.in-Some.activity in
     let on : on_worker w st.book.line ≡ Some a = sym (c.in-Some.ensures.on r.image st.book.events st h.shows) in
-    let turn = has_turn r k.desk told h w a (subst (λ (x : Run). w < x.workers) (sym c.self.view_is) c.requires) on in
-    let outs = subst (λ (i : Image). IfNone c.in_ok-frames-in-Runs.field-0 ((earlier : List Event) (x : State Memory Frames) → Shows i earlier k.desk x → IsShared i x.store (x.frames a))) c.deref-in-Runs.ensures c.in_ok-frames-in-Runs.ensures.none in
-    let none = subst (λ (o : Option Kept). IfNone o ((earlier : List Event) (x : State Memory Frames) → Shows r.image earlier k.desk x → IsShared r.image x.store (x.frames a))) c.in-None.is outs in
+    let turn = has_turn r k.tables told h w a (subst (λ (x : Run). w < x.workers) (sym c.self.view_is) c.requires) on in
+    let outs = subst (λ (i : Image). IfNone c.in_ok-frames-in-Runs.field-0 ((earlier : List Event) (x : State Memory Frames) → Shows i earlier k.tables x → IsShared i x.store (x.frames a))) c.deref-in-Runs.ensures c.in_ok-frames-in-Runs.ensures.none in
+    let none = subst (λ (o : Option Kept). IfNone o ((earlier : List Event) (x : State Memory Frames) → Shows r.image earlier k.tables x → IsShared r.image x.store (x.frames a))) c.in-None.is outs in
     subst (λ (x : Run). LendsNone w x) c.self.view_is (inr (inr (inr (a, on, inr (none st.book.events st h.shows)))))
 
 pub returns-in-WillTrap-clause-none : goal.returns-in-WillTrap-clause-none
@@ -228,9 +228,9 @@ returns-in-WillTrap-clause-none c =
     let w = c.args.w in
     let a = c.in-Some.activity in
     let on : on_worker w st.book.line ≡ Some a = sym (c.in-Some.ensures.on r.image st.book.events st h.shows) in
-    let turn = has_turn r k.desk told h w a (subst (λ (x : Run). w < x.workers) (sym c.self.view_is) c.requires) on in
+    let turn = has_turn r k.tables told h w a (subst (λ (x : Run). w < x.workers) (sym c.self.view_is) c.requires) on in
     let now = subst (λ (xs : List Activity). (kept : Activity) → slice_get xs a ≡ Some kept → (WillTrap c.in-WillTrap.field-0) ≡ kept.next) c.deref-2.ensures.value c.in-WillTrap.ensures in
-    let next = next_is_in r.image st.book.events k.desk st a h.shows turn (WillTrap c.in-WillTrap.field-0) now in
+    let next = next_is_in r.image st.book.events k.tables st a h.shows turn (WillTrap c.in-WillTrap.field-0) now in
     subst (λ (x : Run). LendsNone w x) c.self.view_is (inr (inr (inr (a, on, inl (λ e. let z = sym next ∙ e in cc z)))))
 
 pub returns-in-Unwinds-clause-none : goal.returns-in-Unwinds-clause-none
@@ -243,9 +243,9 @@ returns-in-Unwinds-clause-none c =
     let w = c.args.w in
     let a = c.in-Some.activity in
     let on : on_worker w st.book.line ≡ Some a = sym (c.in-Some.ensures.on r.image st.book.events st h.shows) in
-    let turn = has_turn r k.desk told h w a (subst (λ (x : Run). w < x.workers) (sym c.self.view_is) c.requires) on in
+    let turn = has_turn r k.tables told h w a (subst (λ (x : Run). w < x.workers) (sym c.self.view_is) c.requires) on in
     let now = subst (λ (xs : List Activity). (kept : Activity) → slice_get xs a ≡ Some kept → Unwinds ≡ kept.next) c.deref-2.ensures.value c.in-Unwinds.ensures in
-    let next = next_is_in r.image st.book.events k.desk st a h.shows turn Unwinds now in
+    let next = next_is_in r.image st.book.events k.tables st a h.shows turn Unwinds now in
     subst (λ (x : Run). LendsNone w x) c.self.view_is (inr (inr (inr (a, on, inl (λ e. let z = sym next ∙ e in cc z)))))
 
 pub returns-in-Gone-clause-none : goal.returns-in-Gone-clause-none
@@ -258,7 +258,7 @@ returns-in-Gone-clause-none c =
     let w = c.args.w in
     let a = c.in-Some.activity in
     let on : on_worker w st.book.line ≡ Some a = sym (c.in-Some.ensures.on r.image st.book.events st h.shows) in
-    let turn = has_turn r k.desk told h w a (subst (λ (x : Run). w < x.workers) (sym c.self.view_is) c.requires) on in
+    let turn = has_turn r k.tables told h w a (subst (λ (x : Run). w < x.workers) (sym c.self.view_is) c.requires) on in
     let now = subst (λ (xs : List Activity). (kept : Activity) → slice_get xs a ≡ Some kept → Gone ≡ kept.next) c.deref-2.ensures.value c.in-Gone.ensures in
-    let next = next_is_in r.image st.book.events k.desk st a h.shows turn Gone now in
+    let next = next_is_in r.image st.book.events k.tables st a h.shows turn Gone now in
     subst (λ (x : Run). LendsNone w x) c.self.view_is (inr (inr (inr (a, on, inl (λ e. let z = sym next ∙ e in cc z)))))

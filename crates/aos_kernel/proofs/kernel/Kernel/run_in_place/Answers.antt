@@ -38,7 +38,7 @@ run_on-made-requires c =
     let st = state_of r in
     let w = c.args.w in
     let on : on_worker w st.book.line ≡ Some c.in-Some.activity = sym (c.in-Some.ensures.on r.image st.book.events st h.shows) in
-    has_turn r k.desk k.events.items h w c.in-Some.activity (subst (λ (x : Run). w < x.workers) (sym c.self.view_is) c.requires.worker) on
+    has_turn r k.tables k.events.items h w c.in-Some.activity (subst (λ (x : Run). w < x.workers) (sym c.self.view_is) c.requires.worker) on
 
 pub invariant_of-self-then-made-eq0 : goal.invariant_of-self-then-made-eq0
 invariant_of-self-then-made-eq0 c =
@@ -52,13 +52,13 @@ invariant_of-self-then-made-eq0 c =
     let going : outcome st.book ≡ Going = sym (c.in-Going.ensures r.image st.book.events st h.shows) in
     let on : on_worker w st.book.line ≡ Some a = sym (c.in-Some.ensures.on r.image st.book.events st h.shows) in
     let quietly : GoesQuietly r.image st.book.events w n c.run_on-made.new.self st =
-    subst (λ (image : Image). (x : List Event) (s : State Memory Frames) → Shows image x k.desk s → outcome s.book ≡ Going → on_worker w s.book.line ≡ Some a → GoesQuietly image x w n c.run_on-made.new.self s) c.deref.ensures (c.run_on-made.ensures.made w)
+    subst (λ (image : Image). (x : List Event) (s : State Memory Frames) → Shows image x k.tables s → outcome s.book ≡ Going → on_worker w s.book.line ≡ Some a → GoesQuietly image x w n c.run_on-made.new.self s) c.deref.ensures (c.run_on-made.ensures.made w)
     st.book.events st h.shows going on in
     let shown = subst (λ m. Shows r.image st.book.events c.run_on-made.new.self (execution (machine r.image) (replicate m (Step w)) st)) c.if-made-eq0.true quietly.shows in
     let f0 = c.self.invariant.1 in
     let f1 = c.reserve.ensures.len in
     let f2 = c.reserve.ensures.capacity in
-    (keeps_silent r k.desk k.events.items h c.run_on-made.new.self c.reserve.new.self.items shown c.reserve.ensures.items, omega (arith, f0, f1, f2))
+    (keeps_silent r k.tables k.events.items h c.run_on-made.new.self c.reserve.new.self.items shown c.reserve.ensures.items, omega (arith, f0, f1, f2))
 
 pub returns-then-made-eq0-clause-run : goal.returns-then-made-eq0-clause-run
 returns-then-made-eq0-clause-run c =
@@ -83,7 +83,7 @@ invariant_of-self-2 c =
     let going : outcome st.book ≡ Going = sym (c.in-Going.ensures r.image st.book.events st h.shows) in
     let on : on_worker w st.book.line ≡ Some a = sym (c.in-Some.ensures.on r.image st.book.events st h.shows) in
     let quietly : GoesQuietly r.image st.book.events w n c.run_on-made.new.self st =
-    subst (λ (image : Image). (x : List Event) (s : State Memory Frames) → Shows image x k.desk s → outcome s.book ≡ Going → on_worker w s.book.line ≡ Some a → GoesQuietly image x w n c.run_on-made.new.self s) c.deref.ensures (c.run_on-made.ensures.made w)
+    subst (λ (image : Image). (x : List Event) (s : State Memory Frames) → Shows image x k.tables s → outcome s.book ≡ Going → on_worker w s.book.line ≡ Some a → GoesQuietly image x w n c.run_on-made.new.self s) c.deref.ensures (c.run_on-made.ensures.made w)
     st.book.events st h.shows going on in
     let some = some_of n c.if-made-eq0.false in
     let m = some.0 in
@@ -97,7 +97,7 @@ invariant_of-self-2 c =
     let f3 = c.add_steps.ensures.len in
     let f4 = c.add_steps.ensures.capacity in (
       subst (λ (x : List Event). Keeps (record r { log = c.add_steps.new.log.items }) c.run_on-made.new.self x) (sym c.tell_nothing.ensures)
-          (keeps_steps r w m c.add_steps.new.log.items k.desk c.run_on-made.new.self k.events.items h more entries whole),
+          (keeps_steps r w m c.add_steps.new.log.items k.tables c.run_on-made.new.self k.events.items h more entries whole),
       omega (arith, f0, f1, f2, f3, f4),
     )
 
@@ -113,7 +113,7 @@ returns-clause-run c =
     let going : outcome st.book ≡ Going = sym (c.in-Going.ensures r.image st.book.events st h.shows) in
     let on : on_worker w st.book.line ≡ Some a = sym (c.in-Some.ensures.on r.image st.book.events st h.shows) in
     let quietly : GoesQuietly r.image st.book.events w n c.run_on-made.new.self st =
-    subst (λ (image : Image). (x : List Event) (s : State Memory Frames) → Shows image x k.desk s → outcome s.book ≡ Going → on_worker w s.book.line ≡ Some a → GoesQuietly image x w n c.run_on-made.new.self s) c.deref.ensures (c.run_on-made.ensures.made w)
+    subst (λ (image : Image). (x : List Event) (s : State Memory Frames) → Shows image x k.tables s → outcome s.book ≡ Going → on_worker w s.book.line ≡ Some a → GoesQuietly image x w n c.run_on-made.new.self s) c.deref.ensures (c.run_on-made.ensures.made w)
     st.book.events st h.shows going on in
     let old = c.args.self.now in
     let log = c.add_steps.new.log.items in

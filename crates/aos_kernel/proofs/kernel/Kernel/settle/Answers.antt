@@ -34,7 +34,7 @@ invariant_of-self c =
     let lent = c.take_out.new.workers.items in
     let less : length lent ≤ length k.lent.items = subst (λ (x : List ℕ). length x ≤ length k.lent.items) (sym c.take_out.ensures) (without_less w k.lent.items) in
     let room = c.self.invariant.1 in
-    (keeps_lent r k.desk k.events.items lent k.loans h, omega (arith, less, room))
+    (keeps_lent r k.tables k.events.items lent k.loans h, omega (arith, less, room))
 
 pub returns-in_default : goal.returns-in_default
 returns-in_default c =
@@ -64,7 +64,7 @@ invariant_of-self-in_default-on c =
     let lent = c.take_out.new.workers.items in
     let less : length lent ≤ length k.lent.items = subst (λ (x : List ℕ). length x ≤ length k.lent.items) (sym c.take_out.ensures) (without_less w k.lent.items) in
     let room = c.self.invariant.1 in
-    (keeps_lent r k.desk k.events.items lent k.loans h, omega (arith, less, room))
+    (keeps_lent r k.tables k.events.items lent k.loans h, omega (arith, less, room))
 
 pub put_frames-requires : goal.put_frames-requires
 put_frames-requires c =
@@ -76,7 +76,7 @@ put_frames-requires c =
     let l = c.args.loan in
     let lent = c.take_out.new.workers.items in
     let on : on_worker w st.book.line ≡ Some c.in-Some.activity = sym (c.in-Some.ensures.on r.image st.book.events st h.shows) in
-    has_turn r k.desk k.events.items h w c.in-Some.activity (subst (λ (x : Run). w < x.workers) (sym c.self.view_is) c.requires.worker) on
+    has_turn r k.tables k.events.items h w c.in-Some.activity (subst (λ (x : Run). w < x.workers) (sym c.self.view_is) c.requires.worker) on
 
 pub invariant_of-self-then-turns-eq0 : goal.invariant_of-self-then-turns-eq0
 invariant_of-self-then-turns-eq0 c =
@@ -95,11 +95,11 @@ invariant_of-self-then-turns-eq0 c =
     let on : on_worker w st.book.line ≡ Some a = sym (c.in-Some.ensures.on r.image st.book.events st h.shows) in
     let puts = subst (λ (f : Kept). ComeBack r.image st.book.events a f c.put_frames.new.self st)
     c.into_frames.ensures (c.put_frames.ensures r.image st.book.events st h.shows) in
-    let shown = shows_settled r w l same small h.few_statements going loan k.desk c.put_frames.new.self st.book.events a on h.shows puts in
+    let shown = shows_settled r w l same small h.few_statements going loan k.tables c.put_frames.new.self st.book.events a on h.shows puts in
     let less : length lent ≤ length k.lent.items = subst (λ (x : List ℕ). length x ≤ length k.lent.items) (sym c.take_out.ensures) (without_less w k.lent.items) in
     let room = c.self.invariant.1 in
     let none : l.turns ≡ 0 = sym c.turns-turns.ensures.turns ∙ c.if-turns-eq0.true in
-    (keeps_idle r w l same small h.few_statements going loan k.desk c.put_frames.new.self k.events.items lent k.loans h none shown, omega (arith, less, room))
+    (keeps_idle r w l same small h.few_statements going loan k.tables c.put_frames.new.self k.events.items lent k.loans h none shown, omega (arith, less, room))
 
 pub returns-then-turns-eq0-clause-settled : goal.returns-then-turns-eq0-clause-settled
 returns-then-turns-eq0-clause-settled c =
@@ -131,7 +131,7 @@ invariant_of-self-2 c =
     let on : on_worker w st.book.line ≡ Some a = sym (c.in-Some.ensures.on r.image st.book.events st h.shows) in
     let puts = subst (λ (f : Kept). ComeBack r.image st.book.events a f c.put_frames.new.self st)
     c.into_frames.ensures (c.put_frames.ensures r.image st.book.events st h.shows) in
-    let shown = shows_settled r w l same small h.few_statements going loan k.desk c.put_frames.new.self st.book.events a on h.shows puts in
+    let shown = shows_settled r w l same small h.few_statements going loan k.tables c.put_frames.new.self st.book.events a on h.shows puts in
     let some = some_of l.turns (λ e. c.if-turns-eq0.false (c.turns-turns.ensures.turns ∙ e)) in
     let n = some.0 in
     let most : suc n ≤ 1000000000 = (let q = c.turns-turns.ensures.turns ∙ some.1 in let p = c.turns-turns.ensures.most in omega (arith, p, q)) in
@@ -143,7 +143,7 @@ invariant_of-self-2 c =
     let cap = c.push_reserved.ensures.capacity in
     let logged : c.push_reserved.new.self.items ≡ k.log.items ++ Steps w (suc n) ∷ [] = c.push_reserved.ensures.items ∙ ap (λ m. k.log.items ++ Steps w m ∷ []) (c.turns-turns.ensures.turns ∙ some.1) in (
       subst (λ (x : List Sched × List Event). Keeps (record r { log = x.0; lent = lent; loans = (k.loans + 1) % 2 ^ 64 }) c.put_frames.new.self x.1) (λ i. (sym logged i, sym c.clear.ensures.items i))
-          (keeps_settled r w l same small h.few_statements going loan k.desk c.put_frames.new.self k.events.items a n lent _ h some.1 most here shown),
+          (keeps_settled r w l same small h.few_statements going loan k.tables c.put_frames.new.self k.events.items a n lent _ h some.1 most here shown),
       omega (arith, one, room, len, cap),
     )
 

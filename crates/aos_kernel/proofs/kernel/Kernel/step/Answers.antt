@@ -40,11 +40,11 @@ invariant_of-self-in_err-turn-in-Some c =
     let r : Run = record { image = arc_value k.image; workers = k.workers; budget = k.budget; log = k.log.items; lent = k.lent.items; loans = k.loans } in
     let h = c.self.invariant.0 in
     let st = state_of r in
-    let same = subst (λ (image : Image). (earlier : List Event) (x : State Memory Frames) → Shows image earlier k.desk x → Shows image earlier c.turn.new.self x) c.deref.ensures c.in_err-turn-in-Some.ensures.err in
+    let same = subst (λ (image : Image). (earlier : List Event) (x : State Memory Frames) → Shows image earlier k.tables x → Shows image earlier c.turn.new.self x) c.deref.ensures c.in_err-turn-in-Some.ensures.err in
     let f0 = c.self.invariant.1 in
     let f1 = c.reserve.ensures.len in
     let f2 = c.reserve.ensures.capacity in
-    (keeps_silent r k.desk k.events.items h c.turn.new.self c.reserve.new.self.items (same st.book.events st h.shows) c.reserve.ensures.items, omega (arith, f0, f1, f2))
+    (keeps_silent r k.tables k.events.items h c.turn.new.self c.reserve.new.self.items (same st.book.events st h.shows) c.reserve.ensures.items, omega (arith, f0, f1, f2))
 
 pub invariant_of-self-in-Some : goal.invariant_of-self-in-Some
 invariant_of-self-in-Some c =
@@ -58,17 +58,17 @@ invariant_of-self-in-Some c =
     let on : on_worker c.args.w st.book.line ≡ Some a = sym (c.in-Some.ensures.on r.image st.book.events st h.shows) in
     let logged = c.add_step.ensures.items ∙ ap (with_step w) c.reserve.ensures.items in
     let fits : w < r.workers = subst (λ (x : Run). w < x.workers) (sym c.self.view_is) c.requires.worker in
-    let shown = subst (λ (image : Image). (earlier : List Event) (x : State Memory Frames) → Shows image earlier k.desk x → x.book.spent ≡ None → Shows image earlier c.turn.new.self (turn_by (machine image) a (x.book.activity a).next x))
+    let shown = subst (λ (image : Image). (earlier : List Event) (x : State Memory Frames) → Shows image earlier k.tables x → x.book.spent ≡ None → Shows image earlier c.turn.new.self (turn_by (machine image) a (x.book.activity a).next x))
     c.deref.ensures c.in_ok-turn-in-Some.ensures.ok in
     let f0 = c.in_ok-reserve-in-Some.ensures.ok in
     let f1 = c.len.ensures in
     let f2 = k.lent.ok.0 in
     let f3 = c.add_step.ensures.len in
     let f4 = c.add_step.ensures.capacity in (
-      keeps_after r c.add_step.new.log.items (Step w) c.turn.new.self c.hand_out.new.desk c.hand_out.new.events.items (turn_by (machine r.image) a (st.book.activity a).next st)
+      keeps_after r c.add_step.new.log.items (Step w) c.turn.new.self c.hand_out.new.tables c.hand_out.new.events.items (turn_by (machine r.image) a (st.book.activity a).next st)
           (ap choices logged ∙ choices-with_step w r.log) (steps_by r.image st w a going on)
-          (shown st.book.events st h.shows (unspent_while r k.desk k.events.items h going))
-          c.hand_out.ensures.desk c.hand_out.ensures.events (subst (λ l. All (IsEntry r.workers) l) (sym logged) (entries-with_step r.workers w r.log fits h.entries)) k.desk k.events.items h,
+          (shown st.book.events st h.shows (unspent_while r k.tables k.events.items h going))
+          c.hand_out.ensures.tables c.hand_out.ensures.events (subst (λ l. All (IsEntry r.workers) l) (sym logged) (entries-with_step r.workers w r.log fits h.entries)) k.tables k.events.items h,
       omega (arith, f0, f1, f2, f3, f4),
     )
 
@@ -90,10 +90,10 @@ invariant_of-self-in-Some-dispatch c =
     let f2 = k.lent.ok.0 in
     let f3 = c.add_step-in-Some-dispatch.ensures.len in
     let f4 = c.add_step-in-Some-dispatch.ensures.capacity in (
-      keeps_after r c.add_step-in-Some-dispatch.new.log.items (Step w) c.dispatch.new.self c.hand_out-in-Some-dispatch.new.desk c.hand_out-in-Some-dispatch.new.events.items (on_book (stands a (On w)) st)
+      keeps_after r c.add_step-in-Some-dispatch.new.log.items (Step w) c.dispatch.new.self c.hand_out-in-Some-dispatch.new.tables c.hand_out-in-Some-dispatch.new.events.items (on_book (stands a (On w)) st)
           (ap choices logged ∙ choices-with_step w r.log) (dispatches r.image st w a going on next)
           (c.in-Some-dispatch.ensures.some r.image st.book.events st h.shows)
-          c.hand_out-in-Some-dispatch.ensures.desk c.hand_out-in-Some-dispatch.ensures.events (subst (λ l. All (IsEntry r.workers) l) (sym logged) (entries-with_step r.workers w r.log fits h.entries)) k.desk k.events.items h,
+          c.hand_out-in-Some-dispatch.ensures.tables c.hand_out-in-Some-dispatch.ensures.events (subst (λ l. All (IsEntry r.workers) l) (sym logged) (entries-with_step r.workers w r.log fits h.entries)) k.tables k.events.items h,
       omega (arith, f0, f1, f2, f3, f4),
     )
 
@@ -174,13 +174,13 @@ turn-requires-clause-turn c =
     let h = c.self.invariant.0 in
     let st = state_of r in
     let on : on_worker c.args.w st.book.line ≡ Some c.in-Some.activity = sym (c.in-Some.ensures.on r.image st.book.events st h.shows) in
-    has_turn r k.desk k.events.items h c.args.w c.in-Some.activity (subst (λ (x : Run). c.args.w < x.workers) (sym c.self.view_is) c.requires.worker) on
+    has_turn r k.tables k.events.items h c.args.w c.in-Some.activity (subst (λ (x : Run). c.args.w < x.workers) (sym c.self.view_is) c.requires.worker) on
 
 pub dispatch-requires-clause-stood : goal.dispatch-requires-clause-stood
 dispatch-requires-clause-stood c =
     let k = c.self.inside in
     let r : Run = record { image = arc_value k.image; workers = k.workers; budget = k.budget; log = k.log.items; lent = k.lent.items; loans = k.loans } in
-    is_stood r k.desk k.events.items c.self.invariant.0
+    is_stood r k.tables k.events.items c.self.invariant.0
 
 pub invariant_of-self-in-None-dispatch : goal.invariant_of-self-in-None-dispatch
 invariant_of-self-in-None-dispatch c =
@@ -191,7 +191,7 @@ invariant_of-self-in-None-dispatch c =
     let f0 = c.self.invariant.1 in
     let f1 = c.reserve-in-None.ensures.len in
     let f2 = c.reserve-in-None.ensures.capacity in
-    (keeps_silent r k.desk k.events.items h c.dispatch.new.self c.reserve-in-None.new.self.items (c.in-None-dispatch.ensures.none r.image refl st.book.events st h.shows) c.reserve-in-None.ensures.items, omega (arith, f0, f1, f2))
+    (keeps_silent r k.tables k.events.items h c.dispatch.new.self c.reserve-in-None.new.self.items (c.in-None-dispatch.ensures.none r.image refl st.book.events st h.shows) c.reserve-in-None.ensures.items, omega (arith, f0, f1, f2))
 
 pub turn-requires-clause-stack : goal.turn-requires-clause-stack
-turn-requires-clause-stack c = subst (λ (image : Image). HasRooms image c.self.inside.desk.stack) (sym c.deref.ensures) c.self.invariant.0.shows.room
+turn-requires-clause-stack c = subst (λ (image : Image). HasRooms image c.self.inside.tables.stack) (sym c.deref.ensures) c.self.invariant.0.shows.room

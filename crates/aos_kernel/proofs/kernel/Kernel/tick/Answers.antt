@@ -45,10 +45,10 @@ invariant_of-self-in-Some c =
     let f2 = k.lent.ok.0 in
     let f3 = c.push_reserved.ensures.len in
     let f4 = c.push_reserved.ensures.capacity in (
-      keeps_after r c.push_reserved.new.self.items (Tick w) c.ready.new.self c.hand_out.new.desk c.hand_out.new.events.items (on_book (ready a) st)
+      keeps_after r c.push_reserved.new.self.items (Tick w) c.ready.new.self c.hand_out.new.tables c.hand_out.new.events.items (on_book (ready a) st)
           (ap choices logged ∙ choices-with_tick w r.log) (ticks_by r.image st w a going on)
           (c.ready.ensures r.image st.book.events st h.shows)
-          c.hand_out.ensures.desk c.hand_out.ensures.events (subst (λ l. All (IsEntry r.workers) l) (sym logged) (entries-with_tick r.workers w r.log fits h.entries)) k.desk k.events.items h,
+          c.hand_out.ensures.tables c.hand_out.ensures.events (subst (λ l. All (IsEntry r.workers) l) (sym logged) (entries-with_tick r.workers w r.log fits h.entries)) k.tables k.events.items h,
       omega (arith, f0, f1, f2, f3, f4),
     )
 
@@ -92,7 +92,7 @@ ready-requires c =
     let h = c.self.invariant.0 in
     let st = state_of r in
     let on : on_worker c.args.w st.book.line ≡ Some c.in-Some.activity = sym (c.in-Some.ensures.on r.image st.book.events st h.shows) in
-    has_turn r k.desk k.events.items h c.args.w c.in-Some.activity (subst (λ (x : Run). c.args.w < x.workers) (sym c.self.view_is) c.requires.worker) on
+    has_turn r k.tables k.events.items h c.args.w c.in-Some.activity (subst (λ (x : Run). c.args.w < x.workers) (sym c.self.view_is) c.requires.worker) on
 
 pub returns-in-None-clause-ticked : goal.returns-in-None-clause-ticked
 returns-in-None-clause-ticked c =

@@ -4,7 +4,7 @@ use Rattle.aos_code.specs.Silent.{kinds_of}
 use Rattle.aos_layout.specs.Frame.{parameter_kind}
 use Rattle.aos_typed.specs.Routines.{parameters_at, routines}
 use Rattle.aos_typed.specs.Seen.{seen_program}
-use Rattle.aos_laid.specs.Handed.{AreHandedThere, handed_by}
+use Rattle.aos_laid.specs.Parameters.{AreHandedThere, handed_by}
 use Rattle.aos_laid.proofs.laid.Laid.taken.Goals as goal
 
 pub taken_by-requires-clause-there : goal.taken_by-requires-clause-there

@@ -1,7 +1,0 @@
-use Rattle.std.proofs.Common.{◌≡◌}
-use Rattle.aos_types.specs.Shape as shape
-use Rattle.aos_layout.specs.Part.{fields}
-use Rattle.aos_layout.proofs.part.cells_before.Given as goal
-
-abbrev pub invariant-loop-field : goal.invariant-loop-field
-invariant-loop-field l = l.cells ≡ shape.before l.field-index (fields l.types l.fn.fields)

@@ -1,0 +1,60 @@
+use Rattle.std.proofs.Common.{◌∷◌, [], sym, ◌∙◌, refl, ap, arith, append_assoc, length, append-nil}
+use Rattle.aos_tree.specs.StatGrammar as g
+use Rattle.aos_tree.specs.Nesting.{shallow}
+use Rattle.aos_parse_expr.proofs.Steps as by
+use Rattle.aos_parse_stat.specs.Symbols as m
+use Rattle.aos_parse_stat.proofs.StatProductions as q
+use Rattle.aos_parse_stat.proofs.Trees as trees
+use Rattle.aos_scan.specs.declared.token.TokenKind.TheVariants as kind
+use Rattle.aos_parse_expr.proofs.Sight as sight
+use Rattle.aos_parse_stat.proofs.phrases.modifiers.Goals as goal
+
+pub loop-found-init : goal.loop-found-init
+loop-found-init c =
+    record {
+      ended = c.in_ok-first.ensures.rest.0;
+      shorter = omega (arith, c.in_ok-first.ensures.rest.1);
+      tree = λ more end h. rw (c.in_ok-push.ensures.ok, c.new-found.ensures) (g.modifiers c.in_ok-first.ensures.tree h);
+      moves = λ k. c.in_ok-first.ensures.moves (m.more_modifiers c.args.depth ∷ k);
+    }
+
+pub returns-in_err-first-clause-moves : goal.returns-in_err-first-clause-moves
+returns-in_err-first-clause-moves c =
+    by.exits (λ r. r.1.now) c.from_residual.result (m.modifiers c.args.depth) c.from_residual.ensures.1 (by.pass_on (m.more_modifiers c.args.depth ∷ []) c.in_err-first.ensures.moves (λ k. refl))
+
+pub returns-in_err-one-in-Comma-clause-moves : goal.returns-in_err-one-in-Comma-clause-moves
+returns-in_err-one-in-Comma-clause-moves c =
+    by.exits (λ r. r.1.now) c.from_residual-in_err-one-in-Comma.result (m.modifiers c.args.depth) c.from_residual-in_err-one-in-Comma.ensures.1 (by.pass_on (m.more_modifiers c.args.depth ∷ []) c.in_err-one-in-Comma.ensures.moves (λ k. c.loop-found.invariant.moves k ∙ by.shifts m.table shallow c.split.ensures.whole (m.more_modifiers c.args.depth) c.args.depth (m.modifiers c.args.depth) (ap (m.after_more_modifiers c.args.depth) c.in-Comma.is) (by.fits_shallow _ c.requires.nested) k))
+
+pub loop-found-preserved : goal.loop-found-preserved
+loop-found-preserved c =
+    record {
+      ended = c.in_ok-one-in-Comma.ensures.rest.0;
+      shorter = omega (arith, ap length c.split.ensures.whole, c.in_ok-one-in-Comma.ensures.rest.1, c.loop-found.invariant.shorter);
+      tree = λ more end h. rw (c.in_ok-push-in-Comma.ensures.ok, append_assoc) (c.loop-found.invariant.tree _ end (g.another_modifier (trees.word_at c.args.depth c.split.ensures.whole c.in-Comma.is c.requires.nested) c.in_ok-one-in-Comma.ensures.tree h));
+      moves = λ k. c.loop-found.invariant.moves k ∙ by.shifts m.table shallow c.split.ensures.whole (m.more_modifiers c.args.depth) c.args.depth (m.modifiers c.args.depth) (ap (m.after_more_modifiers c.args.depth) c.in-Comma.is) (by.fits_shallow _ c.requires.nested) k ∙ c.in_ok-one-in-Comma.ensures.moves (m.more_modifiers c.args.depth ∷ k);
+    }
+
+pub returns-in-CloseBrace-clause-tree : goal.returns-in-CloseBrace-clause-tree
+returns-in-CloseBrace-clause-tree c =
+    rw (sym (append-nil c.loop-found.found)) (c.loop-found.invariant.tree [] _ (g.no_more_modifiers (trees.word_at c.args.depth c.split.ensures.whole c.in-CloseBrace.is c.requires.nested)))
+
+pub returns-in-CloseBrace-clause-moves : goal.returns-in-CloseBrace-clause-moves
+returns-in-CloseBrace-clause-moves c =
+    λ k. c.loop-found.invariant.moves k ∙ by.shifts m.table shallow c.split.ensures.whole (m.more_modifiers c.args.depth) c.args.depth ([]) (ap (m.after_more_modifiers c.args.depth) c.in-CloseBrace.is) (by.fits_shallow _ c.requires.nested) k
+
+pub returns-in_default : goal.returns-in_default
+returns-in_default c =
+    record { tree = tt; rest = tt; moves = record { refused = (_, λ k. c.loop-found.invariant.moves k ∙ by.refuses m.table shallow c.split.ensures.whole (m.more_modifiers c.args.depth) c.args.depth (q.no_more_modifiers _ _ c.in_default.not-Comma c.in_default.not-CloseBrace) refl (by.fits_shallow _ c.requires.nested) k) } }
+
+pub modifier-requires-in-Comma-clause-ended : goal.modifier-requires-in-Comma-clause-ended
+modifier-requires-in-Comma-clause-ended c =
+    sight.behind kind.Comma c.split.ensures.whole c.in-Comma.is refl c.split.ensures.ended
+
+pub loop-found-smaller : goal.loop-found-smaller
+loop-found-smaller c =
+    sight.less _ c.split.ensures.whole c.in_ok-one-in-Comma.ensures.rest.1
+
+pub returns-in-CloseBrace-clause-rest : goal.returns-in-CloseBrace-clause-rest
+returns-in-CloseBrace-clause-rest c =
+    sight.further _ _ _ (c.loop-found.invariant.ended, c.loop-found.invariant.shorter) (sight.taken kind.CloseBrace c.split.ensures.whole c.in-CloseBrace.is refl c.split.ensures.ended)
