@@ -175,7 +175,8 @@ fn replay_files<F: Shelf>(
 ) -> Result<Answer, NoMemory>
     requires { AreFew (borrowed files.now) }
     ensures { IfOk result (ServesWith
-        (Replay name.now watch (borrowed files.now)) (shelf_use F.Shelf shelf.old shelf.new) (probes_use
+        (Replay name.now watch (borrowed files.now)) (shelf_use F.Shelf shelf.old shelf.new)
+        (probes_use
         (map (λ p. seen p) probes.old.items) (map (λ p. seen p) probes.new.items))) }
 {
     let listing = match fetch_file(alloc, name, SCRIPT_LIMIT, shelf)? {

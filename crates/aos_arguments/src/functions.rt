@@ -156,7 +156,8 @@ pub fn function_value(
     handing: Handing,
 ) -> Result<Answer, AllocError>
     ensures noted { OnOk result (found.new ≡ first_after found.old
-        (judge.function_told env.now first (seen_callee callee) of (seen_handing handing)).breaches) }
+        (judge.function_told env.now first (seen_callee callee) of
+        (seen_handing handing)).breaches) }
     ensures answer { IfOk result (λ r. seen_answer r ≡
         (judge.function_told env.now first (seen_callee callee) of (seen_handing handing)).answer) }
 {

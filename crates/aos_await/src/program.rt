@@ -11,7 +11,8 @@ use std::alloc::AllocError;
 
 /// The AWAITs of a procedure are numbered from the next number on.
 fn number_procedure(procedure: &mut TProcedure, next: &mut u32) -> Result<(), AllocError>
-    ensures numbers { OnOk result (seen_procedure procedure.new ≡ procedure_renumbered next.old (seen_procedure procedure.old)) }
+    ensures numbers { OnOk result (seen_procedure procedure.new ≡
+        procedure_renumbered next.old (seen_procedure procedure.old)) }
     ensures next { OnOk result (next.new ≡ next.old + awaits (seen_procedure procedure.old).body) }
 {
     number_body(&mut procedure.body, next)

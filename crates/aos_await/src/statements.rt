@@ -55,8 +55,10 @@ fn number_stat(stat: &mut TStat, next: &mut u32) -> Result<(), AllocError>
 /// Those of a body.
 #[cycle(numbers)]
 pub fn number_body(body: &mut Vec<TStat>, next: &mut u32) -> Result<(), AllocError>
-    ensures numbers { OnOk result (seen_stats body.new.items ≡ stats_renumbered next.old (seen_stats body.old.items)) }
-    ensures next { OnOk result (next.new ≡ next.old + length (awaited_in (seen_stats body.old.items))) }
+    ensures numbers { OnOk result (seen_stats body.new.items ≡
+        stats_renumbered next.old (seen_stats body.old.items)) }
+    ensures next { OnOk result (next.new ≡
+        next.old + length (awaited_in (seen_stats body.old.items))) }
 {
     number_stats(body.as_mut_slice(), next)
 }
@@ -64,7 +66,8 @@ pub fn number_body(body: &mut Vec<TStat>, next: &mut u32) -> Result<(), AllocErr
 /// The AWAITs of statements are numbered, one behind the other.
 #[cycle(numbers)]
 fn number_stats(stats: &mut [TStat], next: &mut u32) -> Result<(), AllocError>
-    ensures numbers { OnOk result (seen_stats stats.new ≡ stats_renumbered next.old (seen_stats stats.old)) }
+    ensures numbers { OnOk result (seen_stats stats.new ≡
+        stats_renumbered next.old (seen_stats stats.old)) }
     ensures next { OnOk result (next.new ≡ next.old + length (awaited_in (seen_stats stats.old))) }
 {
     for place in 0..stats.len() {
@@ -77,7 +80,8 @@ fn number_stats(stats: &mut [TStat], next: &mut u32) -> Result<(), AllocError>
 #[cycle(numbers)]
 fn number_arms(arms: &mut [TArm], next: &mut u32) -> Result<(), AllocError>
     ensures numbers { OnOk result ((last : Stats) →
-        arms_of arms.new (stats_renumbered next.new last) ≡ arms_renumbered next.old (arms_of arms.old last)) }
+        arms_of arms.new (stats_renumbered next.new last) ≡
+        arms_renumbered next.old (arms_of arms.old last)) }
     ensures next { OnOk result (next.new ≡ next.old + awaits_of_arms arms.old) }
 {
     for place in 0..arms.len() {
@@ -90,7 +94,8 @@ fn number_arms(arms: &mut [TArm], next: &mut u32) -> Result<(), AllocError>
 #[cycle(numbers)]
 fn number_cases(cases: &mut [TCase], next: &mut u32) -> Result<(), AllocError>
     ensures numbers { OnOk result ((last : Cases) →
-        cases_of cases.new (cases_renumbered next.new last) ≡ cases_renumbered next.old (cases_of cases.old last)) }
+        cases_of cases.new (cases_renumbered next.new last) ≡
+        cases_renumbered next.old (cases_of cases.old last)) }
     ensures next { OnOk result (next.new ≡ next.old + awaits_of_cases cases.old) }
 {
     for place in 0..cases.len() {
@@ -102,8 +107,10 @@ fn number_cases(cases: &mut [TCase], next: &mut u32) -> Result<(), AllocError>
 /// Those of the statements behind ELSE of CASE, if there are any.
 #[cycle(numbers)]
 fn number_else(otherwise: &mut TElse, next: &mut u32) -> Result<(), AllocError>
-    ensures numbers { OnOk result (seen_else otherwise.new ≡ cases_renumbered next.old (seen_else otherwise.old)) }
-    ensures next { OnOk result (next.new ≡ next.old + length (awaited_in_cases (seen_else otherwise.old))) }
+    ensures numbers { OnOk result (seen_else otherwise.new ≡
+        cases_renumbered next.old (seen_else otherwise.old)) }
+    ensures next { OnOk result (next.new ≡
+        next.old + length (awaited_in_cases (seen_else otherwise.old))) }
 {
     match otherwise {
         TElse::Missing => Ok(()),

@@ -51,7 +51,8 @@ fn perform_signed(
     arguments: &[Expr],
 ) -> Result<Option<MadeStat>, AllocError>
     ensures noted { OnOk result (found.new ≡ first_after found.old
-        (judge.perform_signed env.now at (seen_callee callee) signature.now arguments.now).breaches) }
+        (judge.perform_signed env.now at
+        (seen_callee callee) signature.now arguments.now).breaches) }
     ensures answer { IfOk result (λ s. option_map seen_stat s ≡
         (judge.perform_signed env.now at (seen_callee callee) signature.now arguments.now).answer) }
 {

@@ -159,7 +159,8 @@ fn variables_in<'a>(
 ) -> Result<(), NoMemory>
     ensures { Tells result found.old found.new
         (λ _. judge.members_met env.new types.new variables.new.items)
-        (walk judge.variable_in (judge.members_met env.old types.old variables.old.items) defs.now) }
+        (walk judge.variable_in (judge.members_met env.old types.old variables.old.items)
+        defs.now) }
 {
     for def in defs.as_slice() {
         let of = type_in(alloc, found, env, false, None, &def.of)?;

@@ -174,10 +174,12 @@ fn value_called(
 ) -> Result<Entity, AllocError>
     ensures noted { OnOk result (found.new ≡ first_after found.old
         (bind (designators.named env.now head)
-        (λ a. designators.guarded env.now head.first at a (judge.guard_type env.now arguments.now))).breaches) }
+        (λ a. designators.guarded env.now head.first at a
+        (judge.guard_type env.now arguments.now))).breaches) }
     ensures answer { IfOk result (λ r. seen_entity r ≡
         (bind (designators.named env.now head)
-        (λ a. designators.guarded env.now head.first at a (judge.guard_type env.now arguments.now))).answer) }
+        (λ a. designators.guarded env.now head.first at a
+        (judge.guard_type env.now arguments.now))).answer) }
 {
     let whole = named(alloc, found, env, head)?;
     let of = guard_type(env, arguments);

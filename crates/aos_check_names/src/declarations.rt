@@ -37,7 +37,8 @@ fn add_types(names: &mut Vec<Name>, defs: &[TypeDef]) -> Result<(), AllocError>
 
 fn add_variables(names: &mut Vec<Name>, defs: &[VarDef]) -> Result<(), AllocError>
     ensures { OnOk result
-        (names.new.items ≡ names.old.items ++ flat_map (λ v. declarations.def_names v.defs) defs.now) }
+        (names.new.items ≡ names.old.items ++
+        flat_map (λ v. declarations.def_names v.defs) defs.now) }
 {
     for def in defs {
         add_defs(names, def.defs.as_slice())?;
@@ -62,7 +63,8 @@ fn add_names(names: &mut Vec<Name>, decl: &Decl) -> Result<(), AllocError>
 
 /// Puts the names that declarations declare behind these, in the order of the text.
 pub fn add_declared(names: &mut Vec<Name>, decls: &[Decl]) -> Result<(), AllocError>
-    ensures { OnOk result (names.new.items ≡ names.old.items ++ declarations.declared_names decls.now) }
+    ensures { OnOk result (names.new.items ≡ names.old.items ++
+        declarations.declared_names decls.now) }
 {
     for decl in decls {
         add_names(names, decl)?;

@@ -209,9 +209,11 @@ fn new_of(
     arguments: &[Expr],
 ) -> Result<Option<MadeStat>, AllocError>
     ensures noted { OnOk result (found.new ≡ first_after found.old
-        (judge.new_of env.now at argument.now (option_copied variable.entry) arguments.now).breaches) }
+        (judge.new_of env.now at argument.now
+        (option_copied variable.entry) arguments.now).breaches) }
     ensures answer { IfOk result (λ s. option_map seen_stat s ≡
-        (judge.new_of env.now at argument.now (option_copied variable.entry) arguments.now).answer) }
+        (judge.new_of env.now at argument.now
+        (option_copied variable.entry) arguments.now).answer) }
 {
     let first = argument.pos;
     let Some(variable) = variable else {

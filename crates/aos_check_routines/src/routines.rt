@@ -61,9 +61,11 @@ fn change_of(
     value: Option<&Expr>,
 ) -> Result<Option<MadeStat>, AllocError>
     ensures noted { OnOk result (found.new ≡ first_after found.old
-        (judge.change_of env.now routine at first (seen_entity entity) (option_copied value.entry)).breaches) }
+        (judge.change_of env.now routine at first (seen_entity entity)
+        (option_copied value.entry)).breaches) }
     ensures answer { IfOk result (λ s. option_map seen_stat s ≡
-        (judge.change_of env.now routine at first (seen_entity entity) (option_copied value.entry)).answer) }
+        (judge.change_of env.now routine at first (seen_entity entity)
+        (option_copied value.entry)).answer) }
 {
     refuse_changed(found, routine, first, &entity);
     let value = amount(alloc, found, env, routine, entity.known.of, value)?;
@@ -85,9 +87,11 @@ fn change_at(
     value: Option<&Expr>,
 ) -> Result<Option<MadeStat>, AllocError>
     ensures noted { OnOk result (found.new ≡ first_after found.old
-        (judge.change_at env.now routine at argument.now (option_copied variable.entry) (option_copied value.entry)).breaches) }
+        (judge.change_at env.now routine at argument.now (option_copied variable.entry)
+        (option_copied value.entry)).breaches) }
     ensures answer { IfOk result (λ s. option_map seen_stat s ≡
-        (judge.change_at env.now routine at argument.now (option_copied variable.entry) (option_copied value.entry)).answer) }
+        (judge.change_at env.now routine at argument.now (option_copied variable.entry)
+        (option_copied value.entry)).answer) }
 {
     let first = argument.pos;
     let Some(variable) = variable else {
@@ -110,7 +114,8 @@ pub fn change_call(
     ensures noted { OnOk result (found.new ≡
         first_after found.old (judge.change_call env.now routine at arguments.now).breaches) }
     ensures answer { IfOk result
-        (λ s. option_map seen_stat s ≡ (judge.change_call env.now routine at arguments.now).answer) }
+        (λ s. option_map seen_stat s ≡
+        (judge.change_call env.now routine at arguments.now).answer) }
 {
     match arguments {
         [variable] => {

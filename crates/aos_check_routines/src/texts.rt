@@ -49,9 +49,11 @@ fn copied_to(
     variable: Option<&Desig>,
 ) -> Result<Option<MadeStat>, AllocError>
     ensures noted { OnOk result (found.new ≡ first_after found.old
-        (judge.copied_to env.now at (seen_answer value) argument.now (option_copied variable.entry)).breaches) }
+        (judge.copied_to env.now at (seen_answer value) argument.now
+        (option_copied variable.entry)).breaches) }
     ensures answer { IfOk result (λ s. option_map seen_stat s ≡
-        (judge.copied_to env.now at (seen_answer value) argument.now (option_copied variable.entry)).answer) }
+        (judge.copied_to env.now at (seen_answer value) argument.now
+        (option_copied variable.entry)).answer) }
 {
     let second = argument.pos;
     let Some(variable) = variable else {

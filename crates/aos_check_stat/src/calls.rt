@@ -24,7 +24,8 @@ fn called_meaning(
     desig: &Desig,
 ) -> Result<Option<MadeStat>, AllocError>
     ensures noted { OnOk result (found.new ≡
-        first_after found.old (judge.called_meaning env.now symbol symbol.means desig.now).breaches) }
+        first_after found.old
+        (judge.called_meaning env.now symbol symbol.means desig.now).breaches) }
     ensures answer { IfOk result (λ s. option_map seen_stat s ≡
         (judge.called_meaning env.now symbol symbol.means desig.now).answer) }
 {

@@ -59,7 +59,8 @@ pub fn body(
     part: &Option<Boxed<Block>>,
 ) -> Result<Vec<TStat>, CheckErr>
     ensures went { IfOk result (λ ss.
-        passed file (bodies.body_of env.old may_be_active part.now) ≡ went (map seen_stat ss.items)) }
+        passed file (bodies.body_of env.old may_be_active part.now) ≡
+        went (map seen_stat ss.items)) }
     ensures env { OnOk result (env.new ≡ env.old) }
     ensures refused { IfErr result (λ e. OnRefused e (λ r.
         passed file (bodies.body_of env.old may_be_active part.now) ≡ refused r)) }
@@ -84,9 +85,11 @@ pub fn declare<'a>(
 ) -> Result<Env<'a>, CheckErr>
     requires { length before ≤ 64 }
     ensures went { IfOk result (λ e.
-        passed file (declarations.declare (length before.entry) before.entry types text.now tree.now) ≡ went e) }
+        passed file (declarations.declare (length before.entry) before.entry types text.now
+        tree.now) ≡ went e) }
     ensures refused { IfErr result (λ e. OnRefused e (λ r.
-        passed file (declarations.declare (length before.entry) before.entry types text.now tree.now) ≡ refused r)) }
+        passed file (declarations.declare (length before.entry) before.entry types text.now
+        tree.now) ≡ refused r)) }
 {
     let mut found = None;
     let env = declare_noting(alloc, &mut found, before, types, text, tree)?;

@@ -186,7 +186,8 @@ fn module_of(
 
 /// The body of the object type with a number in the program.
 fn object_procedure(alloc: Global, number: u32, is_exclusive: bool, body: Vec<TStat>) -> TProcedure
-    ensures { seen_procedure result ≡ judge.object_procedure number (seen_body is_exclusive body.items) }
+    ensures { seen_procedure result ≡
+        judge.object_procedure number (seen_body is_exclusive body.items) }
 {
     TProcedure {
         name: String::new(alloc),
@@ -333,7 +334,8 @@ fn put_objects(
     objects: Vec<Beside>,
 ) -> Result<(), AllocError>
     ensures { OnOk result (map seen_object all.new.items ≡ map seen_object all.old.items
-        ++ judge.objects_from env.now (length (map seen_object all.old.items)) (map seen_beside objects.items)) }
+        ++ judge.objects_from env.now (length (map seen_object all.old.items))
+        (map seen_beside objects.items)) }
 {
     for beside in objects {
         let Ok(number) = u32::try_from(all.len()) else {
@@ -353,7 +355,8 @@ fn join_objects(
     objects: Vec<Beside>,
 ) -> Result<(), AllocError>
     ensures { OnOk result (map seen_object all.new.items ≡ map seen_object all.old.items
-        ++ judge.objects_from env.now (length (map seen_object all.old.items)) (map seen_beside objects.items)) }
+        ++ judge.objects_from env.now (length (map seen_object all.old.items))
+        (map seen_beside objects.items)) }
 {
     all.reserve(objects.len())?;
     put_objects(alloc, env, all, objects)

@@ -135,12 +135,16 @@ fn bodies_within(
     def: &TypeDef,
 ) -> Result<(Vec<TStat>, Vec<Vec<TStat>>, Priority), AllocError>
     ensures noted { OnOk result (found.new ≡ first_after found.old
-        ((body_of_env (env_of.within_object env.old of) true (judge.object_body def.now.value)).breaches
-        ++ (judge.bodies_from (env_of.within_object env.old of) scope [] (methods_in def.now)).breaches)) }
+        ((body_of_env (env_of.within_object env.old of) true
+        (judge.object_body def.now.value)).breaches
+        ++ (judge.bodies_from (env_of.within_object env.old of) scope []
+        (methods_in def.now)).breaches)) }
     ensures body { IfOk result (λ r. seen_stats r.0.items ≡ listed
-        (body_of_env (env_of.within_object env.old of) true (judge.object_body def.now.value)).answer) }
+        (body_of_env (env_of.within_object env.old of) true
+        (judge.object_body def.now.value)).answer) }
     ensures methods { IfOk result (λ r. map (λ ss. seen_stats ss.items) r.1.items ≡
-        (judge.bodies_from (env_of.within_object env.old of) scope [] (methods_in def.now)).answer) }
+        (judge.bodies_from (env_of.within_object env.old of) scope []
+        (methods_in def.now)).answer) }
     ensures priority { IfOk result (λ r. r.2 ≡
         priority_of_env (env_of.within_object env.old of) (judge.object_body def.now.value)) }
     ensures env { OnOk result (env.new ≡ env.old) }

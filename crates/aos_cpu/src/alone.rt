@@ -45,8 +45,11 @@ fn is_own_value(cell: Cell) -> bool
 
 /// Whether a parameter's argument is a place whose cells are copied, and how many operands the argument is.
 fn taken_by(param: ParamKind) -> (bool, usize)
-    ensures { (ps : List ParamKind) (v : Cell) (vs : List Cell) → copies_own_for (param ∷ ps) (v ∷ vs) ≡
-        (if result.0 then is_own_cell v && copies_own_for ps (drop result.1 (v ∷ vs)) else copies_own_for ps (drop result.1 (v ∷ vs))) }
+    ensures { (ps : List ParamKind) (v : Cell) (vs : List Cell) →
+        copies_own_for (param ∷ ps) (v ∷ vs) ≡
+        (if result.0 then is_own_cell v &&
+        copies_own_for ps (drop result.1 (v ∷ vs)) else copies_own_for ps
+        (drop result.1 (v ∷ vs))) }
 {
     match param {
         ParamKind::Scalar(_) => (false, 1),
@@ -88,7 +91,8 @@ fn copies_own(params: &[ParamKind], arguments: &[Cell]) -> bool
 
 /// Whether a question's answer needs nothing but the activity's own frames, where these operands lie there.
 fn is_own(image: &Image, question: Question, operands: &[Cell]) -> bool
-    ensures { result ≡ is_own_question image.now.shapes.items (question_in question (reverse operands.now)) }
+    ensures { result ≡
+        is_own_question image.now.shapes.items (question_in question (reverse operands.now)) }
 {
     match question {
         Question::Reads(_, address) => is_of_frame(address.root),
@@ -139,7 +143,8 @@ fn make_own(
     requires own { is_own_turn image.now (frames_in frames.old) ≡ true }
     requires memory { memory_in store.old ≡ no_memory }
     ensures ok { IfOk result (λ is. HasTried image.now is frames.old frames.new) }
-    ensures err { OnErr result (Alike image.now (made_by []) (frames_in frames.old) (frames_in frames.new)) }
+    ensures err { OnErr result (Alike image.now (made_by []) (frames_in frames.old)
+        (frames_in frames.new)) }
     ensures counts { OnErr result (SameCounts frames.old frames.new) }
     ensures none { memory_in store.new ≡ no_memory }
     ensures fit { StayFit image.now frames.old frames.new }
@@ -163,7 +168,8 @@ fn make_private(
 ) -> Result<bool, NoMemory>
     requires memory { memory_in store.old ≡ no_memory }
     ensures ok { IfOk result (λ is. HasTried image.now is frames.old frames.new) }
-    ensures err { OnErr result (Alike image.now (made_by []) (frames_in frames.old) (frames_in frames.new)) }
+    ensures err { OnErr result (Alike image.now (made_by []) (frames_in frames.old)
+        (frames_in frames.new)) }
     ensures counts { OnErr result (SameCounts frames.old frames.new) }
     ensures none { memory_in store.new ≡ no_memory }
     ensures fit { StayFit image.now frames.old frames.new }
@@ -189,11 +195,13 @@ pub fn private(
     most: u32,
     budget: u64,
 ) -> Result<(u32, PrivateStop), NoMemory>
-    ensures made { IsMadePrivately image.now budget (turns_since frames.old frames.new) frames.old frames.new }
+    ensures made { IsMadePrivately image.now budget (turns_since frames.old frames.new) frames.old
+        frames.new }
     ensures count { IfOk result (λ r. r.0 ≡ turns_since frames.old frames.new) }
     ensures most { turns_since frames.old frames.new ≤ most }
     ensures stop { IfOk result (λ r. r.1 ≡ stop_after budget most r.0 frames.new.begun) }
-    ensures shared { IfOk result (λ r. WhereShared r.1 (is_private image.now (frames_in frames.new) ≡ false)) }
+    ensures shared { IfOk result (λ r.
+        WhereShared r.1 (is_private image.now (frames_in frames.new) ≡ false)) }
     ensures fit { StayFit image.now frames.old frames.new }
 {
     // once it is read, its range is known

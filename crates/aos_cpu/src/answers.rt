@@ -28,7 +28,9 @@ use std::alloc::Global;
 /// A frame goes on behind the instruction at this place, with so many operands fewer.
 fn go_on(frame: &mut Frame, at: usize, taken: usize)
     requires { at + 1 < 2 ^ 64 }
-    ensures behind { frame_in frame.new ≡ behind [] at (frame_in frame.old).keeps (drop taken (frame_in frame.old).stack) (frame_in frame.old) }
+    ensures behind { frame_in frame.new ≡
+        behind [] at (frame_in frame.old).keeps (drop taken (frame_in frame.old).stack)
+        (frame_in frame.old) }
     ensures room { HasMoreRoom frame.old frame.new }
 {
     take(&mut frame.operands, taken);
@@ -66,7 +68,9 @@ pub fn put_behind(frames: &mut Frames, at: usize, taken: usize, cell: Cell) -> R
 /// A frame goes on behind the instruction at this place, with one operand in place of so many.
 fn put_on(frame: &mut Frame, at: usize, taken: usize, cell: Cell) -> Result<(), NoMemory>
     requires { at + 1 < 2 ^ 64 }
-    ensures ok { IfOk result (λ _. frame_in frame.new ≡ behind [] at (frame_in frame.old).keeps (cell ∷ drop taken (frame_in frame.old).stack) (frame_in frame.old)) }
+    ensures ok { IfOk result (λ _.
+        frame_in frame.new ≡ behind [] at (frame_in frame.old).keeps (cell ∷
+        drop taken (frame_in frame.old).stack) (frame_in frame.old)) }
     ensures err { OnErr result (frame_in frame.new ≡ frame_in frame.old) }
     ensures room { HasMoreRoom frame.old frame.new }
 {
@@ -78,7 +82,9 @@ fn put_on(frame: &mut Frame, at: usize, taken: usize, cell: Cell) -> Result<(), 
 
 /// The topmost frame, where there is one, gets an operand more.
 fn give_top(frames: &mut Frames, cell: Cell) -> Result<(), NoMemory>
-    ensures ok { IfOk result (λ _. list_in frames.new.list.items ≡ with_result [] (Option.Some cell) (list_in frames.old.list.items)) }
+    ensures ok { IfOk result (λ _.
+        list_in frames.new.list.items ≡
+        with_result [] (Option.Some cell) (list_in frames.old.list.items)) }
     ensures err { OnErr result (list_in frames.new.list.items ≡ list_in frames.old.list.items) }
     ensures following { frames.new.following ≡ frames.old.following }
     ensures len { vec_len frames.new.list ≡ vec_len frames.old.list }
@@ -103,9 +109,13 @@ fn give_top(frames: &mut Frames, cell: Cell) -> Result<(), NoMemory>
 
 /// The topmost frame ends, and hands its result to the one below, where there is one.
 pub fn end_frame(frames: &mut Frames, value: Option<Cell>) -> Result<Did, NoMemory>
-    ensures ok { (at taken : ℕ) (mem : Memory) (out : List ℕ) → IfOk result (λ did. IsAnswered (Ends value) at taken frames.old frames.new mem mem did out out) }
-    ensures left { (mem : Memory) (out : List ℕ) → IfOk result (λ did. WhereLeft did (Same frames.old frames.new mem mem out out)) }
-    ensures err { (mem : Memory) (out : List ℕ) → OnErr result (Same frames.old frames.new mem mem out out) }
+    ensures ok { (at taken : ℕ) (mem : Memory) (out : List ℕ) →
+        IfOk result (λ did.
+        IsAnswered (Ends value) at taken frames.old frames.new mem mem did out out) }
+    ensures left { (mem : Memory) (out : List ℕ) →
+        IfOk result (λ did. WhereLeft did (Same frames.old frames.new mem mem out out)) }
+    ensures err { (mem : Memory) (out : List ℕ) →
+        OnErr result (Same frames.old frames.new mem mem out out) }
     ensures counts { SameCounts frames.old frames.new }
     ensures room { KeepsRoom frames.old frames.new }
 {
@@ -133,9 +143,17 @@ pub fn read(
     at: usize,
 ) -> Result<Did, NoMemory>
     requires { at + 1 < 2 ^ 64 }
-    ensures ok { (out : List ℕ) → IfOk result (λ did. IsAnswered (Reads kind (addr_in address)) at 1 frames.old frames.new (memory_in store.now) (memory_in store.now) did out out) }
-    ensures left { (out : List ℕ) → IfOk result (λ did. WhereLeft did (Same frames.old frames.new (memory_in store.now) (memory_in store.now) out out)) }
-    ensures err { (out : List ℕ) → OnErr result (Same frames.old frames.new (memory_in store.now) (memory_in store.now) out out) }
+    ensures ok { (out : List ℕ) →
+        IfOk result (λ did.
+        IsAnswered (Reads kind (addr_in address)) at 1 frames.old frames.new (memory_in store.now)
+        (memory_in store.now) did out out) }
+    ensures left { (out : List ℕ) →
+        IfOk result (λ did.
+        WhereLeft did (Same frames.old frames.new (memory_in store.now)
+        (memory_in store.now) out out)) }
+    ensures err { (out : List ℕ) →
+        OnErr result (Same frames.old frames.new (memory_in store.now)
+        (memory_in store.now) out out) }
     ensures counts { SameCounts frames.old frames.new }
     ensures room { KeepsRoom frames.old frames.new }
 {
@@ -154,8 +172,10 @@ pub fn read(
 /// Nothing is written.
 pub fn put_nothing(frames: &mut Frames, at: usize) -> Did
     requires { at + 1 < 2 ^ 64 }
-    ensures answered { (mem : Memory) (out : List ℕ) → IsAnswered PutsNothing at 0 frames.old frames.new mem mem result out out }
-    ensures left { (mem : Memory) (out : List ℕ) → WhereLeft result (Same frames.old frames.new mem mem out out) }
+    ensures answered { (mem : Memory) (out : List ℕ) →
+        IsAnswered PutsNothing at 0 frames.old frames.new mem mem result out out }
+    ensures left { (mem : Memory) (out : List ℕ) →
+        WhereLeft result (Same frames.old frames.new mem mem out out) }
     ensures counts { SameCounts frames.old frames.new }
     ensures room { KeepsRoom frames.old frames.new }
 {
@@ -166,9 +186,15 @@ pub fn put_nothing(frames: &mut Frames, at: usize) -> Did
 /// The end of a line is written.
 pub fn put_ln(frames: &mut Frames, output: &mut Vec<u8>, at: usize) -> Result<Did, NoMemory>
     requires { at + 1 < 2 ^ 64 }
-    ensures ok { (mem : Memory) → IfOk result (λ did. IsAnswered PutsLn at 0 frames.old frames.new mem mem did output.old.items output.new.items) }
-    ensures left { (mem : Memory) → IfOk result (λ did. WhereLeft did (Same frames.old frames.new mem mem output.old.items output.new.items)) }
-    ensures err { (mem : Memory) → OnErr result (Same frames.old frames.new mem mem output.old.items output.new.items) }
+    ensures ok { (mem : Memory) →
+        IfOk result (λ did.
+        IsAnswered PutsLn at 0 frames.old frames.new mem mem did output.old.items
+        output.new.items) }
+    ensures left { (mem : Memory) →
+        IfOk result (λ did.
+        WhereLeft did (Same frames.old frames.new mem mem output.old.items output.new.items)) }
+    ensures err { (mem : Memory) →
+        OnErr result (Same frames.old frames.new mem mem output.old.items output.new.items) }
     ensures counts { SameCounts frames.old frames.new }
     ensures room { KeepsRoom frames.old frames.new }
 {
@@ -181,8 +207,12 @@ pub fn put_ln(frames: &mut Frames, output: &mut Vec<u8>, at: usize) -> Result<Di
 /// A value is stored.
 pub fn write(frames: &mut Frames, store: &mut Store, address: Address, value: Cell, at: usize) -> Did
     requires { at + 1 < 2 ^ 64 }
-    ensures answered { (out : List ℕ) → IsAnswered (Stores (addr_in address) value) at 2 frames.old frames.new (memory_in store.old) (memory_in store.new) result out out }
-    ensures left { (out : List ℕ) → WhereLeft result (Same frames.old frames.new (memory_in store.old) (memory_in store.new) out out) }
+    ensures answered { (out : List ℕ) →
+        IsAnswered (Stores (addr_in address) value) at 2 frames.old frames.new (memory_in store.old)
+        (memory_in store.new) result out out }
+    ensures left { (out : List ℕ) →
+        WhereLeft result (Same frames.old frames.new (memory_in store.old)
+        (memory_in store.new) out out) }
     ensures counts { SameCounts frames.old frames.new }
     ensures room { KeepsRoom frames.old frames.new }
 {
@@ -203,8 +233,12 @@ pub fn copy(
     at: usize,
 ) -> Did
     requires { at + 1 < 2 ^ 64 }
-    ensures answered { (out : List ℕ) → IsAnswered (Copies count (addr_in from) (addr_in to)) at 2 frames.old frames.new (memory_in store.old) (memory_in store.new) result out out }
-    ensures left { (out : List ℕ) → WhereLeft result (Same frames.old frames.new (memory_in store.old) (memory_in store.new) out out) }
+    ensures answered { (out : List ℕ) →
+        IsAnswered (Copies count (addr_in from) (addr_in to)) at 2 frames.old frames.new
+        (memory_in store.old) (memory_in store.new) result out out }
+    ensures left { (out : List ℕ) →
+        WhereLeft result (Same frames.old frames.new (memory_in store.old)
+        (memory_in store.new) out out) }
     ensures counts { SameCounts frames.old frames.new }
     ensures room { KeepsRoom frames.old frames.new }
 {
@@ -230,9 +264,15 @@ pub fn put_char(
     at: usize,
 ) -> Result<Did, NoMemory>
     requires { at + 1 < 2 ^ 64 }
-    ensures ok { (mem : Memory) → IfOk result (λ did. IsAnswered (PutsChar (Num code)) at 1 frames.old frames.new mem mem did output.old.items output.new.items) }
-    ensures left { (mem : Memory) → IfOk result (λ did. WhereLeft did (Same frames.old frames.new mem mem output.old.items output.new.items)) }
-    ensures err { (mem : Memory) → OnErr result (Same frames.old frames.new mem mem output.old.items output.new.items) }
+    ensures ok { (mem : Memory) →
+        IfOk result (λ did.
+        IsAnswered (PutsChar (Num code)) at 1 frames.old frames.new mem mem did output.old.items
+        output.new.items) }
+    ensures left { (mem : Memory) →
+        IfOk result (λ did.
+        WhereLeft did (Same frames.old frames.new mem mem output.old.items output.new.items)) }
+    ensures err { (mem : Memory) →
+        OnErr result (Same frames.old frames.new mem mem output.old.items output.new.items) }
     ensures counts { SameCounts frames.old frames.new }
     ensures room { KeepsRoom frames.old frames.new }
 {
@@ -275,9 +315,15 @@ pub fn put_int(
     at: usize,
 ) -> Result<Did, NoMemory>
     requires { at + 1 < 2 ^ 64 }
-    ensures ok { (mem : Memory) → IfOk result (λ did. IsAnswered (PutsInt (Num value) (Num places)) at 2 frames.old frames.new mem mem did output.old.items output.new.items) }
-    ensures left { (mem : Memory) → IfOk result (λ did. WhereLeft did (Same frames.old frames.new mem mem output.old.items output.new.items)) }
-    ensures err { (mem : Memory) → OnErr result (Same frames.old frames.new mem mem output.old.items output.new.items) }
+    ensures ok { (mem : Memory) →
+        IfOk result (λ did.
+        IsAnswered (PutsInt (Num value) (Num places)) at 2 frames.old frames.new mem mem did
+        output.old.items output.new.items) }
+    ensures left { (mem : Memory) →
+        IfOk result (λ did.
+        WhereLeft did (Same frames.old frames.new mem mem output.old.items output.new.items)) }
+    ensures err { (mem : Memory) →
+        OnErr result (Same frames.old frames.new mem mem output.old.items output.new.items) }
     ensures counts { SameCounts frames.old frames.new }
     ensures room { KeepsRoom frames.old frames.new }
 {
@@ -292,7 +338,9 @@ pub fn put_int(
 
 /// The activity of an object is left to the kernel, where the frame stands at the instruction that starts it.
 pub fn start(object: u32) -> Did
-    ensures { (at : ℕ) (old : FramesKept) (mem : Memory) (out : List ℕ) → StandsAt at (Ref object) old → IsAnswered (Starts (Ref object)) at 1 old old mem mem result out out }
+    ensures { (at : ℕ) (old : FramesKept) (mem : Memory) (out : List ℕ) →
+        StandsAt at (Ref object) old →
+        IsAnswered (Starts (Ref object)) at 1 old old mem mem result out out }
 {
     if object == 0 {
         Did::Trapped(16, 0)
@@ -303,7 +351,8 @@ pub fn start(object: u32) -> Did
 
 /// The lock of the topmost frame's regions.
 fn top_lock(image: &Image, frames: &Frames) -> LockName
-    ensures { (f : FrameOf) (fs : List FrameOf) → list_in frames.now.list.items ≡ f ∷ fs → result ≡ lock_in (numbered image.now.shapes.items f.procedure) f }
+    ensures { (f : FrameOf) (fs : List FrameOf) → list_in frames.now.list.items ≡ f ∷ fs →
+        result ≡ lock_in (numbered image.now.shapes.items f.procedure) f }
 {
     match frames.list.last() {
         None => LockName::Module(0),
@@ -324,9 +373,14 @@ pub fn answer(
 ) -> Result<Did, NoMemory>
     requires place { at + 1 < 2 ^ 64 }
     requires stands { Stands question at frames.old }
-    ensures ok { IfOk result (λ did. HasAnswered image.now question at frames.old frames.new (memory_in store.old) (memory_in store.new) did output.old.items output.new.items) }
-    ensures left { IfOk result (λ did. WhereLeft did (Same frames.old frames.new (memory_in store.old) (memory_in store.new) output.old.items output.new.items)) }
-    ensures err { OnErr result (Same frames.old frames.new (memory_in store.old) (memory_in store.new) output.old.items output.new.items) }
+    ensures ok { IfOk result (λ did.
+        HasAnswered image.now question at frames.old frames.new (memory_in store.old)
+        (memory_in store.new) did output.old.items output.new.items) }
+    ensures left { IfOk result (λ did.
+        WhereLeft did (Same frames.old frames.new (memory_in store.old)
+        (memory_in store.new) output.old.items output.new.items)) }
+    ensures err { OnErr result (Same frames.old frames.new (memory_in store.old)
+        (memory_in store.new) output.old.items output.new.items) }
     ensures counts { SameCounts frames.old frames.new }
     ensures room { AreRoomy image.now frames.old → AreRoomy image.now frames.new }
 {

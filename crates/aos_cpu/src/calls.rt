@@ -34,7 +34,9 @@ pub struct Gift<'a> {
 
 /// So many of these cells from one on, where there are so many.
 fn front_of(cells: &[Cell], from: usize, size: Option<usize>) -> Option<&[Cell]>
-    ensures { (n : ℕ) → size ≡ (if nat_lt n (2 ^ 64) then Option.Some n else Option.None) → option_copied result ≡ option_and_then (if_all n) (Option.Some (take n (drop from cells.now))) }
+    ensures { (n : ℕ) → size ≡ (if nat_lt n (2 ^ 64) then Option.Some n else Option.None) →
+        option_copied result ≡
+        option_and_then (if_all n) (Option.Some (take n (drop from cells.now))) }
 {
     match size {
         None => None,
@@ -49,7 +51,8 @@ fn whole<'a>(
     size: Option<usize>,
     cell: Cell,
 ) -> Option<&'a [Cell]>
-    ensures { (n : ℕ) → size ≡ (if nat_lt n (2 ^ 64) then Option.Some n else Option.None) → option_copied result ≡ whole_at [] n cell (rooted_in frames.now store.now) }
+    ensures { (n : ℕ) → size ≡ (if nat_lt n (2 ^ 64) then Option.Some n else Option.None) →
+        option_copied result ≡ whole_at [] n cell (rooted_in frames.now store.now) }
 {
     match cell {
         Cell::Place(root, from, _) => match cells_below(frames, store, root) {
@@ -72,7 +75,8 @@ fn length_at(cell: Cell) -> Option<usize>
 
 /// So many times as much, where that has 64 bits; nothing is 0 times anything.
 fn times(length: usize, size: Option<usize>) -> Option<usize>
-    ensures { (n : ℕ) → size ≡ (if nat_lt n (2 ^ 64) then Option.Some n else Option.None) → result ≡ (if nat_lt (length * n) (2 ^ 64) then Option.Some (length * n) else Option.None) }
+    ensures { (n : ℕ) → size ≡ (if nat_lt n (2 ^ 64) then Option.Some n else Option.None) →
+        result ≡ (if nat_lt (length * n) (2 ^ 64) then Option.Some (length * n) else Option.None) }
 {
     match size {
         Some(count) => length.checked_mul(count),
@@ -117,7 +121,9 @@ fn copied<'a>(
     taken: usize,
 ) -> Option<Gift<'a>>
     ensures { (n : ℕ) → size ≡ (if nat_lt n (2 ^ 64) then Option.Some n else Option.None) →
-        option_map gift_in result ≡ option_map (copied_of lengths.now taken) (whole_at [] n first (rooted_in frames.now store.now)) }
+        option_map gift_in result ≡
+        option_map (copied_of lengths.now taken)
+        (whole_at [] n first (rooted_in frames.now store.now)) }
 {
     match whole(frames, store, size, first) {
         None => None,
@@ -140,7 +146,9 @@ fn open<'a>(
     args: &'a [Cell],
 ) -> Option<Gift<'a>>
     ensures { (v : CellOf) (vs : List CellOf) → args.now ≡ v ∷ vs →
-        option_map gift_in result ≡ option_and_then (open_gift (rooted_in frames.now store.now) dimensions by_value element v (take dimensions vs)) (lengths_in [] (take dimensions vs)) }
+        option_map gift_in result ≡
+        option_and_then (open_gift (rooted_in frames.now store.now) dimensions by_value element v
+        (take dimensions vs)) (lengths_in [] (take dimensions vs)) }
 {
     let taken = dimensions as usize + 1;
     let all = &args[..taken.min(args.len())];
@@ -265,7 +273,8 @@ pub fn count_copied(
     params: &[ParamKind],
     args: &[Cell],
 ) -> Option<usize>
-    ensures { result ≡ option_map (λ gs. min (length (all_copied gs)) (2 ^ 64 - 1)) (gifts (rooted_in frames.now store.now) params.now args.now) }
+    ensures { result ≡ option_map (λ gs. min (length (all_copied gs)) (2 ^ 64 - 1))
+        (gifts (rooted_in frames.now store.now) params.now args.now) }
 {
     let mut rest = args;
     let mut count = 0usize;
@@ -283,7 +292,8 @@ pub fn count_copied(
 
 /// The cells of one parameter are put behind others.
 fn hand_one(here: u32, at: u32, given: Gift, cells: &mut Vec<Cell>) -> Result<(), NoMemory>
-    ensures { OnOk result (cells.new.items ≡ cells.old.items ++ gift_cells here at (gift_in given.entry)) }
+    ensures { OnOk result (cells.new.items ≡ cells.old.items ++
+        gift_cells here at (gift_in given.entry)) }
 {
     if given.own {
         cells.reserve(1)?;
@@ -316,7 +326,8 @@ fn hand_cells(
     args: &[Cell],
     cells: &mut Vec<Cell>,
 ) -> Result<(), NoMemory>
-    ensures { (gs : List GiftOf) → gifts (rooted_in frames.now store.now) params.now args.now ≡ Option.Some gs → OnOk result (cells.new.items ≡ cells.old.items ++ all_cells here from gs) }
+    ensures { (gs : List GiftOf) → gifts (rooted_in frames.now store.now) params.now args.now ≡
+        Option.Some gs → OnOk result (cells.new.items ≡ cells.old.items ++ all_cells here from gs) }
 {
     let mut rest = args;
     let mut at = from;
@@ -341,7 +352,8 @@ fn hand_copied(
     args: &[Cell],
     cells: &mut Vec<Cell>,
 ) -> Result<(), NoMemory>
-    ensures { (gs : List GiftOf) → gifts (rooted_in frames.now store.now) params.now args.now ≡ Option.Some gs → OnOk result (cells.new.items ≡ cells.old.items ++ all_copied gs) }
+    ensures { (gs : List GiftOf) → gifts (rooted_in frames.now store.now) params.now args.now ≡
+        Option.Some gs → OnOk result (cells.new.items ≡ cells.old.items ++ all_copied gs) }
 {
     let mut rest = args;
     for param in params {
@@ -399,8 +411,12 @@ fn called_frame_cells(
     args: &[Cell],
     copied: usize,
 ) -> Result<Vec<Cell>, NoMemory>
-    ensures cells { (gs : List GiftOf) → gifts (rooted_in frames.now store.now) shape.now.params.items args.now ≡ Option.Some gs →
-        IfOk result (λ cells. cells.items ≡ called_cells (length (list_in frames.now.list.items)) shape.now.kinds.items gs ++ replicate shape.now.keeps (Num (pos 0))) }
+    ensures cells { (gs : List GiftOf) →
+        gifts (rooted_in frames.now store.now) shape.now.params.items args.now ≡ Option.Some gs →
+        IfOk result (λ cells.
+        cells.items ≡
+        called_cells (length (list_in frames.now.list.items)) shape.now.kinds.items gs ++
+        replicate shape.now.keeps (Num (pos 0))) }
     ensures kept { IfOk result (λ cells.
         (front : List CellOf) × (cells.items ≡ front ++ replicate shape.now.keeps (Num (pos 0)))) }
 {
@@ -439,7 +455,8 @@ fn last_of(stack: &[Cell], count: usize) -> &[Cell]
 
 /// The operands of a call: so many of the topmost frame's topmost operands, in their order.
 pub fn arguments(frames: &Frames, count: usize) -> &[Cell]
-    ensures { (f : FrameOf) (fs : List FrameOf) → list_in frames.now.list.items ≡ f ∷ fs → result.now ≡ reverse (take count f.stack) }
+    ensures { (f : FrameOf) (fs : List FrameOf) → list_in frames.now.list.items ≡ f ∷ fs →
+        result.now ≡ reverse (take count f.stack) }
 {
     match frames.list.last() {
         None => &[],
@@ -470,8 +487,12 @@ fn make_frame(
     copied: usize,
     counted: u32,
 ) -> Result<Frame, NoMemory>
-    ensures frame { (gs : List GiftOf) → gifts (rooted_in frames.now store.now) shape.now.params.items args.now ≡ Option.Some gs →
-        IfOk result (λ frame. frame_in frame ≡ called procedure object counted (called_cells (length (list_in frames.now.list.items)) shape.now.kinds.items gs)) }
+    ensures frame { (gs : List GiftOf) →
+        gifts (rooted_in frames.now store.now) shape.now.params.items args.now ≡ Option.Some gs →
+        IfOk result (λ frame.
+        frame_in frame ≡
+        called procedure object counted
+        (called_cells (length (list_in frames.now.list.items)) shape.now.kinds.items gs)) }
     ensures room { IfOk result (λ frame. HasRoom procedure depth shape.now.keeps frame) }
 {
     let cells = called_frame_cells(alloc, frames, store, shape, args, copied)?;
@@ -495,8 +516,10 @@ fn enter(frames: &mut Frames, frame: Frame, at: usize, taken: usize) -> Result<(
     ensures ok { OnOk result (IsEntered at taken (frame_in frame) frames.old frames.new) }
     ensures err { OnErr result (frames_in frames.new ≡ frames_in frames.old) }
     ensures counts { SameCounts frames.old frames.new }
-    ensures room { (depths keeps : ℕ → ℕ) → IsRoomyFor depths keeps frame → length frames.old.list.items < MOST_FRAMES →
-        AreRoomyFor depths keeps frames.old.list.items → AreRoomyFor depths keeps frames.new.list.items }
+    ensures room { (depths keeps : ℕ → ℕ) → IsRoomyFor depths keeps frame →
+        length frames.old.list.items < MOST_FRAMES →
+        AreRoomyFor depths keeps frames.old.list.items →
+        AreRoomyFor depths keeps frames.new.list.items }
 {
     frames.list.reserve(1)?;
     go_behind(frames, at, taken);
@@ -517,9 +540,17 @@ fn call_shape(
     store: &Store,
 ) -> Result<Did, NoMemory>
     requires { at + 1 < 2 ^ 64 }
-    ensures ok { (out : List ℕ) → IfOk result (λ did. IsCalled (Option.Some shape.now) procedure way count at frames.old frames.new (memory_in store.now) did out) }
-    ensures left { (out : List ℕ) → IfOk result (λ did. WhereLeft did (Same frames.old frames.new (memory_in store.now) (memory_in store.now) out out)) }
-    ensures err { (out : List ℕ) → OnErr result (Same frames.old frames.new (memory_in store.now) (memory_in store.now) out out) }
+    ensures ok { (out : List ℕ) →
+        IfOk result (λ did.
+        IsCalled (Option.Some shape.now) procedure way count at frames.old frames.new
+        (memory_in store.now) did out) }
+    ensures left { (out : List ℕ) →
+        IfOk result (λ did.
+        WhereLeft did (Same frames.old frames.new (memory_in store.now)
+        (memory_in store.now) out out)) }
+    ensures err { (out : List ℕ) →
+        OnErr result (Same frames.old frames.new (memory_in store.now)
+        (memory_in store.now) out out) }
     ensures counts { SameCounts frames.old frames.new }
     ensures room { MakesRoom procedure depth shape.now.keeps frames.old frames.new }
 {
@@ -568,9 +599,17 @@ pub fn call(
     store: &Store,
 ) -> Result<Did, NoMemory>
     requires { at + 1 < 2 ^ 64 }
-    ensures ok { (out : List ℕ) → IfOk result (λ did. HasAnswered image.now (Calls procedure way count) at frames.old frames.new (memory_in store.now) (memory_in store.now) did out out) }
-    ensures left { (out : List ℕ) → IfOk result (λ did. WhereLeft did (Same frames.old frames.new (memory_in store.now) (memory_in store.now) out out)) }
-    ensures err { (out : List ℕ) → OnErr result (Same frames.old frames.new (memory_in store.now) (memory_in store.now) out out) }
+    ensures ok { (out : List ℕ) →
+        IfOk result (λ did.
+        HasAnswered image.now (Calls procedure way count) at frames.old frames.new
+        (memory_in store.now) (memory_in store.now) did out out) }
+    ensures left { (out : List ℕ) →
+        IfOk result (λ did.
+        WhereLeft did (Same frames.old frames.new (memory_in store.now)
+        (memory_in store.now) out out)) }
+    ensures err { (out : List ℕ) →
+        OnErr result (Same frames.old frames.new (memory_in store.now)
+        (memory_in store.now) out out) }
     ensures counts { SameCounts frames.old frames.new }
     ensures room { AreRoomy image.now frames.old → AreRoomy image.now frames.new }
 {

@@ -29,7 +29,8 @@ fn decided(value: i64) -> Verdict
 /// The topmost frame stands at this place, and exchanges its operands for these. Answers the place where it stood.
 fn exchange(frames: &mut Frames, at: usize, operands: &mut Vec<Cell>) -> usize
     ensures exchanged { (f : KeptFrame) → IsTop frames.old.list.items f →
-        HasSwapped f at operands.old operands.new result frames.old.list.items frames.new.list.items }
+        HasSwapped f at operands.old operands.new result frames.old.list.items
+        frames.new.list.items }
     ensures following { frames.new.following ≡ frames.old.following }
     ensures counts { SameCounts frames.old frames.new }
 {
@@ -47,8 +48,10 @@ fn exchange(frames: &mut Frames, at: usize, operands: &mut Vec<Cell>) -> usize
 /// The topmost frame goes on behind the place in the condition, with one operand in place of so many.
 fn put_top(frames: &mut Frames, at: usize, taken: usize, cell: Cell)
     requires place { at + 1 < 2 ^ 64 }
-    requires room { (f : KeptFrame) → IsTop frames.old.list.items f → length f.operands.items < vec_capacity f.operands }
-    ensures put { (f : KeptFrame) → IsTop frames.old.list.items f → HasGoneOn f at taken cell frames.old.list.items frames.new.list.items }
+    requires room { (f : KeptFrame) → IsTop frames.old.list.items f →
+        length f.operands.items < vec_capacity f.operands }
+    ensures put { (f : KeptFrame) → IsTop frames.old.list.items f →
+        HasGoneOn f at taken cell frames.old.list.items frames.new.list.items }
     ensures following { frames.new.following ≡ frames.old.following }
     ensures counts { SameCounts frames.old frames.new }
 {
@@ -64,7 +67,8 @@ fn come_to(image: &Image, heap: &Heap, code: &[Instr], frames: &mut Frames) -> S
     requires top { HasTop frames.old.list.items }
     requires room { TopHasRoom code.now frames.old.list.items }
     ensures stopped { (f : KeptFrame) → IsTop frames.old.list.items f →
-        HasStopped image.now (known heap.now) code.now f result frames.old.list.items frames.new.list.items }
+        HasStopped image.now (known heap.now) code.now f result frames.old.list.items
+        frames.new.list.items }
     ensures following { frames.new.following ≡ frames.old.following }
     ensures counts { SameCounts frames.old frames.new }
 {
@@ -79,9 +83,11 @@ fn come_to(image: &Image, heap: &Heap, code: &[Instr], frames: &mut Frames) -> S
 /// answer.
 fn judge(store: &Store, question: Question, at: usize, frames: &mut Frames) -> Option<Verdict>
     requires place { at + 1 < 2 ^ 64 }
-    requires room { (f : KeptFrame) → IsTop frames.old.list.items f → length f.operands.items < vec_capacity f.operands }
+    requires room { (f : KeptFrame) → IsTop frames.old.list.items f →
+        length f.operands.items < vec_capacity f.operands }
     ensures judged { (f : KeptFrame) → IsTop frames.old.list.items f →
-        IsJudged (rooted_in frames.old store.now) question at f frames.old.list.items frames.new.list.items result }
+        IsJudged (rooted_in frames.old store.now) question at f frames.old.list.items
+        frames.new.list.items result }
     ensures following { frames.new.following ≡ frames.old.following }
     ensures counts { SameCounts frames.old frames.new }
 {
@@ -114,9 +120,13 @@ fn step(image: &Image, store: &Store, code: &[Instr], frames: &mut Frames) -> Op
     requires evaluates { list_all may_evaluate code.now ≡ true }
     requires top { HasTop frames.old.list.items }
     requires room { TopHasRoom code.now frames.old.list.items }
-    ensures verdict { (n : ℕ) → verdict_here image.now (memory_in store.now) code.now (suc n) (list_in frames.old.list.items) ≡
-        or_later result (verdict_here image.now (memory_in store.now) code.now n (list_in frames.new.list.items)) }
-    ensures moved { (f : KeptFrame) → IsTop frames.old.list.items f → TopHasMoved frames.old.list.items frames.new.list.items f }
+    ensures verdict { (n : ℕ) →
+        verdict_here image.now (memory_in store.now) code.now (suc n)
+        (list_in frames.old.list.items) ≡
+        or_later result (verdict_here image.now (memory_in store.now) code.now n
+        (list_in frames.new.list.items)) }
+    ensures moved { (f : KeptFrame) → IsTop frames.old.list.items f →
+        TopHasMoved frames.old.list.items frames.new.list.items f }
     ensures room { result ≡ None → TopHasRoom code.now frames.new.list.items }
     ensures top { HasTop frames.new.list.items }
     ensures following { frames.new.following ≡ frames.old.following }
@@ -135,8 +145,10 @@ fn evaluate(image: &Image, store: &Store, code: &[Instr], frames: &mut Frames) -
     requires evaluates { list_all may_evaluate code.now ≡ true }
     requires top { HasTop frames.old.list.items }
     requires room { TopHasRoom code.now frames.old.list.items }
-    ensures verdict { result ≡ verdict_here image.now (memory_in store.now) code.now (suc (length code.now)) (list_in frames.old.list.items) }
-    ensures moved { (f : KeptFrame) → IsTop frames.old.list.items f → TopHasMoved frames.old.list.items frames.new.list.items f }
+    ensures verdict { result ≡ verdict_here image.now (memory_in store.now) code.now
+        (suc (length code.now)) (list_in frames.old.list.items) }
+    ensures moved { (f : KeptFrame) → IsTop frames.old.list.items f →
+        TopHasMoved frames.old.list.items frames.new.list.items f }
     ensures following { frames.new.following ≡ frames.old.following }
     ensures counts { SameCounts frames.old frames.new }
 {
@@ -165,7 +177,8 @@ pub fn verdict(
     requires few { length frames.old.list.items ≤ 2 ^ 32 }
     requires empty { stack.old.items ≡ [] }
     requires room { HasRoomIn image.now condition stack.old }
-    ensures verdict { result ≡ verdict_of image.now (memory_in store.now) (frames_in frames.old) condition }
+    ensures verdict { result ≡
+        verdict_of image.now (memory_in store.now) (frames_in frames.old) condition }
     ensures frames { frames_in frames.new ≡ frames_in frames.old }
     ensures counts { SameCounts frames.old frames.new }
     ensures empty { stack.new.items ≡ [] }

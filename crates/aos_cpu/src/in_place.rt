@@ -52,9 +52,13 @@ pub enum Tried {
 fn go_after(code: &[Instr], at: usize, frame: &mut Frame, did: Act) -> Done
     requires within { at < length code.now }
     requires begins { IsBeginOf code.now did }
-    ensures done { (image : Image) (here : ℕ) (mem : Memory) (f : FrameOf) → code.now ≡ code_at image f.procedure → at ≡ f.next →
-        IsStepOf image.shapes.items image.types.items (made_in image mem) (act image.shapes.items image.types.items f.procedure (here_at here f) (get_or code.now at (Num (pos 0))) code.now at f.stack) did f (frame_in frame.old) →
-        WhereStays did (frame_in frame.old ≡ f) → IsDone image here result mem mem f (frame_in frame.new) }
+    ensures done { (image : Image) (here : ℕ) (mem : Memory) (f : FrameOf) →
+        code.now ≡ code_at image f.procedure → at ≡ f.next →
+        IsStepOf image.shapes.items image.types.items (made_in image mem)
+        (act image.shapes.items image.types.items f.procedure (here_at here f)
+        (get_or code.now at (Num (pos 0))) code.now at f.stack) did f (frame_in frame.old) →
+        WhereStays did (frame_in frame.old ≡ f) →
+        IsDone image here result mem mem f (frame_in frame.new) }
     ensures ahead { IsAhead result at frame.new.next }
     ensures room { HasMoreRoom frame.old frame.new }
 {
@@ -77,8 +81,11 @@ fn go_after(code: &[Instr], at: usize, frame: &mut Frame, did: Act) -> Done
 /// The frame gets an operand more.
 fn give_top(code: &[Instr], at: usize, frame: &mut Frame, value: Cell) -> Done
     requires within { at < length code.now }
-    ensures done { (image : Image) (here : ℕ) (mem : Memory) → code.now ≡ code_at image frame.old.procedure → at ≡ frame.old.next →
-        act image.shapes.items image.types.items frame.old.procedure (here_at here (frame_in frame.old)) (get_or code.now at (Num (pos 0))) code.now at (frame_in frame.old).stack ≡ gives value (frame_in frame.old).stack →
+    ensures done { (image : Image) (here : ℕ) (mem : Memory) →
+        code.now ≡ code_at image frame.old.procedure → at ≡ frame.old.next →
+        act image.shapes.items image.types.items frame.old.procedure
+        (here_at here (frame_in frame.old)) (get_or code.now at (Num (pos 0))) code.now at
+        (frame_in frame.old).stack ≡ gives value (frame_in frame.old).stack →
         IsDone image here result mem mem (frame_in frame.old) (frame_in frame.new) }
     ensures ahead { IsAhead result at frame.new.next }
     ensures room { HasMoreRoom frame.old frame.new }
@@ -91,7 +98,8 @@ fn give_top(code: &[Instr], at: usize, frame: &mut Frame, value: Cell) -> Done
 
 /// What the cell at a place holds that isn't in a frame below, where so many are.
 fn load_near(frame: &Frame, store: &Store, here: u32, at: Address) -> Option<Cell>
-    ensures { IfSome result (λ v. (rest : List FrameOf) → length rest ≡ here → load at.root at.cell (rooted (frame_in frame.now ∷ rest) (memory_in store.now)) ≡ Some v) }
+    ensures { IfSome result (λ v. (rest : List FrameOf) → length rest ≡ here →
+        load at.root at.cell (rooted (frame_in frame.now ∷ rest) (memory_in store.now)) ≡ Some v) }
 {
     match at.root {
         Root::Frame(above) => {
@@ -108,7 +116,8 @@ fn load_near(frame: &Frame, store: &Store, here: u32, at: Address) -> Option<Cel
 
 /// Sets the cell at a place that isn't in a frame below, where there is such a cell, and says whether there is.
 fn store_near(frame: &mut Frame, store: &mut Store, here: u32, at: Address, value: Cell) -> bool
-    ensures set { HasSet here result at.root at.cell value (memory_in store.old) (memory_in store.new) (frame_in frame.old) (frame_in frame.new) }
+    ensures set { HasSet here result at.root at.cell value (memory_in store.old)
+        (memory_in store.new) (frame_in frame.old) (frame_in frame.new) }
     ensures room { HasMoreRoom frame.old frame.new }
 {
     match at.root {
@@ -127,8 +136,10 @@ fn store_near(frame: &mut Frame, store: &mut Store, here: u32, at: Address, valu
 /// What a cell holds is read, where it isn't in a frame below.
 fn load_top(at: usize, kind: Kind, here: u32, frame: &mut Frame, store: &Store) -> Done
     requires { at + 1 < 2 ^ 64 }
-    ensures done { (image : Image) → at ≡ frame.old.next → slice_get (code_at image frame.old.procedure) at ≡ Some (Load kind) →
-        IsDone image here result (memory_in store.now) (memory_in store.now) (frame_in frame.old) (frame_in frame.new) }
+    ensures done { (image : Image) → at ≡ frame.old.next →
+        slice_get (code_at image frame.old.procedure) at ≡ Some (Load kind) →
+        IsDone image here result (memory_in store.now) (memory_in store.now) (frame_in frame.old)
+        (frame_in frame.new) }
     ensures ahead { IsAhead result at frame.new.next }
     ensures room { HasMoreRoom frame.old frame.new }
 {
@@ -149,8 +160,10 @@ fn load_top(at: usize, kind: Kind, here: u32, frame: &mut Frame, store: &Store) 
 /// A value is stored in a cell, where it isn't in a frame below.
 fn store_top(at: usize, kind: Kind, here: u32, frame: &mut Frame, store: &mut Store) -> Done
     requires { at + 1 < 2 ^ 64 }
-    ensures done { (image : Image) → at ≡ frame.old.next → slice_get (code_at image frame.old.procedure) at ≡ Some (StoreInstr kind) →
-        IsDone image here result (memory_in store.old) (memory_in store.new) (frame_in frame.old) (frame_in frame.new) }
+    ensures done { (image : Image) → at ≡ frame.old.next →
+        slice_get (code_at image frame.old.procedure) at ≡ Some (StoreInstr kind) →
+        IsDone image here result (memory_in store.old) (memory_in store.new) (frame_in frame.old)
+        (frame_in frame.new) }
     ensures ahead { IsAhead result at frame.new.next }
     ensures room { HasMoreRoom frame.old frame.new }
 {
@@ -171,7 +184,9 @@ fn store_top(at: usize, kind: Kind, here: u32, frame: &mut Frame, store: &mut St
 /// An operator is applied to the two topmost numbers.
 fn operate_top(code: &[Instr], at: usize, operator: Binary, frame: &mut Frame) -> Done
     requires within { at < length code.now }
-    ensures done { (image : Image) (here : ℕ) (mem : Memory) → code.now ≡ code_at image frame.old.procedure → at ≡ frame.old.next → get_or code.now at (Num (pos 0)) ≡ BinaryInstr operator →
+    ensures done { (image : Image) (here : ℕ) (mem : Memory) →
+        code.now ≡ code_at image frame.old.procedure → at ≡ frame.old.next →
+        get_or code.now at (Num (pos 0)) ≡ BinaryInstr operator →
         IsDone image here result mem mem (frame_in frame.old) (frame_in frame.new) }
     ensures ahead { IsAhead result at frame.new.next }
     ensures room { HasMoreRoom frame.old frame.new }
@@ -190,7 +205,9 @@ fn operate_top(code: &[Instr], at: usize, operator: Binary, frame: &mut Frame) -
 /// The frame gets the object on which its procedure is called.
 fn self_top(code: &[Instr], at: usize, frame: &mut Frame) -> Done
     requires within { at < length code.now }
-    ensures done { (image : Image) (here : ℕ) (mem : Memory) → code.now ≡ code_at image frame.old.procedure → at ≡ frame.old.next → get_or code.now at (Num (pos 0)) ≡ SelfRef →
+    ensures done { (image : Image) (here : ℕ) (mem : Memory) →
+        code.now ≡ code_at image frame.old.procedure → at ≡ frame.old.next →
+        get_or code.now at (Num (pos 0)) ≡ SelfRef →
         IsDone image here result mem mem (frame_in frame.old) (frame_in frame.new) }
     ensures ahead { IsAhead result at frame.new.next }
     ensures room { HasMoreRoom frame.old frame.new }
@@ -205,8 +222,10 @@ fn self_top(code: &[Instr], at: usize, frame: &mut Frame) -> Done
 /// The frame gets the place of a cell of its topmost object.
 fn deref_top(code: &[Instr], at: usize, cell: u32, frame: &mut Frame, store: &Store) -> Done
     requires within { at < length code.now }
-    ensures done { (image : Image) (here : ℕ) → code.now ≡ code_at image frame.old.procedure → at ≡ frame.old.next → get_or code.now at (Num (pos 0)) ≡ Deref cell →
-        IsDone image here result (memory_in store.now) (memory_in store.now) (frame_in frame.old) (frame_in frame.new) }
+    ensures done { (image : Image) (here : ℕ) → code.now ≡ code_at image frame.old.procedure →
+        at ≡ frame.old.next → get_or code.now at (Num (pos 0)) ≡ Deref cell →
+        IsDone image here result (memory_in store.now) (memory_in store.now) (frame_in frame.old)
+        (frame_in frame.new) }
     ensures ahead { IsAhead result at frame.new.next }
     ensures room { HasMoreRoom frame.old frame.new }
 {
@@ -228,7 +247,9 @@ fn rest_top(
     requires place { slice_get code.now at ≡ Some instr }
     requires within { at < length code.now }
     requires keeps { keeps ≡ keeps_in (numbered_of image.now.shapes.items frame.old.procedure) }
-    ensures done { code.now ≡ code_at image.now frame.old.procedure → at ≡ frame.old.next → IsDone image.now here result (memory_in store.now) (memory_in store.now) (frame_in frame.old) (frame_in frame.new) }
+    ensures done { code.now ≡ code_at image.now frame.old.procedure → at ≡ frame.old.next →
+        IsDone image.now here result (memory_in store.now) (memory_in store.now)
+        (frame_in frame.old) (frame_in frame.new) }
     ensures ahead { IsAhead result at frame.new.next }
     ensures room { HasMoreRoom frame.old frame.new }
 {
@@ -251,7 +272,8 @@ fn do_top(
     requires code { code.now ≡ code_at image.now frame.old.procedure }
     requires keeps { keeps ≡ keeps_in (numbered_of image.now.shapes.items frame.old.procedure) }
     requires within { frame.old.next < length code.now }
-    ensures done { IsDone image.now here result (memory_in store.old) (memory_in store.new) (frame_in frame.old) (frame_in frame.new) }
+    ensures done { IsDone image.now here result (memory_in store.old) (memory_in store.new)
+        (frame_in frame.old) (frame_in frame.new) }
     ensures ahead { IsAhead result frame.old.next frame.new.next }
     ensures room { HasMoreRoom frame.old frame.new }
 {
@@ -288,7 +310,8 @@ fn turn_top(
 ) -> Tried
     requires code { code.now ≡ code_at image.now frame.old.procedure }
     requires keeps { keeps ≡ keeps_in (numbered_of image.now.shapes.items frame.old.procedure) }
-    ensures tried { HasTriedTop image.now here result (memory_in store.old) (memory_in store.new) (frame_in frame.old) (frame_in frame.new) }
+    ensures tried { HasTriedTop image.now here result (memory_in store.old) (memory_in store.new)
+        (frame_in frame.old) (frame_in frame.new) }
     ensures room { HasMoreRoom frame.old frame.new }
 {
     while frame.next < code.len() {
@@ -325,9 +348,11 @@ pub(crate) fn run_top(
 ) -> (u32, u64)
     requires code { code.now ≡ code_at image.now frame.old.procedure }
     requires keeps { keeps ≡ keeps_in (numbered_of image.now.shapes.items frame.old.procedure) }
-    ensures made { HasRunOn image.now here budget result.0 begun result.1 (memory_in store.old) (memory_in store.new) (frame_in frame.old) (frame_in frame.new) }
+    ensures made { HasRunOn image.now here budget result.0 begun result.1 (memory_in store.old)
+        (memory_in store.new) (frame_in frame.old) (frame_in frame.new) }
     ensures alone { memory_in store.old ≡ no_memory →
-        (memory_in store.new ≡ no_memory) × HasRunTop image.now here budget result.0 begun result.1 (frame_in frame.old) (frame_in frame.new) }
+        (memory_in store.new ≡ no_memory) × HasRunTop image.now here budget result.0 begun result.1
+        (frame_in frame.old) (frame_in frame.new) }
     ensures most { result.0 ≤ most }
     ensures room { HasMoreRoom frame.old frame.new }
 {
@@ -379,7 +404,8 @@ pub(crate) fn make_in_place(
 /// A turn of the topmost frame, where its silent work comes to one that is made in place; a statement that has begun in it isn't
 /// counted yet. Else some silent work is done.
 pub(crate) fn turn_in_place(image: &Image, frames: &mut Frames, store: &mut Store) -> Tried
-    ensures tried { HasTriedInPlace image.now result (memory_in store.old) (memory_in store.new) (frames_in frames.old) (frames_in frames.new) }
+    ensures tried { HasTriedInPlace image.now result (memory_in store.old) (memory_in store.new)
+        (frames_in frames.old) (frames_in frames.new) }
     ensures counts { SameCounts frames.old frames.new }
     ensures fit { StayFit image.now frames.old frames.new }
 {

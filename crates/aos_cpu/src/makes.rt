@@ -32,7 +32,8 @@ const MAX_LENGTH: i64 = MOST_SCALARS as i64;
 
 /// Lengths with one more behind them, which is a number.
 fn add_length(mut lengths: Vec<u32>, number: i64) -> Result<Lengths, NoMemory>
-    ensures { (operands : List CellOf) → HasLengths operands lengths.items → IfOk result (λ found. AreLengths (operands ++ Num number ∷ []) found) }
+    ensures { (operands : List CellOf) → HasLengths operands lengths.items →
+        IfOk result (λ found. AreLengths (operands ++ Num number ∷ []) found) }
 {
     if number < 1 {
         return Ok(Lengths::Short);
@@ -47,7 +48,8 @@ fn add_length(mut lengths: Vec<u32>, number: i64) -> Result<Lengths, NoMemory>
 
 /// What is found of lengths with one more behind them, which is a number.
 fn with_length(before: Lengths, number: i64) -> Result<Lengths, NoMemory>
-    ensures { (operands : List CellOf) → AreLengths operands before → IfOk result (λ found. AreLengths (operands ++ Num number ∷ []) found) }
+    ensures { (operands : List CellOf) → AreLengths operands before →
+        IfOk result (λ found. AreLengths (operands ++ Num number ∷ []) found) }
 {
     match before {
         Lengths::No => Ok(Lengths::No),
@@ -120,9 +122,17 @@ fn make_with(
     store: &mut Store,
 ) -> Result<Did, NoMemory>
     requires { at + 1 < 2 ^ 64 }
-    ensures ok { (out : List ℕ) → IfOk result (λ did. IsMadeWith lengths.items desc.now of_type count at frames.old frames.new (memory_in store.old) (memory_in store.new) did out) }
-    ensures left { (out : List ℕ) → IfOk result (λ did. WhereLeft did (Same frames.old frames.new (memory_in store.old) (memory_in store.new) out out)) }
-    ensures err { (out : List ℕ) → OnErr result (Same frames.old frames.new (memory_in store.old) (memory_in store.new) out out) }
+    ensures ok { (out : List ℕ) →
+        IfOk result (λ did.
+        IsMadeWith lengths.items desc.now of_type count at frames.old frames.new
+        (memory_in store.old) (memory_in store.new) did out) }
+    ensures left { (out : List ℕ) →
+        IfOk result (λ did.
+        WhereLeft did (Same frames.old frames.new (memory_in store.old)
+        (memory_in store.new) out out)) }
+    ensures err { (out : List ℕ) →
+        OnErr result (Same frames.old frames.new (memory_in store.old)
+        (memory_in store.new) out out) }
     ensures counts { SameCounts frames.old frames.new }
     ensures room { KeepsRoom frames.old frames.new }
 {
@@ -153,9 +163,17 @@ pub fn make(
     store: &mut Store,
 ) -> Result<Did, NoMemory>
     requires { at + 1 < 2 ^ 64 }
-    ensures ok { (out : List ℕ) → IfOk result (λ did. HasAnswered image.now (Makes of_type count) at frames.old frames.new (memory_in store.old) (memory_in store.new) did out out) }
-    ensures left { (out : List ℕ) → IfOk result (λ did. WhereLeft did (Same frames.old frames.new (memory_in store.old) (memory_in store.new) out out)) }
-    ensures err { (out : List ℕ) → OnErr result (Same frames.old frames.new (memory_in store.old) (memory_in store.new) out out) }
+    ensures ok { (out : List ℕ) →
+        IfOk result (λ did.
+        HasAnswered image.now (Makes of_type count) at frames.old frames.new (memory_in store.old)
+        (memory_in store.new) did out out) }
+    ensures left { (out : List ℕ) →
+        IfOk result (λ did.
+        WhereLeft did (Same frames.old frames.new (memory_in store.old)
+        (memory_in store.new) out out)) }
+    ensures err { (out : List ℕ) →
+        OnErr result (Same frames.old frames.new (memory_in store.old)
+        (memory_in store.new) out out) }
     ensures counts { SameCounts frames.old frames.new }
     ensures room { KeepsRoom frames.old frames.new }
 {

@@ -12,7 +12,8 @@ use aos_store::{Frames, Store};
 /// Turns of the topmost frame that are made in place, so many at most, while fewer statements have begun than the budget: how many
 /// have been made. They write nothing, leave nothing to the kernel and take no memory. Some silent work is done behind them.
 pub fn many(image: &Image, frames: &mut Frames, store: &mut Store, most: u32, budget: u64) -> u32
-    ensures made { HasRunMany image.now budget result (memory_in store.old) (memory_in store.new) frames.old frames.new }
+    ensures made { HasRunMany image.now budget result (memory_in store.old)
+        (memory_in store.new) frames.old frames.new }
     ensures most { result ≤ most }
     ensures turns { frames.new.turns ≡ frames.old.turns }
     ensures fit { StayFit image.now frames.old frames.new }

@@ -20,7 +20,8 @@ use std::alloc::Global;
 
 /// The cells of the frame above so many others.
 fn frame_cells(frames: &Frames, above: u32) -> Option<&[Cell]>
-    ensures { option_copied result ≡ from_last above (map (λ f. f.cells) (list_in frames.now.list.items)) }
+    ensures { option_copied result ≡
+        from_last above (map (λ f. f.cells) (list_in frames.now.list.items)) }
 {
     match frames.frame(above as usize) {
         None => None,
@@ -75,7 +76,8 @@ pub fn length_of(number: i64) -> Option<usize>
 
 /// So many of these cells from one on, where there are so many.
 pub fn front(cells: &[Cell], from: usize, count: usize) -> Option<&[Cell]>
-    ensures { option_copied result ≡ option_and_then (if_all count) (Option.Some (take count (drop from cells.now))) }
+    ensures { option_copied result ≡
+        option_and_then (if_all count) (Option.Some (take count (drop from cells.now))) }
 {
     let rest = &cells[from.min(cells.len())..];
     if rest.len() < count {
@@ -92,7 +94,9 @@ pub fn array_at<'a>(
     address: Address,
     number: i64,
 ) -> Option<&'a [Cell]>
-    ensures { option_copied result ≡ option_and_then (λ m. cells_of_place m (addr_in address) (rooted_in frames.now store.now)) (length_in [] (Num number)) }
+    ensures { option_copied result ≡
+        option_and_then (λ m. cells_of_place m (addr_in address) (rooted_in frames.now store.now))
+        (length_in [] (Num number)) }
 {
     match length_of(number) {
         None => None,
@@ -115,8 +119,12 @@ pub fn code(cell: Cell) -> Option<u8>
 
 /// The text in an array's cells is put behind bytes; where there is none, or memory runs out, its front may stand there.
 fn read_text(cells: &[Cell], bytes: &mut Vec<u8>) -> Result<bool, NoMemory>
-    ensures text { IfOk result (λ there. text_in [] cells.now ≡ (if there then Option.Some (drop (length bytes.old.items) bytes.new.items) else Option.None)) }
-    ensures front { bytes.new.items ≡ bytes.old.items ++ drop (length bytes.old.items) bytes.new.items }
+    ensures text { IfOk result (λ there.
+        text_in [] cells.now ≡
+        (if there then Option.Some (drop (length bytes.old.items) bytes.new.items)
+        else Option.None)) }
+    ensures front { bytes.new.items ≡ bytes.old.items ++
+        drop (length bytes.old.items) bytes.new.items }
 {
     for cell in cells {
         match code(*cell) {
@@ -134,7 +142,8 @@ fn read_text(cells: &[Cell], bytes: &mut Vec<u8>) -> Result<bool, NoMemory>
 /// The text in an array's cells is put behind bytes, which stay as they were where there is none.
 fn add_text(cells: &[Cell], bytes: &mut Vec<u8>) -> Result<bool, NoMemory>
     ensures text { IfOk result (λ there. there ≡ is_some (text_in [] cells.now)) }
-    ensures bytes { IfOk result (λ _. bytes.new.items ≡ bytes.old.items ++ unwrap_or (text_in [] cells.now) []) }
+    ensures bytes { IfOk result (λ _.
+        bytes.new.items ≡ bytes.old.items ++ unwrap_or (text_in [] cells.now) []) }
     ensures err { OnErr result (bytes.new.items ≡ bytes.old.items) }
 {
     let len = bytes.len();
@@ -159,8 +168,12 @@ fn add_text_at(
     number: i64,
     bytes: &mut Vec<u8>,
 ) -> Result<bool, NoMemory>
-    ensures text { IfOk result (λ there. there ≡ is_some (text_at [] (addr_in address) (Num number) (rooted_in frames.now store.now))) }
-    ensures bytes { IfOk result (λ _. bytes.new.items ≡ bytes.old.items ++ unwrap_or (text_at [] (addr_in address) (Num number) (rooted_in frames.now store.now)) []) }
+    ensures text { IfOk result (λ there.
+        there ≡ is_some (text_at [] (addr_in address) (Num number)
+        (rooted_in frames.now store.now))) }
+    ensures bytes { IfOk result (λ _.
+        bytes.new.items ≡ bytes.old.items ++
+        unwrap_or (text_at [] (addr_in address) (Num number) (rooted_in frames.now store.now)) []) }
     ensures err { OnErr result (bytes.new.items ≡ bytes.old.items) }
 {
     match array_at(frames, store, address, number) {
@@ -179,9 +192,14 @@ pub fn put_string(
     at: usize,
 ) -> Result<Did, NoMemory>
     requires { at + 1 < 2 ^ 64 }
-    ensures ok { IfOk result (λ did. IsAnswered (PutsString (addr_in address) (Num number)) at 2 frames.old frames.new (memory_in store.now) (memory_in store.now) did output.old.items output.new.items) }
-    ensures left { IfOk result (λ did. WhereLeft did (Same frames.old frames.new (memory_in store.now) (memory_in store.now) output.old.items output.new.items)) }
-    ensures err { OnErr result (Same frames.old frames.new (memory_in store.now) (memory_in store.now) output.old.items output.new.items) }
+    ensures ok { IfOk result (λ did.
+        IsAnswered (PutsString (addr_in address) (Num number)) at 2 frames.old frames.new
+        (memory_in store.now) (memory_in store.now) did output.old.items output.new.items) }
+    ensures left { IfOk result (λ did.
+        WhereLeft did (Same frames.old frames.new (memory_in store.now)
+        (memory_in store.now) output.old.items output.new.items)) }
+    ensures err { OnErr result (Same frames.old frames.new (memory_in store.now)
+        (memory_in store.now) output.old.items output.new.items) }
     ensures counts { SameCounts frames.old frames.new }
     ensures room { KeepsRoom frames.old frames.new }
 {
@@ -268,7 +286,8 @@ fn compare_arrays(first: &[Cell], second: &[Cell]) -> Option<i64>
 
 /// How the texts at two places compare, where there are both.
 pub fn compare_at(frames: &Frames, store: &Store, a: Address, n: i64, b: Address, m: i64) -> Option<i64>
-    ensures { result ≡ ordered (text_at [] (addr_in a) (Num n) (rooted_in frames.now store.now)) (text_at [] (addr_in b) (Num m) (rooted_in frames.now store.now)) }
+    ensures { result ≡ ordered (text_at [] (addr_in a) (Num n) (rooted_in frames.now store.now))
+        (text_at [] (addr_in b) (Num m) (rooted_in frames.now store.now)) }
 {
     match array_at(frames, store, a, n) {
         None => None,
@@ -291,9 +310,17 @@ pub fn compare_texts(
     at: usize,
 ) -> Result<Did, NoMemory>
     requires { at + 1 < 2 ^ 64 }
-    ensures ok { (out : List ℕ) → IfOk result (λ did. IsAnswered (ComparesTexts relation (addr_in a) (Num n) (addr_in b) (Num m)) at 4 frames.old frames.new (memory_in store.now) (memory_in store.now) did out out) }
-    ensures left { (out : List ℕ) → IfOk result (λ did. WhereLeft did (Same frames.old frames.new (memory_in store.now) (memory_in store.now) out out)) }
-    ensures err { (out : List ℕ) → OnErr result (Same frames.old frames.new (memory_in store.now) (memory_in store.now) out out) }
+    ensures ok { (out : List ℕ) →
+        IfOk result (λ did.
+        IsAnswered (ComparesTexts relation (addr_in a) (Num n) (addr_in b) (Num m)) at 4 frames.old
+        frames.new (memory_in store.now) (memory_in store.now) did out out) }
+    ensures left { (out : List ℕ) →
+        IfOk result (λ did.
+        WhereLeft did (Same frames.old frames.new (memory_in store.now)
+        (memory_in store.now) out out)) }
+    ensures err { (out : List ℕ) →
+        OnErr result (Same frames.old frames.new (memory_in store.now)
+        (memory_in store.now) out out) }
     ensures counts { SameCounts frames.old frames.new }
     ensures room { KeepsRoom frames.old frames.new }
 {
@@ -308,7 +335,9 @@ pub fn compare_texts(
 
 /// What of a text is stored in an array of so many characters, with its 0X; false where it has to fit and doesn't.
 fn fit(bytes: &mut Vec<u8>, strict: bool, room: usize) -> Result<bool, NoMemory>
-    ensures { IfOk result (λ fits. fitted [] strict room bytes.old.items ≡ (if fits then Option.Some bytes.new.items else Option.None)) }
+    ensures { IfOk result (λ fits.
+        fitted [] strict room bytes.old.items ≡
+        (if fits then Option.Some bytes.new.items else Option.None)) }
 {
     if strict && room <= bytes.len() {
         return Ok(false);
@@ -322,11 +351,14 @@ fn fit(bytes: &mut Vec<u8>, strict: bool, room: usize) -> Result<bool, NoMemory>
 /// Characters are stored one after the other, below a root that has their cells.
 fn store_characters(frames: &mut Frames, store: &mut Store, root: Root, cell: u32, bytes: &[u8])
     requires room { cell + length bytes.now < 2 ^ 64 }
-    requires target { has_all (length bytes.now) cell (at_root root (rooted_in frames.old store.old)) ≡ true }
-    ensures frames { frames_in frames.new ≡ with_frames root (spliced cell (character_cells [] bytes.now)) frames.old }
+    requires target { has_all (length bytes.now) cell
+        (at_root root (rooted_in frames.old store.old)) ≡ true }
+    ensures frames { frames_in frames.new ≡
+        with_frames root (spliced cell (character_cells [] bytes.now)) frames.old }
     ensures counts { SameCounts frames.old frames.new }
     ensures room { KeepsRoom frames.old frames.new }
-    ensures memory { memory_in store.new ≡ memory_with root (spliced cell (character_cells [] bytes.now)) (memory_in store.old) }
+    ensures memory { memory_in store.new ≡
+        memory_with root (spliced cell (character_cells [] bytes.now)) (memory_in store.old) }
 {
     for i in 0..bytes.len() {
         store_at(
@@ -341,11 +373,19 @@ fn store_characters(frames: &mut Frames, store: &mut Store, root: Root, cell: u3
 
 /// Characters are stored at a place, where there are so many cells, and this is told.
 fn store_text(frames: &mut Frames, store: &mut Store, address: Address, bytes: &[u8]) -> bool
-    ensures there { result ≡ has_all (length bytes.now) address.cell (at_root address.root (rooted_in frames.old store.old)) }
-    ensures frames { frames_in frames.new ≡ (if result then with_frames address.root (spliced address.cell (character_cells [] bytes.now)) frames.old else frames_in frames.old) }
+    ensures there { result ≡
+        has_all (length bytes.now) address.cell
+        (at_root address.root (rooted_in frames.old store.old)) }
+    ensures frames { frames_in frames.new ≡
+        (if result then with_frames address.root
+        (spliced address.cell (character_cells [] bytes.now)) frames.old else frames_in
+        frames.old) }
     ensures counts { SameCounts frames.old frames.new }
     ensures room { KeepsRoom frames.old frames.new }
-    ensures memory { memory_in store.new ≡ (if result then memory_with address.root (spliced address.cell (character_cells [] bytes.now)) (memory_in store.old) else memory_in store.old) }
+    ensures memory { memory_in store.new ≡
+        (if result then memory_with address.root
+        (spliced address.cell (character_cells [] bytes.now))
+        (memory_in store.old) else memory_in store.old) }
 {
     match len_at(frames, store, address.root) {
         None => false,
@@ -370,7 +410,9 @@ fn read_fitted(
     room: i64,
 ) -> Result<u8, NoMemory>
     requires { bytes.old.items ≡ [] }
-    ensures { IfOk result (λ trap. IsFitted strict (text_at [] (addr_in from) (Num number) (rooted_in frames.now store.now)) (length_in [] (Num room)) bytes.new.items trap) }
+    ensures { IfOk result (λ trap.
+        IsFitted strict (text_at [] (addr_in from) (Num number) (rooted_in frames.now store.now))
+        (length_in [] (Num room)) bytes.new.items trap) }
 {
     if !add_text_at(frames, store, from, number, bytes)? {
         return Ok(16);
@@ -400,9 +442,17 @@ pub fn put_text(
     at: usize,
 ) -> Result<Did, NoMemory>
     requires { at + 1 < 2 ^ 64 }
-    ensures ok { (out : List ℕ) → IfOk result (λ did. IsAnswered (PutsText strict (addr_in from) (Num number) (addr_in to) (Num room)) at 4 frames.old frames.new (memory_in store.old) (memory_in store.new) did out out) }
-    ensures left { (out : List ℕ) → IfOk result (λ did. WhereLeft did (Same frames.old frames.new (memory_in store.old) (memory_in store.new) out out)) }
-    ensures err { (out : List ℕ) → OnErr result (Same frames.old frames.new (memory_in store.old) (memory_in store.new) out out) }
+    ensures ok { (out : List ℕ) →
+        IfOk result (λ did.
+        IsAnswered (PutsText strict (addr_in from) (Num number) (addr_in to) (Num room)) at 4
+        frames.old frames.new (memory_in store.old) (memory_in store.new) did out out) }
+    ensures left { (out : List ℕ) →
+        IfOk result (λ did.
+        WhereLeft did (Same frames.old frames.new (memory_in store.old)
+        (memory_in store.new) out out)) }
+    ensures err { (out : List ℕ) →
+        OnErr result (Same frames.old frames.new (memory_in store.old)
+        (memory_in store.new) out out) }
     ensures counts { SameCounts frames.old frames.new }
     ensures room { KeepsRoom frames.old frames.new }
 {

@@ -29,7 +29,9 @@ pub fn begin_body(
     procedure: u32,
 ) -> Result<(), NoMemory>
     requires { frames.old.list.items ≡ [] }
-    ensures ok { OnOk result (frames_in frames.new ≡ record { following = reverse frames.old.following.items; frames = body_frame object procedure ∷ [] }) }
+    ensures ok { OnOk result (frames_in frames.new ≡
+        record { following = reverse frames.old.following.items; frames = body_frame object
+        procedure ∷ [] }) }
     ensures err { OnErr result (frames_in frames.new ≡ frames_in frames.old) }
     ensures following { frames.new.following ≡ frames.old.following }
     ensures counts { SameCounts frames.old frames.new }
@@ -69,7 +71,8 @@ pub fn come_to_stop(
     heap: &Heap,
     frames: &mut Frames,
 ) -> Result<Option<Stop>, NoMemory>
-    ensures stop { IfOk result (λ stop. HasCome image.now (known heap.now) stop (frames_in frames.new)) }
+    ensures stop { IfOk result (λ stop.
+        HasCome image.now (known heap.now) stop (frames_in frames.new)) }
     ensures alike { Alike image.now (known heap.now) (frames_in frames.old) (frames_in frames.new) }
     ensures counts { SameCounts frames.old frames.new }
     ensures fit { StayFit image.now frames.old frames.new }
@@ -111,11 +114,17 @@ fn work(
     output: &mut Vec<u8>,
 ) -> Result<Did, NoMemory>
     requires place { at + 1 < 2 ^ 64 }
-    requires stands { StandsAtStop image.now (known store.old.objects) (AtWork question at) (list_in frames.old.list.items) }
-    ensures ok { IfOk result (λ did. IsTurned image.now did frames.old frames.new (memory_in store.old) (memory_in store.new) output.old.items output.new.items) }
+    requires stands { StandsAtStop image.now (known store.old.objects) (AtWork question at)
+        (list_in frames.old.list.items) }
+    ensures ok { IfOk result (λ did.
+        IsTurned image.now did frames.old frames.new (memory_in store.old)
+        (memory_in store.new) output.old.items output.new.items) }
     ensures before { IfOk result (λ did. IsBefore image.now did (frames_in frames.new)) }
-    ensures left { IfOk result (λ did. WhereLeft did (Rests image.now frames.old frames.new (memory_in store.old) (memory_in store.new) output.old.items output.new.items)) }
-    ensures err { OnErr result (Rests image.now frames.old frames.new (memory_in store.old) (memory_in store.new) output.old.items output.new.items) }
+    ensures left { IfOk result (λ did.
+        WhereLeft did (Rests image.now frames.old frames.new (memory_in store.old)
+        (memory_in store.new) output.old.items output.new.items)) }
+    ensures err { OnErr result (Rests image.now frames.old frames.new (memory_in store.old)
+        (memory_in store.new) output.old.items output.new.items) }
     ensures turns { frames.new.turns ≡ frames.old.turns }
     ensures fit { StayFit image.now frames.old frames.new }
 {
@@ -135,11 +144,17 @@ pub(crate) fn finish(
     store: &mut Store,
     output: &mut Vec<u8>,
 ) -> Result<Did, NoMemory>
-    requires { StandsAtStop image.now (known store.old.objects) stop (list_in frames.old.list.items) }
-    ensures ok { IfOk result (λ did. IsTurned image.now did frames.old frames.new (memory_in store.old) (memory_in store.new) output.old.items output.new.items) }
+    requires { StandsAtStop image.now (known store.old.objects) stop
+        (list_in frames.old.list.items) }
+    ensures ok { IfOk result (λ did.
+        IsTurned image.now did frames.old frames.new (memory_in store.old)
+        (memory_in store.new) output.old.items output.new.items) }
     ensures before { IfOk result (λ did. IsBefore image.now did (frames_in frames.new)) }
-    ensures left { IfOk result (λ did. WhereLeft did (Rests image.now frames.old frames.new (memory_in store.old) (memory_in store.new) output.old.items output.new.items)) }
-    ensures err { OnErr result (Rests image.now frames.old frames.new (memory_in store.old) (memory_in store.new) output.old.items output.new.items) }
+    ensures left { IfOk result (λ did.
+        WhereLeft did (Rests image.now frames.old frames.new (memory_in store.old)
+        (memory_in store.new) output.old.items output.new.items)) }
+    ensures err { OnErr result (Rests image.now frames.old frames.new (memory_in store.old)
+        (memory_in store.new) output.old.items output.new.items) }
     ensures turns { frames.new.turns ≡ frames.old.turns }
     ensures fit { StayFit image.now frames.old frames.new }
 {
@@ -162,10 +177,15 @@ fn by_stop(
     store: &mut Store,
     output: &mut Vec<u8>,
 ) -> Result<Did, NoMemory>
-    ensures ok { IfOk result (λ did. IsTurned image.now did frames.old frames.new (memory_in store.old) (memory_in store.new) output.old.items output.new.items) }
+    ensures ok { IfOk result (λ did.
+        IsTurned image.now did frames.old frames.new (memory_in store.old)
+        (memory_in store.new) output.old.items output.new.items) }
     ensures before { IfOk result (λ did. IsBefore image.now did (frames_in frames.new)) }
-    ensures left { IfOk result (λ did. WhereLeft did (Rests image.now frames.old frames.new (memory_in store.old) (memory_in store.new) output.old.items output.new.items)) }
-    ensures err { OnErr result (Rests image.now frames.old frames.new (memory_in store.old) (memory_in store.new) output.old.items output.new.items) }
+    ensures left { IfOk result (λ did.
+        WhereLeft did (Rests image.now frames.old frames.new (memory_in store.old)
+        (memory_in store.new) output.old.items output.new.items)) }
+    ensures err { OnErr result (Rests image.now frames.old frames.new (memory_in store.old)
+        (memory_in store.new) output.old.items output.new.items) }
     ensures turns { frames.new.turns ≡ frames.old.turns }
     ensures fit { StayFit image.now frames.old frames.new }
 {
@@ -184,10 +204,15 @@ pub fn shared(
     store: &mut Store,
     output: &mut Vec<u8>,
 ) -> Result<Did, NoMemory>
-    ensures ok { IfOk result (λ did. IsTurned image.now did frames.old frames.new (memory_in store.old) (memory_in store.new) output.old.items output.new.items) }
+    ensures ok { IfOk result (λ did.
+        IsTurned image.now did frames.old frames.new (memory_in store.old)
+        (memory_in store.new) output.old.items output.new.items) }
     ensures before { IfOk result (λ did. IsBefore image.now did (frames_in frames.new)) }
-    ensures left { IfOk result (λ did. WhereLeft did (Rests image.now frames.old frames.new (memory_in store.old) (memory_in store.new) output.old.items output.new.items)) }
-    ensures err { OnErr result (Rests image.now frames.old frames.new (memory_in store.old) (memory_in store.new) output.old.items output.new.items) }
+    ensures left { IfOk result (λ did.
+        WhereLeft did (Rests image.now frames.old frames.new (memory_in store.old)
+        (memory_in store.new) output.old.items output.new.items)) }
+    ensures err { OnErr result (Rests image.now frames.old frames.new (memory_in store.old)
+        (memory_in store.new) output.old.items output.new.items) }
     ensures turns { frames.new.turns ≡ frames.old.turns }
     ensures fit { StayFit image.now frames.old frames.new }
 {
@@ -219,11 +244,14 @@ fn close_work(frame: &mut Frame, left: Did)
 
 /// Past work that was left to the kernel, which has done it.
 pub fn pass(frames: &mut Frames, left: Did)
-    ensures past { (image : Image) (made : ℕ → Option Made) (fs : FramesOf) → is_passed left ≡ true →
-        IsBefore image left (frames_in frames.old) → StandsAtWork image left fs.frames → Alike image made fs (frames_in frames.old) →
+    ensures past { (image : Image) (made : ℕ → Option Made) (fs : FramesOf) →
+        is_passed left ≡ true →
+        IsBefore image left (frames_in frames.old) → StandsAtWork image left fs.frames →
+        Alike image made fs (frames_in frames.old) →
         Alike image made (past image fs) (frames_in frames.new) }
     ensures counts { SameCounts frames.old frames.new }
-    ensures fit { (image : Image) → is_passed left ≡ true → IsBefore image left (frames_in frames.old) →
+    ensures fit { (image : Image) → is_passed left ≡ true →
+        IsBefore image left (frames_in frames.old) →
         StayFit image frames.old frames.new }
 {
     if let Some(frame) = frames.list.last_mut() {
@@ -249,7 +277,9 @@ fn beginning(image: &Image, frames: &Frames) -> (u32, Pos)
 /// Where the topmost frame that has begun a statement stands: the module's number, and the place. Where none has, the activity stands
 /// at its beginning.
 pub fn position(image: &Image, frames: &Frames) -> (u32, Pos)
-    ensures { (made : ℕ → Option Made) (fs : FramesOf) → Alike image.now made fs (frames_in frames.now) → position_at image.now fs ≡ where_in result }
+    ensures { (made : ℕ → Option Made) (fs : FramesOf) →
+        Alike image.now made fs (frames_in frames.now) →
+        position_at image.now fs ≡ where_in result }
 {
     let mut found = beginning(image, frames);
     for frame in frames.list.as_slice() {

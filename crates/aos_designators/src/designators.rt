@@ -308,7 +308,8 @@ fn meant(
 ) -> Result<Entity, AllocError>
     ensures noted { OnOk result (found.new ≡
         first_after found.old (judge.meant env.now symbol means head).breaches) }
-    ensures answer { IfOk result (λ r. seen_entity r ≡ (judge.meant env.now symbol means head).answer) }
+    ensures answer { IfOk result (λ r.
+        seen_entity r ≡ (judge.meant env.now symbol means head).answer) }
 {
     let at = head.name.pos;
     match means {

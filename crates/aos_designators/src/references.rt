@@ -54,7 +54,8 @@ pub fn followed_entity(
     of: TypeId,
     pointer: Entity,
 ) -> Result<Entity, AllocError>
-    ensures { IfOk result (λ r. seen_entity r ≡ judge.followed_entity env.now of (seen_entity pointer)) }
+    ensures { IfOk result (λ r.
+        seen_entity r ≡ judge.followed_entity env.now of (seen_entity pointer)) }
 {
     let value = read_from(pointer.known.of, pointer.held);
     Ok(Entity {
@@ -90,7 +91,8 @@ pub fn unknown_part(at: Pos, whole: Entity) -> Entity
 
 /// An object that is guarded with a type; it is no variable.
 fn guarded_object(alloc: Global, env: &Env<'_>, t: TypeId, whole: Entity) -> Result<Entity, AllocError>
-    ensures { IfOk result (λ r. seen_entity r ≡ judge.guarded_object env.now t (seen_entity whole)) }
+    ensures { IfOk result (λ r.
+        seen_entity r ≡ judge.guarded_object env.now t (seen_entity whole)) }
 {
     let number = made_number(env, t)?;
     let object = read_from(whole.known.of, whole.held);
@@ -132,7 +134,8 @@ pub fn guarded_entity(
     t: TypeId,
     whole: Entity,
 ) -> Result<Entity, AllocError>
-    ensures { IfOk result (λ r. seen_entity r ≡ judge.guarded_entity env.now t (seen_entity whole)) }
+    ensures { IfOk result (λ r.
+        seen_entity r ≡ judge.guarded_entity env.now t (seen_entity whole)) }
 {
     match whole.known.of {
         None => Ok(unknown_part(whole.at, whole)),

@@ -79,7 +79,8 @@ fn object_field(
     at: Pos,
     whole: Entity,
 ) -> Result<Entity, AllocError>
-    ensures { IfOk result (λ r. seen_entity r ≡ judge.object_field of field at (seen_entity whole)) }
+    ensures { IfOk result (λ r.
+        seen_entity r ≡ judge.object_field of field at (seen_entity whole)) }
 {
     let class = part_class(may_write(field), followed_class(whole.known.class));
     let object = read_from(whole.known.of, whole.held);

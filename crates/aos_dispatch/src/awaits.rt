@@ -20,7 +20,8 @@ pub struct Await<'a> {
 
 // One more.
 fn put<'a>(found: &mut Vec<Await<'a>>, one: Await<'a>) -> Result<(), AllocError>
-    ensures { OnOk result (map seen_await found.new.items ≡ map seen_await found.old.items ++ seen_await one.entry ∷ []) }
+    ensures { OnOk result (map seen_await found.new.items ≡ map seen_await found.old.items ++
+        seen_await one.entry ∷ []) }
 {
     found.push(one)?;
     Ok(())
@@ -34,7 +35,8 @@ fn arms_awaits<'a>(
     otherwise: &'a [TStat],
 ) -> Result<(), AllocError>
     ensures { OnOk result (map seen_await found.new.items ≡
-        map seen_await found.old.items ++ awaited_in_arms (arms_of arms.now (seen_stats otherwise.now))) }
+        map seen_await found.old.items ++
+        awaited_in_arms (arms_of arms.now (seen_stats otherwise.now))) }
 {
     for arm in arms {
         stats_awaits(found, &arm.body)?;
@@ -62,7 +64,8 @@ fn cases_awaits<'a>(
     otherwise: &'a TElse,
 ) -> Result<(), AllocError>
     ensures { OnOk result (map seen_await found.new.items ≡
-        map seen_await found.old.items ++ awaited_in_cases (cases_of cases.now (seen_else otherwise.now))) }
+        map seen_await found.old.items ++
+        awaited_in_cases (cases_of cases.now (seen_else otherwise.now))) }
 {
     for case in cases {
         stats_awaits(found, &case.body)?;
@@ -115,7 +118,8 @@ fn stats_awaits<'a>(found: &mut Vec<Await<'a>>, statements: &'a [TStat]) -> Resu
 
 /// What a routine awaits, in the order of its text.
 pub fn awaits_of<'a>(alloc: Global, routine: &Routine<'a>) -> Result<Vec<Await<'a>>, AllocError>
-    ensures { IfOk result (λ found. map seen_await found.items ≡ awaited_in (seen_routine routine.now).body.statements) }
+    ensures { IfOk result (λ found.
+        map seen_await found.items ≡ awaited_in (seen_routine routine.now).body.statements) }
 {
     let mut found = Vec::new(alloc);
     match routine {

@@ -64,7 +64,8 @@ fn declarer_in(types: &Types, of: TType, number: u32) -> Result<u32, AllocError>
 // Whether bases lead from one type of a program to another.
 fn extends_in(types: &Types, of: u32, other: u32) -> Result<bool, AllocError>
     requires few { length types.now ≤ 2 ^ 32 }
-    ensures { IfOk result (λ b. b ≡ extension.comes_to types.now (id_of (Named of)) (id_of (Named other))) }
+    ensures { IfOk result (λ b.
+        b ≡ extension.comes_to types.now (id_of (Named of)) (id_of (Named other))) }
 {
     let Some(a) = type_in(types, TType::Named(of)) else {
         return Err(AllocError);
@@ -187,7 +188,8 @@ impl<'a> Dispatch<'a> {
     /// The methods of a type by their slots, as numbers of routines.
     pub fn methods(&self, of: u32) -> &[u32]
         requires { of < length self.now.objects.items }
-        ensures { result.now ≡ slots (seen_program self.now) (own_numbers (seen_program self.now)) of }
+        ensures { result.now ≡
+            slots (seen_program self.now) (own_numbers (seen_program self.now)) of }
     {
         table_in(&self.tables, of)
     }
@@ -255,7 +257,9 @@ impl<'a> Dispatch<'a> {
     /// What a type has in a slot, as the number of a routine.
     pub fn entry(&self, of: u32, slot: u32) -> Option<u32>
         requires { of < length (seen_program self.now).objects }
-        ensures { result ≡ slice_get (slots (seen_program self.now) (own_numbers (seen_program self.now)) of) slot }
+        ensures { result ≡
+            slice_get (slots (seen_program self.now) (own_numbers (seen_program self.now)) of)
+            slot }
     {
         entry_in(&self.tables, of, slot)
     }
@@ -269,7 +273,8 @@ impl<'a> Dispatch<'a> {
 
     /// The number in the table of the type that declares a field of a type, the type itself or one of its bases.
     pub fn declarer(&self, of: TType, number: u32) -> Result<u32, AllocError>
-        ensures { IfOk result (λ n. n ≡ (fields.declarer (seen_program self.now).types (id_of of) number).0) }
+        ensures { IfOk result (λ n.
+            n ≡ (fields.declarer (seen_program self.now).types (id_of of) number).0) }
     {
         declarer_in(&self.program.types, of, number)
     }
@@ -277,7 +282,8 @@ impl<'a> Dispatch<'a> {
     /// Whether bases lead from one type to another, by the numbers of both in the program.
     pub fn extends(&self, of: u32, other: u32) -> Result<bool, AllocError>
         ensures { IfOk result (λ b. b ≡
-            extension.comes_to (seen_program self.now).types (id_of (Named of)) (id_of (Named other))) }
+            extension.comes_to (seen_program self.now).types (id_of (Named of))
+            (id_of (Named other))) }
     {
         extends_in(&self.program.types, of, other)
     }

@@ -285,7 +285,8 @@ pub fn tables_of(
 
 /// The number of the method that a type has in a slot. One that isn't there is in no well-typed program: there is no memory for it.
 pub fn number_in(tables: &[Shared], of: u32, slot: u32) -> Result<u32, AllocError>
-    ensures { IfOk result (λ n. option_and_then (λ table. slice_get table slot) (slice_get tables.now of) ≡ Some n) }
+    ensures { IfOk result (λ n.
+        option_and_then (λ table. slice_get table slot) (slice_get tables.now of) ≡ Some n) }
 {
     let Some(table) = tables.get(of as usize) else {
         return Err(AllocError);

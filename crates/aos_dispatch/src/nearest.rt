@@ -54,7 +54,8 @@ fn told(program: &Program, asked: Asked, t: u32) -> Option<u32>
 #[tactic(auto, using(crate::proofs::Told::found_here, crate::proofs::Told::none_above, crate::proofs::Told::on_to_base, crate::proofs::Told::chain_over))]
 fn nearest(program: &Program, asked: Asked, t: u32) -> Option<u32>
     requires { length program.now.types ≤ 2 ^ 32 }
-    ensures { result ≡ nearest (seen_program program.now) (told_by (seen_program program.now) asked) t }
+    ensures { result ≡
+        nearest (seen_program program.now) (told_by (seen_program program.now) asked) t }
 {
     let mut of = t;
     for _step in 0..program.objects.len() {
@@ -86,7 +87,8 @@ fn tells_some(objects: &[TObject], asked: Asked) -> bool
 fn nearest_if(program: &Program, asked: Asked, t: u32, any: bool) -> Option<u32>
     requires few { length program.now.types ≤ 2 ^ 32 }
     requires any { any ≡ tells_some asked program.now.objects.items }
-    ensures { result ≡ nearest (seen_program program.now) (told_by (seen_program program.now) asked) t }
+    ensures { result ≡
+        nearest (seen_program program.now) (told_by (seen_program program.now) asked) t }
 {
     if any {
         nearest(program, asked, t)

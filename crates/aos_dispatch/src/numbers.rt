@@ -42,7 +42,8 @@ pub fn first_number(modules: usize, objects: usize) -> u32
 /// The number of the first procedure of each of these modules, where that of the first one is this, and the number behind all.
 /// Procedures that have no number are want of memory.
 pub fn firsts_of(alloc: Global, modules: &[TModule], first: u32) -> Result<Vec<u32>, AllocError>
-    ensures { IfOk result (λ firsts. firsts.items ≡ firsts_from first (map seen_module modules.now)) }
+    ensures { IfOk result (λ firsts.
+        firsts.items ≡ firsts_from first (map seen_module modules.now)) }
 {
     let mut firsts = Vec::new(alloc);
     let mut next = first;
@@ -74,7 +75,8 @@ pub fn method_firsts(alloc: Global, objects: &[TObject], first: u32) -> Result<V
 /// The number of a procedure of one of these modules. One of a module that isn't there is in no well-typed program: there is no
 /// memory for it.
 pub fn number_at(firsts: &[u32], home: u32, number: u32) -> Result<u32, AllocError>
-    ensures { IfOk result (λ n. option_map (λ first. first + number) (slice_get firsts.now home) ≡ Some n) }
+    ensures { IfOk result (λ n.
+        option_map (λ first. first + number) (slice_get firsts.now home) ≡ Some n) }
 {
     match firsts.get(home as usize) {
         Some(first) => {

@@ -20,7 +20,8 @@ pub enum Routine<'a> {
 
 // One more routine.
 fn put<'a>(all: &mut Vec<Routine<'a>>, one: Routine<'a>) -> Result<(), AllocError>
-    ensures { OnOk result (seen_routines all.new.items ≡ seen_routines all.old.items ++ seen_routine one.entry ∷ []) }
+    ensures { OnOk result (seen_routines all.new.items ≡ seen_routines all.old.items ++
+        seen_routine one.entry ∷ []) }
 {
     all.push(one)?;
     Ok(())
@@ -46,7 +47,8 @@ fn put_bodies<'a>(all: &mut Vec<Routine<'a>>, modules: &'a [TModule]) -> Result<
 // What the objects of types carry out.
 fn put_objects<'a>(all: &mut Vec<Routine<'a>>, objects: &'a [TObject]) -> Result<(), AllocError>
     ensures { OnOk result (seen_routines all.new.items ≡
-        seen_routines all.old.items ++ map (λ o. routine_of o.home o.body) (map seen_object objects.now)) }
+        seen_routines all.old.items ++
+        map (λ o. routine_of o.home o.body) (map seen_object objects.now)) }
 {
     for object in objects {
         put(all, Routine::Procedure(object.home, &object.body))?;
@@ -90,7 +92,8 @@ fn put_own<'a>(
     methods: &'a [TMethod],
 ) -> Result<(), AllocError>
     ensures { OnOk result (seen_routines all.new.items ≡
-        seen_routines all.old.items ++ map (λ m. routine_of home m.procedure) (map seen_method methods.now)) }
+        seen_routines all.old.items ++
+        map (λ m. routine_of home m.procedure) (map seen_method methods.now)) }
 {
     for method in methods {
         put(all, Routine::Procedure(home, &method.procedure))?;

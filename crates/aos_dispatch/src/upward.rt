@@ -68,7 +68,8 @@ pub fn height_in(heights: &[usize], of: u32) -> Option<usize>
 #[tactic(auto, using(crate::proofs::Upwards::one_higher))]
 fn height_by_base(program: &Program, heights: &[usize], t: u32) -> Option<usize>
     requires few { length program.now.types ≤ 2 ^ 32 }
-    requires heights { AreHeights (seen_program program.now) (length program.now.objects.items) t heights.now }
+    requires heights { AreHeights (seen_program program.now)
+        (length program.now.objects.items) t heights.now }
     ensures { IfSome result (λ height. height ≡
         length (chain_by (seen_program program.now) (length program.now.objects.items) t)) }
 {
@@ -89,7 +90,8 @@ fn height_of(
     t: u32,
 ) -> Result<usize, AllocError>
     requires few { length program.now.types ≤ 2 ^ 32 }
-    requires heights { AreHeights (seen_program program.now) (length program.now.objects.items) t heights.now }
+    requires heights { AreHeights (seen_program program.now)
+        (length program.now.objects.items) t heights.now }
     ensures { IfOk result (λ height. height ≡
         length (chain_by (seen_program program.now) (length program.now.objects.items) t)) }
 {

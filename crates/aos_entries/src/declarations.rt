@@ -94,7 +94,8 @@ pub fn type_definitions(alloc: Global, decls: &[Decl]) -> Result<Vec<&TypeDef>, 
 
 /// Puts what procedures declare behind these.
 fn add_procedure_parts<'t>(all: &mut Vec<&'t [Decl]>, procs: &[&'t Proc]) -> Result<(), AllocError>
-    ensures { OnOk result (declarations.seen_parts all.new.items ≡ declarations.seen_parts all.old.items
+    ensures { OnOk result (declarations.seen_parts all.new.items ≡
+        declarations.seen_parts all.old.items
         ++ map (λ p. p.decls) (declarations.seen_procedures procs.now)) }
 {
     for proc in procs {
@@ -105,7 +106,8 @@ fn add_procedure_parts<'t>(all: &mut Vec<&'t [Decl]>, procs: &[&'t Proc]) -> Res
 
 /// Puts what is declared in types behind these.
 fn add_type_parts<'t>(all: &mut Vec<&'t [Decl]>, defs: &[&'t TypeDef]) -> Result<(), AllocError>
-    ensures { OnOk result (declarations.seen_parts all.new.items ≡ declarations.seen_parts all.old.items
+    ensures { OnOk result (declarations.seen_parts all.new.items ≡
+        declarations.seen_parts all.old.items
         ++ map (λ d. declarations.inner_decls d.value) (declarations.seen_types defs.now)) }
 {
     for def in defs {

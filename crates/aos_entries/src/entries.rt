@@ -477,7 +477,8 @@ fn add_procedure_scopes<'a>(
     decls: &[Decl],
 ) -> Result<(), NoMemory>
     ensures scopes { OnOk result (scopes.new.items ≡ scopes.old.items ++
-        entries.procedure_scopes text.now numbers.now place.old (declarations.procedures decls.now)) }
+        entries.procedure_scopes text.now numbers.now place.old
+        (declarations.procedures decls.now)) }
     ensures place { OnOk result (place.new ≡
         place.old + length (declarations.local_types (declarations.procedures decls.now))) }
 {
@@ -547,7 +548,8 @@ fn add_all_scopes<'a>(
     decls: &[Decl],
 ) -> Result<(), NoMemory>
     ensures { OnOk result (scopes.new.items ≡ scopes.old.items ++
-        entries.procedure_scopes text.now numbers.now first (declarations.all_procedures decls.now)) }
+        entries.procedure_scopes text.now numbers.now first
+        (declarations.all_procedures decls.now)) }
 {
     let mut place = first;
     add_procedure_scopes(alloc, scopes, &mut place, text, numbers, decls)?;
@@ -637,7 +639,8 @@ fn add_objects(
     numbers: &[Option<TypeId>],
     defs: &[TypeDef],
 ) -> Result<(), NoMemory>
-    ensures objects { OnOk result (objects.new.entries ≡ (fold (entries.next_object home numbers.now)
+    ensures objects { OnOk result (objects.new.entries ≡
+        (fold (entries.next_object home numbers.now)
         (entries.numbered_objects place.old methods.old objects.old.entries) defs.now).all) }
     ensures place { OnOk result (place.new ≡ (fold (entries.next_object home numbers.now)
         (entries.numbered_objects place.old methods.old objects.old.entries) defs.now).place) }

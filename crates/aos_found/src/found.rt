@@ -32,7 +32,8 @@ fn is_startable(image: &Image, store: &Store, object: u32) -> bool
 
 /// Whether the topmost frame's region is open.
 pub fn is_top_open(frames: &Frames) -> bool
-    ensures { (f : FrameOf) (fs : List FrameOf) → list_in frames.now.list.items ≡ f ∷ fs → result ≡ f.is_open }
+    ensures { (f : FrameOf) (fs : List FrameOf) → list_in frames.now.list.items ≡ f ∷ fs →
+        result ≡ f.is_open }
 {
     match frames.list.last() {
         None => false,
@@ -44,7 +45,8 @@ pub fn is_top_open(frames: &Frames) -> bool
 /// of the frame none; the start of an activity an object whose type has an active body.
 pub fn finds(image: &Image, question: Question, frames: &Frames, store: &Store) -> bool
     ensures { (f : FrameOf) (fs : List FrameOf) → list_in frames.now.list.items ≡ f ∷ fs →
-        result ≡ finds_of image.now.types.items (question_in question f.stack) f (memory_in store.now) }
+        result ≡ finds_of image.now.types.items (question_in question f.stack) f
+        (memory_in store.now) }
 {
     match question {
         Question::Ends(_) => !is_top_open(frames),

@@ -36,7 +36,8 @@ fn tell(
     requires quiet { AreMarks (seen_program dispatch.now) quiet.now }
     requires texts { AreTexts (seen_program dispatch.now) texts.now }
     ensures { IfOk result (λ t. Tells (seen_program dispatch.now)
-        (condition_in (seen_routine routine.now).home (seen_routine routine.now).own (seen_await one.now)) t) }
+        (condition_in (seen_routine routine.now).home (seen_routine routine.now).own
+        (seen_await one.now)) t) }
 {
     let mut uses = Vec::new(alloc);
     value_uses(dispatch, &mut uses, one.condition)?;
@@ -73,7 +74,8 @@ fn routine_told(
 ) -> Result<Vec<AwaitRec>, AllocError>
     requires quiet { AreMarks (seen_program dispatch.now) quiet.now }
     requires texts { AreTexts (seen_program dispatch.now) texts.now }
-    ensures { IfOk result (λ all. AreTold (seen_program dispatch.now) (conditions_of (seen_routine routine.now)) all.items) }
+    ensures { IfOk result (λ all.
+        AreTold (seen_program dispatch.now) (conditions_of (seen_routine routine.now)) all.items) }
 {
     let mut all = Vec::new(alloc);
     let awaits = awaits_of(alloc, routine)?;
@@ -93,7 +95,8 @@ fn all_told(
 ) -> Result<Vec<AwaitRec>, AllocError>
     requires quiet { AreMarks (seen_program dispatch.now) quiet.now }
     requires texts { AreTexts (seen_program dispatch.now) texts.now }
-    ensures { IfOk result (λ all. AreTold (seen_program dispatch.now) (conditions (seen_program dispatch.now)) all.items) }
+    ensures { IfOk result (λ all.
+        AreTold (seen_program dispatch.now) (conditions (seen_program dispatch.now)) all.items) }
 {
     let mut all = Vec::new(alloc);
     let routines = dispatch.routines();

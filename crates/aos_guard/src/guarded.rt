@@ -84,7 +84,8 @@ fn may_write_module(
     number: u32,
 ) -> bool
     ensures { IsTrue result ↔ (IsTrue (is_of_module (seen_program dispatch.now) home number) ×
-        (IsTrue exclusive × (((seen_routine routine.now).home ≡ home) × (has_self (seen_routine routine.now).own ≡ false)))) }
+        (IsTrue exclusive × (((seen_routine routine.now).home ≡ home) ×
+        (has_self (seen_routine routine.now).own ≡ false)))) }
 {
     let there = is_of_module(dispatch, home, number);
     let same = home_of(routine) == home;
@@ -102,7 +103,8 @@ fn may_write_field(
     exclusive: bool,
 ) -> bool
     requires { AreMarks (seen_program dispatch.now) quiet.now }
-    ensures { IsTrue result ↔ (IsTrue through_self × (IsTrue exclusive ⊎ IsQuiet (seen_program dispatch.now) text)) }
+    ensures { IsTrue result ↔
+        (IsTrue through_self × (IsTrue exclusive ⊎ IsQuiet (seen_program dispatch.now) text)) }
 {
     let mark = has_mark(quiet, text);
     through_self && (exclusive || mark)
@@ -119,7 +121,8 @@ fn may_write(
 ) -> bool
     requires { AreMarks (seen_program dispatch.now) quiet.now }
     ensures { IsTrue result ↔
-        MayWrite (seen_program dispatch.now) text (seen_routine routine.now) target.through_self exclusive target.of }
+        MayWrite (seen_program dispatch.now) text (seen_routine routine.now) target.through_self
+        exclusive target.of }
 {
     match target.of {
         Variable::Module(home, number) => {
@@ -147,7 +150,8 @@ fn spares_write(
     exclusive: bool,
 ) -> bool
     requires { AreMarks (seen_program dispatch.now) quiet.now }
-    ensures { IsTrue result ↔ Spares (seen_program dispatch.now) variable text (seen_routine routine.now) (Use.Writes target exclusive) }
+    ensures { IsTrue result ↔ Spares (seen_program dispatch.now) variable text
+        (seen_routine routine.now) (Use.Writes target exclusive) }
 {
     if target.of == variable {
         may_write(dispatch, quiet, text, routine, target, exclusive)
@@ -174,7 +178,8 @@ fn spares(
     one: Use,
 ) -> bool
     requires { AreMarks (seen_program dispatch.now) quiet.now }
-    ensures { IsTrue result ↔ Spares (seen_program dispatch.now) variable text (seen_routine routine.now) one }
+    ensures { IsTrue result ↔ Spares (seen_program dispatch.now) variable text
+        (seen_routine routine.now) one }
 {
     match one {
         Use::Writes(target, exclusive) => {
@@ -203,7 +208,9 @@ fn text_spares(
     uses: &[Use],
 ) -> bool
     requires { AreMarks (seen_program dispatch.now) quiet.now }
-    ensures { IsTrue result ↔ Each (Spares (seen_program dispatch.now) variable text (seen_routine routine.now)) uses.now }
+    ensures { IsTrue result ↔
+        Each (Spares (seen_program dispatch.now) variable text (seen_routine routine.now))
+        uses.now }
 {
     for one in uses {
         if !spares(dispatch, quiet, variable, text, routine, *one) {
@@ -223,7 +230,9 @@ fn texts_spare(
 ) -> Result<bool, AllocError>
     requires quiet { AreMarks (seen_program dispatch.now) quiet.now }
     requires texts { AreTexts (seen_program dispatch.now) texts.now }
-    ensures { IfOk result (λ b. IsTrue b ↔ InEach (seen_program dispatch.now) (Spares (seen_program dispatch.now) variable)) }
+    ensures { IfOk result (λ b.
+        IsTrue b ↔ InEach (seen_program dispatch.now)
+        (Spares (seen_program dispatch.now) variable)) }
 {
     let routines = dispatch.routines();
     for index in 0..routines.len() {

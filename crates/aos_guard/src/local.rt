@@ -16,7 +16,9 @@ use std::alloc::AllocError;
 
 // Whether one of these parameters is one by value.
 fn is_copied(parameters: &[TParameter], number: u32) -> bool
-    ensures { result ≡ unwrap_or (option_map (λ a. not a.by_reference) (slice_get (map seen_parameter parameters.now) number)) false }
+    ensures { result ≡
+        unwrap_or (option_map (λ a. not a.by_reference)
+        (slice_get (map seen_parameter parameters.now) number)) false }
 {
     match parameters.get(number as usize) {
         Some(parameter) => !parameter.by_reference,
@@ -38,7 +40,8 @@ fn is_by_value(routine: &Routine<'_>, number: u32) -> bool
 #[tactic(auto, using(crate::proofs::Tests::known_or))]
 fn may_know(dispatch: &Dispatch<'_>, routine: &Routine<'_>, home: u32, number: u32) -> bool
     ensures { IsTrue result ↔ (IsTrue (not (is_of_module (seen_program dispatch.now) home number)) ⊎
-        (((seen_routine routine.now).home ≡ home) × (has_self (seen_routine routine.now).own ≡ false))) }
+        (((seen_routine routine.now).home ≡ home) × (has_self (seen_routine routine.now).own ≡
+        false))) }
 {
     let there = is_of_module(dispatch, home, number);
     let same = home_of(routine) == home;
@@ -60,7 +63,8 @@ fn may_read_module(
     requires texts { AreTexts (seen_program dispatch.now) texts.now }
     ensures { IfOk result (λ b. IsTrue b ↔
         ((IsTrue (not (is_of_module (seen_program dispatch.now) home number)) ⊎
-        (((seen_routine routine.now).home ≡ home) × (has_self (seen_routine routine.now).own ≡ false))) ×
+        (((seen_routine routine.now).home ≡ home) × (has_self (seen_routine routine.now).own ≡
+        false))) ×
         IsGuarded (seen_program dispatch.now) (Variable.Module home number))) }
 {
     let known = may_know(dispatch, routine, home, number);
@@ -79,7 +83,8 @@ fn may_read_field(
 ) -> Result<bool, AllocError>
     requires quiet { AreMarks (seen_program dispatch.now) quiet.now }
     requires texts { AreTexts (seen_program dispatch.now) texts.now }
-    ensures { IfOk result (λ b. IsTrue b ↔ (IsTrue through_self × IsGuarded (seen_program dispatch.now) field)) }
+    ensures { IfOk result (λ b.
+        IsTrue b ↔ (IsTrue through_self × IsGuarded (seen_program dispatch.now) field)) }
 {
     let guarded = is_guarded(dispatch, quiet, texts, field)?;
     Ok(through_self && guarded)
@@ -96,7 +101,8 @@ fn may_read(
     requires quiet { AreMarks (seen_program dispatch.now) quiet.now }
     requires texts { AreTexts (seen_program dispatch.now) texts.now }
     ensures { IfOk result (λ b. IsTrue b ↔ MayRead (seen_program dispatch.now)
-        (seen_routine routine.now).home (seen_routine routine.now).own target.through_self target.of) }
+        (seen_routine routine.now).home (seen_routine routine.now).own target.through_self
+        target.of) }
 {
     match target.of {
         Variable::Module(home, number) => {
@@ -127,7 +133,8 @@ fn lets(
     requires quiet { AreMarks (seen_program dispatch.now) quiet.now }
     requires texts { AreTexts (seen_program dispatch.now) texts.now }
     ensures { IfOk result (λ b. IsTrue b ↔
-        Lets (seen_program dispatch.now) (seen_routine routine.now).home (seen_routine routine.now).own one) }
+        Lets (seen_program dispatch.now) (seen_routine routine.now).home
+        (seen_routine routine.now).own one) }
 {
     match one {
         Use::Writes(_, _) => Ok(false),
@@ -155,7 +162,8 @@ pub fn is_local(
     requires quiet { AreMarks (seen_program dispatch.now) quiet.now }
     requires texts { AreTexts (seen_program dispatch.now) texts.now }
     ensures { IfOk result (λ b. IsTrue b ↔
-        Each (Lets (seen_program dispatch.now) (seen_routine routine.now).home (seen_routine routine.now).own) uses.now) }
+        Each (Lets (seen_program dispatch.now) (seen_routine routine.now).home
+        (seen_routine routine.now).own) uses.now) }
 {
     for one in uses {
         if !lets(dispatch, quiet, texts, routine, *one)? {

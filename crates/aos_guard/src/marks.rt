@@ -23,7 +23,8 @@ pub fn has_mark(marks: &[bool], number: u32) -> bool
 // Whether an edge keeps its marks.
 fn keeps(edge: &Edge, marks: &[bool]) -> bool
     ensures yes_ { IsTrue result → KeepsEdge (marked marks.now) edge.now }
-    ensures no_ { IsFalse result → IsTrue (marked marks.now edge.now.from) × (IsTrue (marked marks.now edge.now.to) → ⊥) }
+    ensures no_ { IsFalse result →
+        IsTrue (marked marks.now edge.now.from) × (IsTrue (marked marks.now edge.now.to) → ⊥) }
 {
     let to = has_mark(marks, edge.to);
     !has_mark(marks, edge.from) || to
@@ -33,8 +34,10 @@ fn keeps(edge: &Edge, marks: &[bool]) -> bool
 fn take_one(marks: &mut Vec<bool>, number: u32)
     ensures length { length marks.new.items ≡ length marks.old.items }
     ensures less { IsWithin (marked marks.new.items) (marked marks.old.items) }
-    ensures kept { (set : ℕ → Bool) → (IsTrue (set number) → ⊥) → IsWithin set (marked marks.old.items) → IsWithin set (marked marks.new.items) }
-    ensures fewer { count_by (λ b. b) marks.new.items + (if marked marks.old.items number then 1 else 0) ≡ count_by (λ b. b) marks.old.items }
+    ensures kept { (set : ℕ → Bool) → (IsTrue (set number) → ⊥) →
+        IsWithin set (marked marks.old.items) → IsWithin set (marked marks.new.items) }
+    ensures fewer { count_by (λ b. b) marks.new.items +
+        (if marked marks.old.items number then 1 else 0) ≡ count_by (λ b. b) marks.old.items }
 {
     if (number as usize) < marks.len() {
         marks[number as usize] = false;
@@ -44,9 +47,12 @@ fn take_one(marks: &mut Vec<bool>, number: u32)
 // The mark of an edge's beginning is taken back where its end has none; whether it is.
 fn visit(edge: &Edge, marks: &mut Vec<bool>) -> bool
     ensures less { IsWithin (marked marks.new.items) (marked marks.old.items) }
-    ensures kept { (set : ℕ → Bool) → KeepsEdge set edge.now → IsWithin set (marked marks.old.items) → IsWithin set (marked marks.new.items) }
-    ensures stop { IsFalse result → (marks.new.items ≡ marks.old.items) × KeepsEdge (marked marks.new.items) edge.now }
-    ensures fewer { IsTrue result → count_by (λ b. b) marks.new.items < count_by (λ b. b) marks.old.items }
+    ensures kept { (set : ℕ → Bool) → KeepsEdge set edge.now →
+        IsWithin set (marked marks.old.items) → IsWithin set (marked marks.new.items) }
+    ensures stop { IsFalse result →
+        (marks.new.items ≡ marks.old.items) × KeepsEdge (marked marks.new.items) edge.now }
+    ensures fewer { IsTrue result →
+        count_by (λ b. b) marks.new.items < count_by (λ b. b) marks.old.items }
     ensures most { count_by (λ b. b) marks.new.items ≤ count_by (λ b. b) marks.old.items }
 {
     if keeps(edge, marks) {
@@ -60,9 +66,11 @@ fn visit(edge: &Edge, marks: &mut Vec<bool>) -> bool
 // One round over the edges; whether a mark was taken back.
 fn round(edges: &[Edge], marks: &mut Vec<bool>) -> bool
     ensures less { IsWithin (marked marks.new.items) (marked marks.old.items) }
-    ensures kept { (set : ℕ → Bool) → IsClosed edges.now set → IsWithin set (marked marks.old.items) → IsWithin set (marked marks.new.items) }
+    ensures kept { (set : ℕ → Bool) → IsClosed edges.now set →
+        IsWithin set (marked marks.old.items) → IsWithin set (marked marks.new.items) }
     ensures stop { IsFalse result → IsClosed edges.now (marked marks.new.items) }
-    ensures fewer { IsTrue result → count_by (λ b. b) marks.new.items < count_by (λ b. b) marks.old.items }
+    ensures fewer { IsTrue result →
+        count_by (λ b. b) marks.new.items < count_by (λ b. b) marks.old.items }
     ensures most { count_by (λ b. b) marks.new.items ≤ count_by (λ b. b) marks.old.items }
 {
     let mut changed = false;
@@ -76,7 +84,8 @@ fn round(edges: &[Edge], marks: &mut Vec<bool>) -> bool
 
 /// The marks that are left are those of the largest set within these that has with the beginning of each edge its end.
 pub fn take_back(edges: &[Edge], marks: &mut Vec<bool>)
-    ensures exact { (k : ℕ) → IsTrue (marked marks.new.items k) ↔ IsLeft edges.now marks.old.items k }
+    ensures exact { (k : ℕ) →
+        IsTrue (marked marks.new.items k) ↔ IsLeft edges.now marks.old.items k }
 {
     let mut changed = true;
     while changed {

@@ -53,8 +53,10 @@ fn is_below(
     slot: u32,
     named: u32,
 ) -> Result<bool, AllocError>
-    ensures { IfOk result (λ b. IsTrue b ↔ ((method_of (seen_program dispatch.now) base slot ≡ Some named) ×
-        (comes_to (seen_program dispatch.now).types (id_of (Named owner)) (id_of (Named base)) ≡ true))) }
+    ensures { IfOk result (λ b.
+        IsTrue b ↔ ((method_of (seen_program dispatch.now) base slot ≡ Some named) ×
+        (comes_to (seen_program dispatch.now).types (id_of (Named owner)) (id_of (Named base)) ≡
+        true))) }
 {
     let extends = dispatch.extends(owner, base)?;
     Ok(has_method(dispatch, base, slot, named) && extends)
@@ -95,8 +97,10 @@ fn put_owner(
     named: u32,
     to: u32,
 ) -> Result<(), AllocError>
-    ensures { OnOk result ((set : ℕ → Bool) → IsWithin set (marked marks.now) → IsClosed edges.new.items set ↔
-        (IsClosed edges.old.items set × LeadsFrom (seen_program dispatch.now) set owner slot named to)) }
+    ensures { OnOk result ((set : ℕ → Bool) → IsWithin set (marked marks.now) →
+        IsClosed edges.new.items set ↔
+        (IsClosed edges.old.items set ×
+        LeadsFrom (seen_program dispatch.now) set owner slot named to)) }
 {
     let Some(method) = method_of(dispatch, owner, slot) else {
         return Ok(());
@@ -121,7 +125,8 @@ fn put_named(
     slot: u32,
     to: u32,
 ) -> Result<(), AllocError>
-    ensures { OnOk result ((set : ℕ → Bool) → IsWithin set (marked marks.now) → IsClosed edges.new.items set ↔
+    ensures { OnOk result ((set : ℕ → Bool) → IsWithin set (marked marks.now) →
+        IsClosed edges.new.items set ↔
         (IsClosed edges.old.items set ×
         ((n : ℕ) → IsNamed (seen_program dispatch.now) n of slot →
         IsTrue (set n) → IsTrue (set to)))) }
@@ -145,8 +150,10 @@ fn put_raised(
     of: u32,
     slot: u32,
 ) -> Result<(), AllocError>
-    ensures { OnOk result ((set : ℕ → Bool) → IsWithin set (marked marks.now) → IsClosed edges.new.items set ↔
-        (IsClosed edges.old.items set × Keeps (seen_program dispatch.now) (λ n. IsTrue (set n)) text (Use.Raises of slot))) }
+    ensures { OnOk result ((set : ℕ → Bool) → IsWithin set (marked marks.now) →
+        IsClosed edges.new.items set ↔
+        (IsClosed edges.old.items set × Keeps (seen_program dispatch.now) (λ n. IsTrue (set n)) text
+        (Use.Raises of slot))) }
 {
     put_edge(edges, text, raised(dispatch, of, slot))?;
     put_named(edges, dispatch, marks, of, slot, text)?;
@@ -156,7 +163,8 @@ fn put_raised(
 // What no text of the set has.
 fn put_loud(edges: &mut Vec<Edge>, marks: &[bool], text: u32) -> Result<(), AllocError>
     requires { marked marks.now 0 ≡ false }
-    ensures { OnOk result ((set : ℕ → Bool) → IsWithin set (marked marks.now) → IsClosed edges.new.items set ↔
+    ensures { OnOk result ((set : ℕ → Bool) → IsWithin set (marked marks.now) →
+        IsClosed edges.new.items set ↔
         (IsClosed edges.old.items set × (IsTrue (set text) → ⊥))) }
 {
     put_edge(edges, text, 0)
@@ -172,8 +180,10 @@ fn put_found(
     slot: u32,
 ) -> Result<(), AllocError>
     requires { marked marks.now 0 ≡ false }
-    ensures { OnOk result ((set : ℕ → Bool) → IsWithin set (marked marks.now) → IsClosed edges.new.items set ↔
-        (IsClosed edges.old.items set × ((n : ℕ) → IsNamed (seen_program dispatch.now) n of slot → IsTrue (set n) → ⊥))) }
+    ensures { OnOk result ((set : ℕ → Bool) → IsWithin set (marked marks.now) →
+        IsClosed edges.new.items set ↔
+        (IsClosed edges.old.items set × ((n : ℕ) → IsNamed (seen_program dispatch.now) n of slot →
+        IsTrue (set n) → ⊥))) }
 {
     put_named(edges, dispatch, marks, of, slot, 0)?;
     Ok(())
@@ -189,8 +199,10 @@ fn put_use(
     one: Use,
 ) -> Result<(), AllocError>
     requires { marked marks.now 0 ≡ false }
-    ensures { OnOk result ((set : ℕ → Bool) → IsWithin set (marked marks.now) → IsClosed edges.new.items set ↔
-        (IsClosed edges.old.items set × Keeps (seen_program dispatch.now) (λ n. IsTrue (set n)) text one)) }
+    ensures { OnOk result ((set : ℕ → Bool) → IsWithin set (marked marks.now) →
+        IsClosed edges.new.items set ↔
+        (IsClosed edges.old.items set ×
+        Keeps (seen_program dispatch.now) (λ n. IsTrue (set n)) text one)) }
 {
     match one {
         Use::Writes(_, _) => Ok(()),
@@ -216,8 +228,10 @@ fn put_text(
     uses: &[Use],
 ) -> Result<(), AllocError>
     requires { marked marks.now 0 ≡ false }
-    ensures { OnOk result ((set : ℕ → Bool) → IsWithin set (marked marks.now) → IsClosed edges.new.items set ↔
-        (IsClosed edges.old.items set × Each (Keeps (seen_program dispatch.now) (λ n. IsTrue (set n)) text) uses.now)) }
+    ensures { OnOk result ((set : ℕ → Bool) → IsWithin set (marked marks.now) →
+        IsClosed edges.new.items set ↔
+        (IsClosed edges.old.items set ×
+        Each (Keeps (seen_program dispatch.now) (λ n. IsTrue (set n)) text) uses.now)) }
 {
     for one in uses {
         put_use(edges, dispatch, marks, text, *one)?;
@@ -235,7 +249,8 @@ fn edges_of(
 ) -> Result<Vec<Edge>, AllocError>
     requires { marked marks.now 0 ≡ false }
     ensures { IfOk result (λ edges. (set : ℕ → Bool) → IsWithin set (marked marks.now) →
-        IsClosed edges.items set ↔ InTexts (Keeps (seen_program dispatch.now) (λ n. IsTrue (set n))) texts.now) }
+        IsClosed edges.items set ↔
+        InTexts (Keeps (seen_program dispatch.now) (λ n. IsTrue (set n))) texts.now) }
 {
     let mut edges = Vec::new(alloc);
     for index in 0..texts.len() {
@@ -273,7 +288,9 @@ fn put_mark(marks: &mut Vec<bool>, mark: bool) -> Result<(), AllocError>
 
 // The number of the first method: it is behind those of all else that runs.
 fn first_method(dispatch: &Dispatch<'_>) -> Result<u32, AllocError>
-    ensures { IfOk result (λ n. n ≡ procedure_number (seen_program dispatch.now) (length (seen_program dispatch.now).modules) 0) }
+    ensures { IfOk result (λ n.
+        n ≡ procedure_number (seen_program dispatch.now)
+        (length (seen_program dispatch.now).modules) 0) }
 {
     let count = dispatch.program().modules.len();
     if count >= u32::MAX as usize {
@@ -285,7 +302,8 @@ fn first_method(dispatch: &Dispatch<'_>) -> Result<u32, AllocError>
 // The marks of the initializers: methods, whose numbers follow those of all else that runs.
 #[tactic(auto, using(crate::proofs::Initial::marks_begin, crate::proofs::Initial::marks_more))]
 fn initial_marks(alloc: Global, dispatch: &Dispatch<'_>) -> Result<Vec<bool>, AllocError>
-    ensures { IfOk result (λ marks. (n : ℕ) → marked marks.items n ≡ is_initial (seen_program dispatch.now) n) }
+    ensures { IfOk result (λ marks.
+        (n : ℕ) → marked marks.items n ≡ is_initial (seen_program dispatch.now) n) }
 {
     let first = first_method(dispatch)?;
     let mut marks = Vec::new(alloc);

@@ -11,7 +11,8 @@ use std::alloc::AllocError;
 #[cycle(stat_level)]
 #[tactic(auto, using(aos_dispatch::proofs::Heights::arm_less, aos_dispatch::proofs::Heights::otherwise_less))]
 fn arms_level(arms: &[TArm], otherwise: &[TStat], around: u32) -> Result<u32, AllocError>
-    ensures { IfOk result (λ n. n ≡ need_of.arms_level (arms_of arms.now (seen_stats otherwise.now)) around) }
+    ensures { IfOk result (λ n.
+        n ≡ need_of.arms_level (arms_of arms.now (seen_stats otherwise.now)) around) }
 {
     let mut most = 0;
     for arm in arms {
@@ -34,7 +35,8 @@ fn else_level(otherwise: &TElse, around: u32) -> Result<u32, AllocError>
 #[cycle(stat_level)]
 #[tactic(auto, using(aos_dispatch::proofs::Heights::case_less, aos_dispatch::proofs::Heights::else_less))]
 fn cases_level(cases: &[TCase], otherwise: &TElse, around: u32) -> Result<u32, AllocError>
-    ensures { IfOk result (λ n. n ≡ need_of.cases_level (cases_of cases.now (seen_else otherwise.now)) around) }
+    ensures { IfOk result (λ n.
+        n ≡ need_of.cases_level (cases_of cases.now (seen_else otherwise.now)) around) }
 {
     let mut most = 0;
     for case in cases {
@@ -45,7 +47,8 @@ fn cases_level(cases: &[TCase], otherwise: &TElse, around: u32) -> Result<u32, A
 
 // NEW: what the initializer is handed is kept till the object is made, and the object while it is stored.
 fn new_level(arguments: &[TArgument], around: u32) -> Result<u32, AllocError>
-    ensures { IfOk result (λ n. n ≡ max (suc around) (around + need_of.operands (seen_list arguments.now))) }
+    ensures { IfOk result (λ n.
+        n ≡ max (suc around) (around + need_of.operands (seen_list arguments.now))) }
 {
     let kept = next(around)?;
     let handed = operands(arguments)?;

@@ -64,7 +64,8 @@ fn describe(
 ) -> Result<ModuleDesc, AllocError>
     ensures name { IfOk result (λ d. string_bytes d.name ≡ string_bytes module.now.name) }
     ensures cells { IfOk result (λ d. d.cells.items ≡
-        map machine.first_cell kinds.now ++ flat_map (λ t. text_cells t.items) module.now.texts.items) }
+        map machine.first_cell kinds.now ++
+        flat_map (λ t. text_cells t.items) module.now.texts.items) }
     ensures start { IfOk result (λ d. d.body ≡ body) }
 {
     Ok(ModuleDesc {
@@ -83,7 +84,8 @@ pub fn modules_of(
     requires few { length program.now.modules.items ≤ 64 }
     requires laid { laid.now ≡ program.now }
     ensures { IfOk result (λ modules.
-        AreModules (seen_program program.now) (map seen_module program.now.modules.items) modules.items) }
+        AreModules (seen_program program.now)
+        (map seen_module program.now.modules.items) modules.items) }
 {
     let mut modules = Vec::new(alloc);
     let mut number = 0;

@@ -51,7 +51,8 @@ struct Carried {
 // What describes a type, where it is among the first types that a program names.
 fn described(before: &[TypeDesc], of: TypeId) -> Option<&TypeDesc>
     ensures behind { IfSome result (λ one. predeclared_types ≤ of.0) }
-    ensures there { IfSome result (λ one. slice_get before.now (of.0 - predeclared_types) ≡ Some one.now) }
+    ensures there { IfSome result (λ one.
+        slice_get before.now (of.0 - predeclared_types) ≡ Some one.now) }
 {
     if of.0 < PREDECLARED_TYPES {
         return None;
@@ -73,7 +74,8 @@ fn kinds_by(
     requires there { number + predeclared_types < length types.now }
     requires made { AreMade types.now made.now }
     requires before { AreKindsOf types.now number before.now }
-    ensures { IfOk result (λ kinds. kinds.items ≡ made_kinds types.now (record { 0 = number + predeclared_types })) }
+    ensures { IfOk result (λ kinds.
+        kinds.items ≡ made_kinds types.now (record { 0 = number + predeclared_types })) }
 {
     let of = TypeId(number + PREDECLARED_TYPES);
     let Some(base) = object_base(types, of) else {

@@ -37,11 +37,13 @@ pub fn link(
     requires few_types { length program.now.objects.items ≤ 2 ^ 26 }
     requires typed { IsWellTyped (seen_program program.now) }
     requires matching { map (λ b. b.code.items) bodies.items ≡
-        map (λ r. body_code (seen_program program.now) r.own r.body) (routines (seen_program program.now)) }
+        map (λ r. body_code (seen_program program.now) r.own r.body)
+        (routines (seen_program program.now)) }
     requires depths { map (λ b. b.depth) bodies.items ≡
         map (λ r. body_need r.body.statements) (routines (seen_program program.now)) }
     requires conditions { map (λ b. b.code.items) conds.items ≡
-        map (λ c. condition_code (seen_program program.now) c.own c.expression) (conditions (seen_program program.now)) }
+        map (λ c. condition_code (seen_program program.now) c.own c.expression)
+        (conditions (seen_program program.now)) }
     requires condition_depths { map (λ b. b.depth) conds.items ≡
         map (λ c. value_need c.expression) (conditions (seen_program program.now)) }
     ensures bodies { IfOk result (λ image. image.bodies.items ≡ bodies.items) }

@@ -63,7 +63,8 @@ pub fn next_of(activities: &[Activity], activity: u32) -> Next
 
 /// Where an activity stands in the text.
 pub fn place_of(image: &Image, activities: &[Activity], activity: u32) -> (u32, Pos)
-    ensures { (made : ℕ → Option MadeAs) (kept : Activity) (fs : FramesOf) → slice_get activities.now activity ≡ Some kept →
+    ensures { (made : ℕ → Option MadeAs) (kept : Activity) (fs : FramesOf) →
+        slice_get activities.now activity ≡ Some kept →
         Alike image.now made fs (frames_in kept.frames) → position image.now fs ≡ where_in result }
 {
     match activities.get(activity as usize) {
@@ -79,7 +80,8 @@ pub fn locks_of(
     activities: &[Activity],
     activity: u32,
 ) -> Result<Vec<LockName>, NoMemory>
-    ensures { (made : ℕ → Option MadeAs) (kept : Activity) (fs : FramesOf) → slice_get activities.now activity ≡ Some kept →
+    ensures { (made : ℕ → Option MadeAs) (kept : Activity) (fs : FramesOf) →
+        slice_get activities.now activity ≡ Some kept →
         Alike image.now made fs (frames_in kept.frames) →
         IfOk result (λ locks. reverse locks.items ≡ regions_of image.now fs.frames) }
 {
@@ -151,7 +153,8 @@ pub fn priority_of_object(image: &Image, store: &Store, object: u32) -> Priority
 pub fn set_unwinds(activities: &mut Vec<Activity>, activity: u32, locks: Vec<LockName>)
     ensures { (kept : Activity) → slice_get activities.old.items activity ≡ Some kept →
         activities.new.items ≡
-        slice_set activities.old.items activity (record kept { next = Next.Unwinds; locks = locks }) }
+        slice_set activities.old.items activity
+        (record kept { next = Next.Unwinds; locks = locks }) }
 {
     if let Some(kept) = activities.get_mut(activity as usize) {
         kept.next = Next::Unwinds;
@@ -163,7 +166,8 @@ pub fn set_unwinds(activities: &mut Vec<Activity>, activity: u32, locks: Vec<Loc
 pub fn pop_lock(activities: &mut Vec<Activity>, activity: u32) -> Option<LockName>
     ensures { (kept : Activity) → slice_get activities.old.items activity ≡ Some kept →
         (rest : Vec LockName Global) × (IsPopped result kept.locks.items rest.items) ×
-        (activities.new.items ≡ slice_set activities.old.items activity (record kept { locks = rest })) }
+        (activities.new.items ≡
+        slice_set activities.old.items activity (record kept { locks = rest })) }
 {
     match activities.get_mut(activity as usize) {
         Some(kept) => kept.locks.pop(),
@@ -176,7 +180,8 @@ pub fn drop_frames(alloc: Global, activities: &mut Vec<Activity>, activity: u32)
     ensures { (kept : Activity) → slice_get activities.old.items activity ≡ Some kept →
         (frames : KeptFrames) × (IsEmptied kept.frames frames) ×
         (activities.new.items ≡
-        slice_set activities.old.items activity (record kept { next = Next.Gone; frames = frames })) }
+        slice_set activities.old.items activity
+        (record kept { next = Next.Gone; frames = frames })) }
 {
     if let Some(kept) = activities.get_mut(activity as usize) {
         kept.next = Next::Gone;
@@ -187,7 +192,8 @@ pub fn drop_frames(alloc: Global, activities: &mut Vec<Activity>, activity: u32)
 
 /// The condition that an activity awaited last.
 pub fn condition_of(activities: &[Activity], activity: u32) -> u32
-    ensures { (kept : Activity) → slice_get activities.now activity ≡ Some kept → result ≡ kept.condition }
+    ensures { (kept : Activity) → slice_get activities.now activity ≡ Some kept →
+        result ≡ kept.condition }
 {
     match activities.get(activity as usize) {
         Some(kept) => kept.condition,
@@ -217,7 +223,8 @@ pub fn set_condition(
 ) -> Result<(), NoMemory>
     ensures set { (kept : Activity) → slice_get activities.old.items activity ≡ Some kept →
         OnOk result ((length kept.frames.list.items ≤ 2 ^ 32) ×
-        (activities.new.items ≡ slice_set activities.old.items activity (record kept { condition = condition }))) }
+        (activities.new.items ≡
+        slice_set activities.old.items activity (record kept { condition = condition }))) }
     ensures err { OnErr result (activities.new ≡ activities.old) }
 {
     if has_many_frames(activities, activity) {

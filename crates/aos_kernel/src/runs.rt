@@ -63,8 +63,10 @@ pub fn add_steps(log: &mut Vec<Sched>, worker: u32, count: u32)
     requires room { vec_len log.old < vec_capacity log.old }
     requires some { 1 ≤ count }
     requires few { count ≤ MAX_STEPS }
-    ensures choices { choices log.new.items ≡ choices log.old.items ++ replicate count (Step worker) }
-    ensures entries { (n : ℕ) → worker < n → All (IsEntry n) log.old.items → All (IsEntry n) log.new.items }
+    ensures choices { choices log.new.items ≡ choices log.old.items ++
+        replicate count (Step worker) }
+    ensures entries { (n : ℕ) → worker < n → All (IsEntry n) log.old.items →
+        All (IsEntry n) log.new.items }
     ensures len { vec_len log.new ≤ vec_len log.old + 1 }
     ensures capacity { vec_capacity log.new ≡ vec_capacity log.old }
 {

@@ -124,7 +124,8 @@ fn has_field(types: &Types, t: TypeId, number: u32) -> bool
 fn cells_before(types: &Types, of: TType, number: u32) -> Result<u32, AllocError>
     requires few { length types.now ≤ 2 ^ 32 }
     requires typed { AreTypes types.now }
-    ensures { IfOk result (λ cells. cells ≡ shape.offset (number ∷ []) (contents types.now (id_of of))) }
+    ensures { IfOk result (λ cells.
+        cells ≡ shape.offset (number ∷ []) (contents types.now (id_of of))) }
 {
     let Some(t) = type_in(types, of) else {
         return Err(AllocError);
@@ -205,7 +206,8 @@ impl<'a> Laid<'a> {
     /// The first cell of a module's variable or string constant, by the numbers of both.
     pub fn cell(&self, home: u32, number: u32) -> u32
         ensures { result ≡ shape.number_of (shape.offset (number ∷ []))
-            (slice_get (map (module_shape (seen_program self.now)) (seen_program self.now).modules) home) }
+            (slice_get (map (module_shape (seen_program self.now)) (seen_program self.now).modules)
+            home) }
     {
         cell_of(&self.blocks, home, number as usize)
     }
@@ -249,7 +251,8 @@ impl<'a> Laid<'a> {
     /// The methods of a type by their slots, as numbers of routines.
     pub fn methods(&self, of: u32) -> &[u32]
         requires { of < length self.now.objects.items }
-        ensures { result.now ≡ slots (seen_program self.now) (own_numbers (seen_program self.now)) of }
+        ensures { result.now ≡
+            slots (seen_program self.now) (own_numbers (seen_program self.now)) of }
     {
         self.dispatch.methods(of)
     }
@@ -292,7 +295,8 @@ impl<'a> Laid<'a> {
     /// The kinds of what a call of the routine of this number takes beside an object, the topmost operand first.
     pub fn taken(&self, alloc: Global, number: u32) -> Result<Vec<Kind>, AllocError>
         ensures { IfOk result (λ kinds. kinds.items ≡ reverse (kinds_handed
-            (map (frame.parameter_kind (seen_program self.now).types) (parameters_at (seen_program self.now) number)))) }
+            (map (frame.parameter_kind (seen_program self.now).types)
+            (parameters_at (seen_program self.now) number)))) }
     {
         taken_by(alloc, &self.program.types, self.dispatch.routines(), number)
     }
@@ -308,7 +312,8 @@ impl<'a> Laid<'a> {
     ) -> Result<FrameShape, NoMemory>
         requires typed { IsProcedure (seen_program self.now) (seen_procedure procedure.now) }
         ensures { IfOk result (λ f. seen_frame f ≡
-            frame.frame_shape (seen_program self.now).types 0 home keeps (seen_procedure procedure.now)) }
+            frame.frame_shape (seen_program self.now).types 0 home keeps
+            (seen_procedure procedure.now)) }
     {
         frame_shape(alloc, &self.program.types, 0, home, keeps, procedure)
     }

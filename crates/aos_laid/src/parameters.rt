@@ -37,7 +37,8 @@ fn put_numbers(kinds: &mut Vec<Kind>, count: u32) -> Result<(), AllocError>
 
 // What is handed over for a parameter, the last operand first.
 fn put_taken(kinds: &mut Vec<Kind>, parameter: ParamKind) -> Result<(), AllocError>
-    ensures { OnOk result (kinds.new.items ≡ kinds.old.items ++ reverse (kinds_of (parameter ∷ []))) }
+    ensures { OnOk result (kinds.new.items ≡ kinds.old.items ++
+        reverse (kinds_of (parameter ∷ []))) }
 {
     match parameter {
         ParamKind::Scalar(kind) => put_kind(kinds, kind),
@@ -61,7 +62,8 @@ fn kinds_taken(
     requires typed { AreTypes types.now }
     requires there { All (λ a. IsThere types.now a.of) (seen_procedure procedure.now).parameters }
     ensures { IfOk result (λ kinds. kinds.items ≡
-        reverse (kinds_of (map (parameter_kind types.now) (seen_procedure procedure.now).parameters))) }
+        reverse (kinds_of
+        (map (parameter_kind types.now) (seen_procedure procedure.now).parameters))) }
 {
     let handed = parameter_kinds(alloc, types, procedure.parameters.as_slice())?;
     let mut kinds = Vec::new(alloc);
@@ -77,7 +79,8 @@ fn kinds_taken(
 fn taken_in(alloc: Global, types: &Types, routine: &Routine<'_>) -> Result<Vec<Kind>, AllocError>
     requires few { length types.now ≤ 2 ^ 32 }
     requires typed { AreTypes types.now }
-    requires there { All (λ a. IsThere types.now a.of) (parameters_of (seen_routine routine.now).own) }
+    requires there { All (λ a. IsThere types.now a.of)
+        (parameters_of (seen_routine routine.now).own) }
     ensures { IfOk result (λ kinds. kinds.items ≡ reverse (kinds_of
         (map (parameter_kind types.now) (parameters_of (seen_routine routine.now).own)))) }
 {

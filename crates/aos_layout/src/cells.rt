@@ -147,7 +147,8 @@ impl Cells {
     ) -> Result<(), AllocError>
         requires none_contains_itself { NoneContainsItself types.now }
         requires few { length types.now ≤ 4294967296 }
-        requires there { All (λ a. frame.IsThere types.now a.of) (map seen_parameter parameters.now) }
+        requires there { All (λ a. frame.IsThere types.now a.of)
+            (map seen_parameter parameters.now) }
         ensures kinds { OnOk result (self.new.kinds.items ≡ self.old.kinds.items ++
             cells_of.kinds_of (cells_of.parameter_parts types.now parameters.now)) }
         ensures places { OnOk result (self.new.places.items ≡ self.old.places.items ++

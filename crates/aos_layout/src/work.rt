@@ -87,7 +87,8 @@ impl Work {
             work.all_done types.now self.old.tasks.items
             (self.old.kinds.items ++ work.again length (work.variable_kinds types.now element))) }
         ensures steps { OnOk result (work.all_steps types.now self.new.tasks.items ≤
-            work.all_steps types.now self.old.tasks.items + 1 + work.variable_steps types.now element) }
+            work.all_steps types.now self.old.tasks.items + 1 + work.variable_steps types.now
+            element) }
     {
         if length > 0 {
             self.tasks.push(Task::Again(self.kinds.len(), length - 1))?;
@@ -100,10 +101,13 @@ impl Work {
     fn put_record(&mut self, t: TypeId, base: Option<TypeId>) -> Result<(), AllocError>
         ensures kinds { (rows : List TypeRow) → OnOk result (work.outcome rows self.new ≡
             work.all_done rows self.old.tasks.items (self.old.kinds.items ++
-            (work.base_kinds rows base ++ work.field_kinds rows (work.fields_of (table.row_of rows t))))) }
-        ensures steps { (rows : List TypeRow) → OnOk result (work.all_steps rows self.new.tasks.items ≤
+            (work.base_kinds rows base ++
+            work.field_kinds rows (work.fields_of (table.row_of rows t))))) }
+        ensures steps { (rows : List TypeRow) →
+            OnOk result (work.all_steps rows self.new.tasks.items ≤
             work.all_steps rows self.old.tasks.items + 1 +
-            work.field_steps rows (work.fields_of (table.row_of rows t)) + work.sum_of (work.steps rows) (base_list base)) }
+            work.field_steps rows (work.fields_of (table.row_of rows t)) + work.sum_of
+            (work.steps rows) (base_list base)) }
     {
         self.tasks.push(Task::Fields(t, 0))?;
         if let Some(base) = base {
@@ -116,7 +120,8 @@ impl Work {
     fn put_contents(&mut self, types: &Types, t: TypeId) -> Result<(), AllocError>
         requires { NoneContainsItself types.now }
         ensures kinds { OnOk result (work.outcome types.now self.new ≡
-            work.all_done types.now self.old.tasks.items (self.old.kinds.items ++ layout.kinds types.now t)) }
+            work.all_done types.now self.old.tasks.items (self.old.kinds.items ++
+            layout.kinds types.now t)) }
         ensures steps { OnOk result (work.all_steps types.now self.new.tasks.items <
             work.all_steps types.now self.old.tasks.items + work.steps types.now t) }
     {
@@ -173,7 +178,8 @@ impl Work {
     fn put(&mut self, types: &Types, task: Task) -> Result<(), AllocError>
         requires { NoneContainsItself types.now }
         ensures kinds { OnOk result (work.outcome types.now self.new ≡
-            work.all_done types.now self.old.tasks.items (work.done types.now task self.old.kinds.items)) }
+            work.all_done types.now self.old.tasks.items
+            (work.done types.now task self.old.kinds.items)) }
         ensures steps { OnOk result (work.all_steps types.now self.new.tasks.items <
             work.all_steps types.now self.old.tasks.items + work.task_steps types.now task) }
     {

@@ -244,7 +244,8 @@ impl Typed {
 
     /// Whether both stand for one procedure.
     pub fn same_procedure(alloc: Global, a: Typed, b: Typed) -> Result<Typed, AllocError>
-        ensures { IfOk result (λ r. seen_expr r ≡ program.SameProcedure (seen_expr a) (seen_expr b)) }
+        ensures { IfOk result (λ r.
+            seen_expr r ≡ program.SameProcedure (seen_expr a) (seen_expr b)) }
     {
         let a = a.part(alloc)?;
         let b = b.part(alloc)?;

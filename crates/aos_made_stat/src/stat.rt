@@ -374,7 +374,8 @@ impl MadeStat {
 
     /// Out.String.
     pub fn out_text(alloc: Global, at: Pos, text: MadeRows) -> Result<MadeStat, AllocError>
-        ensures { IfOk result (λ s. seen_stat s ≡ program.Out at (program.String (seen_rows text))) }
+        ensures { IfOk result (λ s.
+            seen_stat s ≡ program.Out at (program.String (seen_rows text))) }
     {
         MadeStat::new(alloc, TStat::Out(at, OutCall::String(text.take())))
     }

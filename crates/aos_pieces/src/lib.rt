@@ -14,7 +14,8 @@ ghost use Rattle.aos_pieces.specs.Parts.{HasTablesOf, ArePartsSound};
 /// number, with room for as many operands as its statements need; and so with as many as it says,
 /// where that is what its statements need.
 pub fn law_of_soundness()
-    ensures room { (p : Program) (image : Image) → IsWellTyped p → IsCodeOf p image → AreBodiesSound p image }
+    ensures room { (p : Program) (image : Image) → IsWellTyped p → IsCodeOf p image →
+        AreBodiesSound p image }
     ensures depths { (p : Program) (image : Image) →
         IsWellTyped p → IsCodeOf p image → HasDepthsOf p image → AreSound image }
 {}
@@ -22,19 +23,22 @@ pub fn law_of_soundness()
 /// Each condition of an image that has a well-typed program's code is sound as a condition of the procedure over whose frames it is
 /// evaluated, with room for as many operands as its expression needs.
 pub fn law_of_conditions()
-    ensures { (p : Program) (image : Image) → IsWellTyped p → IsCodeOf p image → AreConditionsSound p image }
+    ensures { (p : Program) (image : Image) → IsWellTyped p → IsCodeOf p image →
+        AreConditionsSound p image }
 {}
 
 /// An image that has a well-typed program's code, and for each body and condition as many operands as it needs, is sound as a whole: its
 /// bodies as the procedures of their numbers, its conditions as those of the procedures over whose frames they are evaluated, each with
 /// room for as many operands as it says; and each procedure that it names has a body.
 pub fn law_of_images()
-    ensures { (p : Program) (image : Image) → IsWellTyped p → IsCodeOf p image → HasDepthsOf p image → IsSoundImageOf p image }
+    ensures { (p : Program) (image : Image) → IsWellTyped p → IsCodeOf p image →
+        HasDepthsOf p image → IsSoundImageOf p image }
 {}
 
 /// Over each image with a well-typed program's modules, types and shapes, and as many conditions, the code of an expression, of a
 /// statement and of statements of a routine is sound but that its paths may leave it at its end: with what the expression gives added to
 /// the operands, and behind statements without any.
 pub fn law_of_parts()
-    ensures { (p : Program) (image : Image) → IsWellTyped p → HasTablesOf p image → ArePartsSound p image }
+    ensures { (p : Program) (image : Image) → IsWellTyped p → HasTablesOf p image →
+        ArePartsSound p image }
 {}

@@ -27,7 +27,9 @@ fn holds(kind: Kind, value: Option<Cell>) -> bool
 
 /// Whether there are so many cells at both places.
 fn has_both(frames: &Frames, store: &Store, count: u32, from: Address, to: Address) -> bool
-    ensures { result ≡ (has_all count from.cell (at_root from.root (rooted_in frames.now store.now)) && has_all count to.cell (at_root to.root (rooted_in frames.now store.now))) }
+    ensures { result ≡
+        (has_all count from.cell (at_root from.root (rooted_in frames.now store.now)) &&
+        has_all count to.cell (at_root to.root (rooted_in frames.now store.now))) }
 {
     has_cells_at(frames, store, from.root, from.cell as usize, count as usize)
         && has_cells_at(frames, store, to.root, to.cell as usize, count as usize)
@@ -49,7 +51,9 @@ fn text_len(cells: &[Cell]) -> Option<usize>
 
 /// How many characters the text at a place has, where there is one.
 fn text_len_at(frames: &Frames, store: &Store, address: Address, number: i64) -> Option<usize>
-    ensures { result ≡ option_map length (text_at [] (addr_in address) (Num number) (rooted_in frames.now store.now)) }
+    ensures { result ≡
+        option_map length (text_at [] (addr_in address) (Num number)
+        (rooted_in frames.now store.now)) }
 {
     match array_at(frames, store, address, number) {
         None => None,
@@ -104,7 +108,8 @@ fn enters(frames: &Frames, store: &Store, shape: &ProcShape, way: Way, count: us
 
 /// Whether a procedure is called with so many operands, which are handed over in this way.
 fn calls(frames: &Frames, store: &Store, shape: Option<&ProcShape>, way: Way, count: usize) -> bool
-    ensures { TellsCall result (option_copied shape.entry) way count frames.now (memory_in store.now) }
+    ensures { TellsCall result (option_copied shape.entry) way count frames.now
+        (memory_in store.now) }
 {
     match shape {
         None => false,
@@ -114,7 +119,8 @@ fn calls(frames: &Frames, store: &Store, shape: Option<&ProcShape>, way: Way, co
 
 /// Whether the answer to a question comes that needs nothing but the activity's own frames, of which the topmost one asks it.
 pub fn is_answered(image: &Image, question: Question, frames: &Frames, store: &Store) -> bool
-    ensures { TellsOwn result image.now.shapes.items image.now.types.items question frames.now (memory_in store.now) }
+    ensures { TellsOwn result image.now.shapes.items image.now.types.items question frames.now
+        (memory_in store.now) }
 {
     match question {
         Question::Reads(kind, address) => holds(

@@ -62,7 +62,8 @@ fn come_in_room(image: &Image, frames: &mut Frames) -> Option<Stop>
 
 /// Whether no trap comes where silent work ends so, if that needs nothing but the activity's own frames.
 fn goes_on(image: &Image, frames: &Frames, store: &Store, stop: Stop) -> bool
-    ensures { TellsStop result image.now.shapes.items image.now.types.items stop frames.now (memory_in store.now) }
+    ensures { TellsStop result image.now.shapes.items image.now.types.items stop frames.now
+        (memory_in store.now) }
 {
     match stop {
         Stop::Work(question, _) => is_answered(image, question, frames, store),

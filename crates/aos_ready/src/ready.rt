@@ -36,7 +36,8 @@ impl Ready {
     pub fn add(&mut self, links: &mut Links, activity: u32, priority: Priority)
         requires belong { Belong links.old self.old }
         requires reserved { activity < room_of links.old }
-        requires elsewhere { (p : Priority) → Contains (ready_in links.old self.old p) activity → ⊥ }
+        requires elsewhere { (p : Priority) → Contains (ready_in links.old self.old p) activity →
+            ⊥ }
         ensures last { ready_in links.new self.new priority ≡
             ready_in links.old self.old priority ++ activity ∷ [] }
         ensures lists { (p : Priority) → p ≢ priority →

@@ -178,7 +178,8 @@ pub fn trap_line(alloc: Global, t: &TrapRec, names: &[&str]) -> Result<Vec<u8>, 
 
 // object N, or module NAME
 fn put_lock(line: &mut Vec<u8>, lock: LockName, names: &[&str]) -> Result<(), NoMemory>
-    ensures { OnOk result (line.new.items ≡ line.old.items ++ lock_text (map (λ n. n.now) names.now) lock) }
+    ensures { OnOk result (line.new.items ≡ line.old.items ++
+        lock_text (map (λ n. n.now) names.now) lock) }
 {
     match lock {
         LockName::Object(number) => {
@@ -198,7 +199,8 @@ pub fn wait_line(alloc: Global, w: &WaitRec, names: &[&str]) -> Result<Vec<u8>, 
     ensures { IfOk result
         (λ line. line.items ≡
         wait_text (map (λ n. n.now) names.now)
-        (record { activity = w.now.activity; lock = w.now.lock; awaits = w.now.awaits; at = record { module_ = w.now.module; pos = w.now.pos } })) }
+        (record { activity = w.now.activity; lock = w.now.lock; awaits = w.now.awaits; at = record
+        { module_ = w.now.module; pos = w.now.pos } })) }
 {
     let mut line = Vec::new(alloc);
     put(&mut line, "waiting ")?;

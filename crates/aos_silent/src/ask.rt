@@ -18,7 +18,8 @@ use aos_code::{Cell, Kind, ParamKind, ProcShape};
 
 /// What a cell holds.
 pub fn ask_read(kind: Kind, stack: &[Cell]) -> Act
-    ensures act { act_in result (reverse stack.now) ≡ on_place (λ p t s. Sees (Reads kind p) s) (reverse stack.now) }
+    ensures act { act_in result (reverse stack.now) ≡
+        on_place (λ p t s. Sees (Reads kind p) s) (reverse stack.now) }
     ensures stays { IsStay result }
 {
     match address(stack, 0) {
@@ -44,7 +45,8 @@ pub fn ask_store(kind: Kind, stack: &[Cell]) -> Act
 /// Cells are copied from the topmost place to the one below.
 pub fn ask_copy(count: u32, stack: &[Cell]) -> Act
     ensures act { act_in result (reverse stack.now) ≡
-        on_place (λ from t s1. on_place (λ to u s2. Sees (Copies count from to) s2) s1) (reverse stack.now) }
+        on_place (λ from t s1. on_place (λ to u s2. Sees (Copies count from to) s2) s1)
+        (reverse stack.now) }
     ensures stays { IsStay result }
 {
     match address(stack, 0) {
@@ -58,7 +60,8 @@ pub fn ask_copy(count: u32, stack: &[Cell]) -> Act
 
 /// An activity is started.
 pub fn ask_start(stack: &[Cell]) -> Act
-    ensures act { act_in result (reverse stack.now) ≡ on_kind Kind.R (λ o s. Sees (Starts o) s) (reverse stack.now) }
+    ensures act { act_in result (reverse stack.now) ≡
+        on_kind Kind.R (λ o s. Sees (Starts o) s) (reverse stack.now) }
     ensures stays { IsStay result }
 {
     match object(stack, 0) {
@@ -69,7 +72,8 @@ pub fn ask_start(stack: &[Cell]) -> Act
 
 /// An open array is made, whose lengths are so many operands.
 pub fn ask_array(of_type: u32, lengths: u32, stack: &[Cell]) -> Act
-    ensures act { act_in result (reverse stack.now) ≡ counted_on lengths [] (λ zs s. Sees (Makes of_type (map Num zs)) s) (reverse stack.now) }
+    ensures act { act_in result (reverse stack.now) ≡
+        counted_on lengths [] (λ zs s. Sees (Makes of_type (map Num zs)) s) (reverse stack.now) }
     ensures stays { IsStay result }
 {
     if are_numbers(stack, lengths) {
@@ -81,7 +85,8 @@ pub fn ask_array(of_type: u32, lengths: u32, stack: &[Cell]) -> Act
 
 /// A character is written.
 pub fn ask_char(stack: &[Cell]) -> Act
-    ensures act { act_in result (reverse stack.now) ≡ on_kind Kind.N (λ c s. Sees (PutsChar c) s) (reverse stack.now) }
+    ensures act { act_in result (reverse stack.now) ≡
+        on_kind Kind.N (λ c s. Sees (PutsChar c) s) (reverse stack.now) }
     ensures stays { IsStay result }
 {
     match number(stack, 0) {
@@ -93,7 +98,8 @@ pub fn ask_char(stack: &[Cell]) -> Act
 /// A number is written.
 pub fn ask_int(stack: &[Cell]) -> Act
     ensures act { act_in result (reverse stack.now) ≡
-        on_kind Kind.N (λ n s1. on_kind Kind.N (λ v s2. Sees (PutsInt v n) s2) s1) (reverse stack.now) }
+        on_kind Kind.N (λ n s1. on_kind Kind.N (λ v s2. Sees (PutsInt v n) s2) s1)
+        (reverse stack.now) }
     ensures stays { IsStay result }
 {
     match number(stack, 0) {
@@ -107,7 +113,8 @@ pub fn ask_int(stack: &[Cell]) -> Act
 
 /// A text is written.
 pub fn ask_string(stack: &[Cell]) -> Act
-    ensures act { act_in result (reverse stack.now) ≡ on_text (λ a n s. Sees (PutsString a n) s) (reverse stack.now) }
+    ensures act { act_in result (reverse stack.now) ≡
+        on_text (λ a n s. Sees (PutsString a n) s) (reverse stack.now) }
     ensures stays { IsStay result }
 {
     match number(stack, 0) {
@@ -121,7 +128,8 @@ pub fn ask_string(stack: &[Cell]) -> Act
 
 /// The end of a frame whose procedure is a function of this kind, or none.
 pub fn ask_end(result_kind: Option<Kind>, stack: &[Cell]) -> Act
-    ensures act { (f : ProcShape) → f.result ≡ result_kind → act_in result (reverse stack.now) ≡ ends (Option.Some f) (reverse stack.now) }
+    ensures act { (f : ProcShape) → f.result ≡ result_kind →
+        act_in result (reverse stack.now) ≡ ends (Option.Some f) (reverse stack.now) }
     ensures stays { IsStay result }
 {
     match result_kind {
@@ -135,7 +143,8 @@ pub fn ask_end(result_kind: Option<Kind>, stack: &[Cell]) -> Act
 
 /// The end of a condition, with the number on top.
 pub fn decide(stack: &[Cell]) -> Act
-    ensures act { act_in result (reverse stack.now) ≡ on_number (λ a s. Stops (Decides a)) (reverse stack.now) }
+    ensures act { act_in result (reverse stack.now) ≡
+        on_number (λ a s. Stops (Decides a)) (reverse stack.now) }
     ensures stays { IsStay result }
 {
     match number(stack, 0) {
@@ -147,7 +156,8 @@ pub fn decide(stack: &[Cell]) -> Act
 /// A text is stored in an array of characters.
 pub fn ask_put_text(strict: bool, stack: &[Cell]) -> Act
     ensures act { act_in result (reverse stack.now) ≡
-        on_text (λ to room s1. on_text (λ from n s2. Sees (PutsText strict from n to room) s2) s1) (reverse stack.now) }
+        on_text (λ to room s1. on_text (λ from n s2. Sees (PutsText strict from n to room) s2) s1)
+        (reverse stack.now) }
     ensures stays { IsStay result }
 {
     match number(stack, 0) {
@@ -168,7 +178,8 @@ pub fn ask_put_text(strict: bool, stack: &[Cell]) -> Act
 /// Two texts are compared.
 pub fn ask_compare(relation: Relation, stack: &[Cell]) -> Act
     ensures act { act_in result (reverse stack.now) ≡
-        on_text (λ b m s1. on_text (λ a n s2. Sees (ComparesTexts relation a n b m) s2) s1) (reverse stack.now) }
+        on_text (λ b m s1. on_text (λ a n s2. Sees (ComparesTexts relation a n b m) s2) s1)
+        (reverse stack.now) }
     ensures stays { IsStay result }
 {
     match number(stack, 0) {
@@ -190,7 +201,8 @@ pub fn ask_compare(relation: Relation, stack: &[Cell]) -> Act
 
 /// Behind an operand of this kind that lies so deep.
 fn past_kind(stack: &[Cell], depth: usize, kind: Kind) -> Option<usize>
-    ensures { (kinds : List KindOf) (k : List CellOf → Stack → ActOf) → kinds_from (kind ∷ kinds) depth k (reverse stack.now) ≡
+    ensures { (kinds : List KindOf) (k : List CellOf → Stack → ActOf) →
+        kinds_from (kind ∷ kinds) depth k (reverse stack.now) ≡
         or_lost result (λ d. kinds_from kinds d k (reverse stack.now)) }
 {
     match operand(stack, depth) {
@@ -207,7 +219,8 @@ fn past_kind(stack: &[Cell], depth: usize, kind: Kind) -> Option<usize>
 
 /// Behind so many operands of this kind from one on that lies so deep.
 fn past_kinds(stack: &[Cell], depth: usize, kind: Kind, count: u32) -> Option<usize>
-    ensures { (kinds : List KindOf) (k : List CellOf → Stack → ActOf) → kinds_from (replicate count kind ++ kinds) depth k (reverse stack.now) ≡
+    ensures { (kinds : List KindOf) (k : List CellOf → Stack → ActOf) →
+        kinds_from (replicate count kind ++ kinds) depth k (reverse stack.now) ≡
         or_lost result (λ d. kinds_from kinds d k (reverse stack.now)) }
 {
     let mut past = depth;
@@ -219,7 +232,8 @@ fn past_kinds(stack: &[Cell], depth: usize, kind: Kind, count: u32) -> Option<us
 
 /// Behind what is handed over for a parameter, of which the topmost operand lies so deep.
 fn past_param(stack: &[Cell], depth: usize, param: ParamKind) -> Option<usize>
-    ensures { (kinds : List KindOf) (k : List CellOf → Stack → ActOf) → kinds_from (reverse (kinds_of (param ∷ [])) ++ kinds) depth k (reverse stack.now) ≡
+    ensures { (kinds : List KindOf) (k : List CellOf → Stack → ActOf) →
+        kinds_from (reverse (kinds_of (param ∷ [])) ++ kinds) depth k (reverse stack.now) ≡
         or_lost result (λ d. kinds_from kinds d k (reverse stack.now)) }
 {
     match param {
@@ -235,8 +249,10 @@ fn past_param(stack: &[Cell], depth: usize, param: ParamKind) -> Option<usize>
 
 /// How many operands are handed over for these parameters, where they are of their kinds.
 pub fn arguments(stack: &[Cell], params: &[ParamKind]) -> Option<usize>
-    ensures { (k : List CellOf → Stack → ActOf) → on_kinds (reverse (kinds_of params.now)) [] k (reverse stack.now) ≡
-        or_lost result (λ d. k (reverse (take d (reverse stack.now))) (drop d (reverse stack.now))) }
+    ensures { (k : List CellOf → Stack → ActOf) →
+        on_kinds (reverse (kinds_of params.now)) [] k (reverse stack.now) ≡
+        or_lost result (λ d. k (reverse (take d (reverse stack.now)))
+        (drop d (reverse stack.now))) }
 {
     let mut depth = 0;
     let mut left = params.len();
@@ -250,7 +266,9 @@ pub fn arguments(stack: &[Cell], params: &[ParamKind]) -> Option<usize>
 /// A procedure is called, whose arguments are so many operands, and where it is a method the object on which it is called lies below
 /// them; trap 1 at NIL.
 fn ask_called(method: bool, procedure: u32, count: usize, stack: &[Cell]) -> Act
-    ensures act { act_in result (reverse stack.now) ≡ called method procedure (reverse (take count (reverse stack.now))) (drop count (reverse stack.now)) }
+    ensures act { act_in result (reverse stack.now) ≡
+        called method procedure (reverse (take count (reverse stack.now)))
+        (drop count (reverse stack.now)) }
     ensures stays { IsStay result }
 {
     if !method {
@@ -265,7 +283,8 @@ fn ask_called(method: bool, procedure: u32, count: usize, stack: &[Cell]) -> Act
 
 /// A procedure of these is called.
 pub fn ask_call(shapes: &[ProcShape], procedure: u32, stack: &[Cell]) -> Act
-    ensures act { act_in result (reverse stack.now) ≡ calls (numbered_of shapes.now procedure) procedure (reverse stack.now) }
+    ensures act { act_in result (reverse stack.now) ≡
+        calls (numbered_of shapes.now procedure) procedure (reverse stack.now) }
     ensures stays { IsStay result }
 {
     match numbered(shapes, procedure) {

@@ -36,7 +36,9 @@ fn are_one(one: Callable, other: Callable) -> bool
 pub fn compare_callables(stack: &mut Vec<Cell>) -> Act
     ensures kept { WhereStays result (stack.new ≡ stack.old) }
     ensures room { vec_capacity stack.new ≡ vec_capacity stack.old }
-    ensures act { act_in result (operands_in stack.new) ≡ on_callables (λ p o q i s. gives (Num (flag (are_one_of p o q i))) s) (operands_in stack.old) }
+    ensures act { act_in result (operands_in stack.new) ≡
+        on_callables (λ p o q i s. gives (Num (flag (are_one_of p o q i))) s)
+        (operands_in stack.old) }
 {
     match callable(stack, 0) {
         None => LOST,
@@ -64,7 +66,8 @@ fn way_with(method: bool, has_object: bool) -> Option<Way>
 /// How a procedure of this shape is called through a value with this object, 0 for none, as one of the named shape: a method on the
 /// object, another procedure on none, and each only where it takes and gives the same.
 fn way_of(shape: &ProcShape, named: &ProcShape, object: u32) -> Option<Way>
-    ensures { result ≡ way_for (same_formals_of shape.now named.now) shape.now.method (nat_lt 0 object) }
+    ensures { result ≡ way_for (same_formals_of shape.now named.now) shape.now.method
+        (nat_lt 0 object) }
 {
     if !same_formals(shape, named) {
         return None;
@@ -76,7 +79,8 @@ fn way_of(shape: &ProcShape, named: &ProcShape, object: u32) -> Option<Way>
 /// trap 1 at NIL.
 fn ask_applied(stack: &[Cell], shapes: &[ProcShape], named: &ProcShape, count: usize) -> Act
     ensures act { act_in result (reverse stack.now) ≡
-        on_callable (λ p o s. applies shapes.now named.now p o (reverse (take count (reverse stack.now))) s) (drop count (reverse stack.now)) }
+        on_callable (λ p o s. applies shapes.now named.now p o
+        (reverse (take count (reverse stack.now))) s) (drop count (reverse stack.now)) }
     ensures stays { IsStay result }
 {
     match callable(stack, count) {
@@ -100,7 +104,8 @@ fn ask_applied(stack: &[Cell], shapes: &[ProcShape], named: &ProcShape, count: u
 /// What a procedure value stands for is called, which takes and gives the same as this procedure. Its arguments and the value below
 /// them stay where they are.
 pub fn ask_value(shapes: &[ProcShape], procedure: u32, stack: &[Cell]) -> Act
-    ensures act { act_in result (reverse stack.now) ≡ calls_value shapes.now (numbered_of shapes.now procedure) (reverse stack.now) }
+    ensures act { act_in result (reverse stack.now) ≡
+        calls_value shapes.now (numbered_of shapes.now procedure) (reverse stack.now) }
     ensures stays { IsStay result }
 {
     match numbered(shapes, procedure) {

@@ -39,7 +39,10 @@ fn do_operands(instr: Instr, stack: &mut Vec<Cell>) -> Act
     requires { group_of instr ≡ Group.Operands }
     ensures kept { WhereStays result (stack.new ≡ stack.old) }
     ensures room { vec_capacity stack.new ≡ vec_capacity stack.old }
-    ensures act { (shapes : List ShapeOf) (types : List TypeOf) (own : ℕ) (here : Here) (at : ℕ) (code : List InstrOf) → act_in result (operands_in stack.new) ≡ act shapes types own here instr code at (operands_in stack.old) }
+    ensures act { (shapes : List ShapeOf) (types : List TypeOf) (own : ℕ) (here : Here) (at : ℕ)
+        (code : List InstrOf) →
+        act_in result (operands_in stack.new) ≡
+        act shapes types own here instr code at (operands_in stack.old) }
     ensures begins { (code : List InstrOf) → IsBeginOf code result }
 {
     match instr {
@@ -62,7 +65,9 @@ fn do_tests(instr: Instr, types: &[TypeDesc], stack: &mut Vec<Cell>) -> Act
     requires { group_of instr ≡ Group.Tested }
     ensures kept { WhereStays result (stack.new ≡ stack.old) }
     ensures room { vec_capacity stack.new ≡ vec_capacity stack.old }
-    ensures act { (shapes : List ShapeOf) (own : ℕ) (here : Here) (at : ℕ) (code : List InstrOf) → act_in result (operands_in stack.new) ≡ act shapes types.now own here instr code at (operands_in stack.old) }
+    ensures act { (shapes : List ShapeOf) (own : ℕ) (here : Here) (at : ℕ) (code : List InstrOf) →
+        act_in result (operands_in stack.new) ≡
+        act shapes types.now own here instr code at (operands_in stack.old) }
     ensures begins { (code : List InstrOf) → IsBeginOf code result }
 {
     match instr {
@@ -82,7 +87,9 @@ fn do_told(
 ) -> Result<Act, NoMemory>
     requires { group_of instr ≡ Group.Told }
     ensures ok { IfOk result (λ did. (own : ℕ) (here : Here) (at : ℕ) (code : List InstrOf) →
-        IsStepOf shapes.now types.now (known heap.now) (act shapes.now types.now own here instr code at (frame_in frame.old).stack) did (frame_in frame.old) (frame_in frame.new)) }
+        IsStepOf shapes.now types.now (known heap.now)
+        (act shapes.now types.now own here instr code at (frame_in frame.old).stack) did
+        (frame_in frame.old) (frame_in frame.new)) }
     ensures stays { IfOk result (λ did. WhereStays did (frame_in frame.new ≡ frame_in frame.old)) }
     ensures begins { (code : List InstrOf) → IfOk result (λ did. IsBeginOf code did) }
     ensures err { OnErr result (frame_in frame.new ≡ frame_in frame.old) }
@@ -115,7 +122,9 @@ fn do_jumps(instr: Instr, code: &[Instr], at: usize, stack: &mut Vec<Cell>) -> A
     requires group { group_of instr ≡ Group.Jumps }
     ensures kept { WhereStays result (stack.new ≡ stack.old) }
     ensures room { vec_capacity stack.new ≡ vec_capacity stack.old }
-    ensures act { (shapes : List ShapeOf) (types : List TypeOf) (own : ℕ) (here : Here) → act_in result (operands_in stack.new) ≡ act shapes types own here instr code.now at (operands_in stack.old) }
+    ensures act { (shapes : List ShapeOf) (types : List TypeOf) (own : ℕ) (here : Here) →
+        act_in result (operands_in stack.new) ≡
+        act shapes types own here instr code.now at (operands_in stack.old) }
     ensures begins { IsBeginOf code.now result }
 {
     match instr {
@@ -132,7 +141,9 @@ fn do_jumps(instr: Instr, code: &[Instr], at: usize, stack: &mut Vec<Cell>) -> A
 /// An instruction that asks for memory, for a procedure, or for the kernel's work.
 fn ask(instr: Instr, shapes: &[ProcShape], own: u32, stack: &[Cell]) -> Act
     requires { group_of instr ≡ Group.Asked }
-    ensures act { (types : List TypeOf) (here : Here) (at : ℕ) (code : List InstrOf) → act_in result (reverse stack.now) ≡ act shapes.now types own here instr code at (reverse stack.now) }
+    ensures act { (types : List TypeOf) (here : Here) (at : ℕ) (code : List InstrOf) →
+        act_in result (reverse stack.now) ≡
+        act shapes.now types own here instr code at (reverse stack.now) }
     ensures stays { IsStay result }
 {
     match instr {
@@ -159,7 +170,10 @@ fn ask(instr: Instr, shapes: &[ProcShape], own: u32, stack: &[Cell]) -> Act
 /// An instruction that works on a text, or asks for output.
 fn ask_written(instr: Instr, stack: &[Cell]) -> Act
     requires { group_of instr ≡ Group.Written }
-    ensures act { (shapes : List ShapeOf) (types : List TypeOf) (own : ℕ) (here : Here) (at : ℕ) (code : List InstrOf) → act_in result (reverse stack.now) ≡ act shapes types own here instr code at (reverse stack.now) }
+    ensures act { (shapes : List ShapeOf) (types : List TypeOf) (own : ℕ) (here : Here) (at : ℕ)
+        (code : List InstrOf) →
+        act_in result (reverse stack.now) ≡
+        act shapes types own here instr code at (reverse stack.now) }
     ensures stays { IsStay result }
 {
     match instr {
@@ -177,8 +191,11 @@ fn ask_written(instr: Instr, stack: &[Cell]) -> Act
 /// An instruction that gives an operand more or keeps one, on a frame above so many others that keeps values under so many numbers.
 fn do_on_frame(instr: Instr, keeps: u32, here: u32, frame: &mut Frame) -> Result<Act, NoMemory>
     requires { group_of instr ≡ Group.OnFrame }
-    ensures ok { IfOk result (λ did. (shapes : List ShapeOf) (types : List TypeOf) (own at : ℕ) (code : List InstrOf) → keeps ≡ keeps_in (numbered_of shapes own) →
-        IsStep (act shapes types own (here_at here (frame_in frame.old)) instr code at (frame_in frame.old).stack) did (frame_in frame.old) (frame_in frame.new)) }
+    ensures ok { IfOk result (λ did.
+        (shapes : List ShapeOf) (types : List TypeOf) (own at : ℕ) (code : List InstrOf) →
+        keeps ≡ keeps_in (numbered_of shapes own) →
+        IsStep (act shapes types own (here_at here (frame_in frame.old)) instr code at
+        (frame_in frame.old).stack) did (frame_in frame.old) (frame_in frame.new)) }
     ensures stays { IfOk result (λ did. WhereStays did (frame_in frame.new ≡ frame_in frame.old)) }
     ensures begins { (code : List InstrOf) → IfOk result (λ did. IsBeginOf code did) }
     ensures err { OnErr result (frame_in frame.new ≡ frame_in frame.old) }
@@ -222,7 +239,10 @@ pub fn do_one(
     requires within { at < length code.now }
     requires keeps { keeps ≡ keeps_in (numbered_of image.now.shapes.items frame.old.procedure) }
     ensures ok { IfOk result (λ did.
-        IsStepOf image.now.shapes.items image.now.types.items (known heap.now) (act image.now.shapes.items image.now.types.items frame.old.procedure (here_at here (frame_in frame.old)) instr code.now at (frame_in frame.old).stack) did (frame_in frame.old) (frame_in frame.new)) }
+        IsStepOf image.now.shapes.items image.now.types.items (known heap.now)
+        (act image.now.shapes.items image.now.types.items frame.old.procedure
+        (here_at here (frame_in frame.old)) instr code.now at (frame_in frame.old).stack) did
+        (frame_in frame.old) (frame_in frame.new)) }
     ensures stays { IfOk result (λ did. WhereStays did (frame_in frame.new ≡ frame_in frame.old)) }
     ensures begins { IfOk result (λ did. IsBeginOf code.now did) }
     ensures err { OnErr result (frame_in frame.new ≡ frame_in frame.old) }

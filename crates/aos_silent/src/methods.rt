@@ -70,7 +70,9 @@ fn tell_receiver(
     count: usize,
 ) -> Act
     ensures told { (p : ℕ) → numbered_of shapes.now p ≡ Some named.now →
-        IsTold shapes.now types.now (known heap.now) (on_receiver (λ o s. Looks (AtSlot slot p (reverse (take count (reverse stack.now)))) o s) (drop count (reverse stack.now))) result (reverse stack.now) }
+        IsTold shapes.now types.now (known heap.now)
+        (on_receiver (λ o s. Looks (AtSlot slot p (reverse (take count (reverse stack.now)))) o s)
+        (drop count (reverse stack.now))) result (reverse stack.now) }
     ensures stays { IsStay result }
 {
     match object(stack, count) {
@@ -96,7 +98,9 @@ pub fn tell_method(
     slot: u32,
     procedure: u32,
 ) -> Act
-    ensures told { IsTold shapes.now types.now (known heap.now) (sends (numbered_of shapes.now procedure) slot procedure (reverse stack.now)) result (reverse stack.now) }
+    ensures told { IsTold shapes.now types.now (known heap.now)
+        (sends (numbered_of shapes.now procedure) slot procedure (reverse stack.now)) result
+        (reverse stack.now) }
     ensures stays { IsStay result }
     ensures begins { (code : List InstrOf) → IsBeginOf code result }
 {
@@ -113,7 +117,9 @@ pub fn tell_method(
 pub fn tell_bound(stack: &mut Vec<Cell>, types: &[TypeDesc], heap: &Heap, slot: u32) -> Act
     ensures kept { WhereStays result (stack.new ≡ stack.old) }
     ensures room { vec_capacity stack.new ≡ vec_capacity stack.old }
-    ensures told { (shapes : List ShapeOf) → IsTold shapes types.now (known heap.now) (looks (AsMethod slot) (λ s. Stops (FailsOf 1 0)) (operands_in stack.old)) result (operands_in stack.new) }
+    ensures told { (shapes : List ShapeOf) →
+        IsTold shapes types.now (known heap.now) (looks (AsMethod slot) (λ s. Stops (FailsOf 1 0))
+        (operands_in stack.old)) result (operands_in stack.new) }
     ensures begins { (code : List InstrOf) → IsBeginOf code result }
 {
     match object(stack, 0) {

@@ -39,7 +39,8 @@ fn extends(types: &[TypeDesc], of_type: u32, other: u32) -> bool
 pub fn compare_objects(stack: &mut Vec<Cell>) -> Act
     ensures kept { WhereStays result (stack.new ≡ stack.old) }
     ensures room { vec_capacity stack.new ≡ vec_capacity stack.old }
-    ensures act { act_in result (operands_in stack.new) ≡ on_objects (λ a b s. gives (Num (flag (nat_eq a b))) s) (operands_in stack.old) }
+    ensures act { act_in result (operands_in stack.new) ≡
+        on_objects (λ a b s. gives (Num (flag (nat_eq a b))) s) (operands_in stack.old) }
 {
     match object(stack, 0) {
         None => LOST,
@@ -57,7 +58,9 @@ pub fn compare_objects(stack: &mut Vec<Cell>) -> Act
 pub fn test_place(stack: &mut Vec<Cell>, types: &[TypeDesc], other: u32) -> Act
     ensures kept { WhereStays result (stack.new ≡ stack.old) }
     ensures room { vec_capacity stack.new ≡ vec_capacity stack.old }
-    ensures act { act_in result (operands_in stack.new) ≡ on_place (λ a d s. gives (Num (flag (extends_of types.now d other))) s) (operands_in stack.old) }
+    ensures act { act_in result (operands_in stack.new) ≡
+        on_place (λ a d s. gives (Num (flag (extends_of types.now d other))) s)
+        (operands_in stack.old) }
 {
     match operand(stack, 0) {
         Some(Cell::Place(_, _, of_type)) => {
@@ -72,7 +75,8 @@ pub fn test_place(stack: &mut Vec<Cell>, types: &[TypeDesc], other: u32) -> Act
 /// The topmost place, where the type of the record there extends another one; trap 3 where it doesn't.
 pub fn guard_place(stack: &[Cell], types: &[TypeDesc], other: u32) -> Act
     ensures act { act_in result (reverse stack.now) ≡
-        on_place (λ a d s. if extends_of types.now d other then gives (Place a.root a.cell d) s else Stops (FailsOf 3 0)) (reverse stack.now) }
+        on_place (λ a d s. if extends_of types.now d other then gives
+        (Place a.root a.cell d) s else Stops (FailsOf 3 0)) (reverse stack.now) }
     ensures begins { (code : List InstrOf) → IsBeginOf code result }
 {
     match operand(stack, 0) {
@@ -91,7 +95,9 @@ pub fn guard_place(stack: &[Cell], types: &[TypeDesc], other: u32) -> Act
 pub fn tell_cell(stack: &mut Vec<Cell>, heap: &Heap, cell: u32) -> Act
     ensures kept { WhereStays result (stack.new ≡ stack.old) }
     ensures room { vec_capacity stack.new ≡ vec_capacity stack.old }
-    ensures told { (shapes : List ShapeOf) (types : List TypeDesc) → IsTold shapes types (known heap.now) (looks (AtCell cell) (λ s. Stops (FailsOf 1 0)) (operands_in stack.old)) result (operands_in stack.new) }
+    ensures told { (shapes : List ShapeOf) (types : List TypeDesc) →
+        IsTold shapes types (known heap.now) (looks (AtCell cell) (λ s. Stops (FailsOf 1 0))
+        (operands_in stack.old)) result (operands_in stack.new) }
     ensures begins { (code : List InstrOf) → IsBeginOf code result }
 {
     match object(stack, 0) {
@@ -115,7 +121,9 @@ pub fn tell_cell(stack: &mut Vec<Cell>, heap: &Heap, cell: u32) -> Act
 pub fn tell_is(stack: &mut Vec<Cell>, types: &[TypeDesc], heap: &Heap, other: u32) -> Act
     ensures kept { WhereStays result (stack.new ≡ stack.old) }
     ensures room { vec_capacity stack.new ≡ vec_capacity stack.old }
-    ensures told { (shapes : List ShapeOf) → IsTold shapes types.now (known heap.now) (looks (IsType other) (λ s. gives (Num (pos 0)) s) (operands_in stack.old)) result (operands_in stack.new) }
+    ensures told { (shapes : List ShapeOf) →
+        IsTold shapes types.now (known heap.now) (looks (IsType other) (λ s. gives (Num (pos 0)) s)
+        (operands_in stack.old)) result (operands_in stack.new) }
     ensures begins { (code : List InstrOf) → IsBeginOf code result }
 {
     match object(stack, 0) {
@@ -137,7 +145,9 @@ pub fn tell_is(stack: &mut Vec<Cell>, types: &[TypeDesc], heap: &Heap, other: u3
 
 /// An object, where its type extends another one; trap 3 where it doesn't, and at NIL.
 pub fn tell_as(stack: &[Cell], types: &[TypeDesc], heap: &Heap, other: u32) -> Act
-    ensures told { (shapes : List ShapeOf) → IsTold shapes types.now (known heap.now) (looks (AsType other) (λ s. Stops (FailsOf 3 0)) (reverse stack.now)) result (reverse stack.now) }
+    ensures told { (shapes : List ShapeOf) →
+        IsTold shapes types.now (known heap.now) (looks (AsType other) (λ s. Stops (FailsOf 3 0))
+        (reverse stack.now)) result (reverse stack.now) }
     ensures begins { (code : List InstrOf) → IsBeginOf code result }
 {
     match object(stack, 0) {
@@ -159,7 +169,8 @@ pub fn tell_as(stack: &[Cell], types: &[TypeDesc], heap: &Heap, other: u32) -> A
 /// A place, and lengths above it, in place of the topmost operand.
 fn put_lengths(stack: &mut Vec<Cell>, place: Cell, lengths: &[u32])
     requires room { vec_len stack.old - 1 + 1 + length lengths.now ≤ vec_capacity stack.old }
-    ensures operands { operands_in stack.new ≡ length_cells lengths.now ++ place ∷ drop 1 (operands_in stack.old) }
+    ensures operands { operands_in stack.new ≡ length_cells lengths.now ++ place ∷
+        drop 1 (operands_in stack.old) }
     ensures room { vec_capacity stack.new ≡ vec_capacity stack.old }
 {
     replace(stack, 1, place);
@@ -170,7 +181,10 @@ fn put_lengths(stack: &mut Vec<Cell>, place: Cell, lengths: &[u32])
 
 /// The place of an open array that is an object, and its lengths, so many; trap 1 at NIL.
 pub fn tell_array(frame: &mut Frame, heap: &Heap, count: u32) -> Result<Act, NoMemory>
-    ensures ok { (shapes : List ShapeOf) (types : List TypeDesc) → IfOk result (λ did. IsStepOf shapes types (known heap.now) (looks (AtElements count) (λ s. Stops (FailsOf 1 0)) (frame_in frame.old).stack) did (frame_in frame.old) (frame_in frame.new)) }
+    ensures ok { (shapes : List ShapeOf) (types : List TypeDesc) →
+        IfOk result (λ did.
+        IsStepOf shapes types (known heap.now) (looks (AtElements count) (λ s. Stops (FailsOf 1 0))
+        (frame_in frame.old).stack) did (frame_in frame.old) (frame_in frame.new)) }
     ensures stays { IfOk result (λ did. WhereStays did (frame_in frame.new ≡ frame_in frame.old)) }
     ensures begins { (code : List InstrOf) → IfOk result (λ did. IsBeginOf code did) }
     ensures err { OnErr result (frame_in frame.new ≡ frame_in frame.old) }

@@ -15,8 +15,10 @@ use aos_code::Cell;
 /// Whether so many topmost operands are numbers.
 pub fn are_numbers(stack: &[Cell], count: u32) -> bool
     ensures are { (k : List ℤ → Stack → ActOf) → counted_on count [] k (reverse stack.now) ≡
-        (if result then k (reverse (numbers_of (take count (reverse stack.now)))) (drop count (reverse stack.now)) else Stops lost) }
-    ensures numbers { IsTrue result → map Num (numbers_of (take count (reverse stack.now))) ≡ take count (reverse stack.now) }
+        (if result then k (reverse (numbers_of (take count (reverse stack.now))))
+        (drop count (reverse stack.now)) else Stops lost) }
+    ensures numbers { IsTrue result →
+        map Num (numbers_of (take count (reverse stack.now))) ≡ take count (reverse stack.now) }
 {
     for depth in 0..count {
         match number(stack, depth as usize) {
@@ -30,7 +32,8 @@ pub fn are_numbers(stack: &[Cell], count: u32) -> bool
 /// The number that is one of so many topmost operands, above a place, counted from the lowest.
 fn picked(stack: &[Cell], dimension: u32, lengths: u32) -> Option<i64>
     ensures deep { IfSome result (λ _. lengths < length stack.now) }
-    ensures is { picks dimension lengths (reverse stack.now) ≡ or_lost result (λ z. gives (Num z) (drop (lengths + 1) (reverse stack.now))) }
+    ensures is { picks dimension lengths (reverse stack.now) ≡
+        or_lost result (λ z. gives (Num z) (drop (lengths + 1) (reverse stack.now))) }
 {
     if !are_numbers(stack, lengths) {
         return None;
@@ -46,7 +49,8 @@ fn picked(stack: &[Cell], dimension: u32, lengths: u32) -> Option<i64>
 pub fn pick_length(stack: &mut Vec<Cell>, dimension: u32, lengths: u32) -> Act
     ensures kept { WhereStays result (stack.new ≡ stack.old) }
     ensures room { vec_capacity stack.new ≡ vec_capacity stack.old }
-    ensures act { act_in result (operands_in stack.new) ≡ picks dimension lengths (operands_in stack.old) }
+    ensures act { act_in result (operands_in stack.new) ≡
+        picks dimension lengths (operands_in stack.old) }
     ensures begins { (code : List InstrOf) → IsBeginOf code result }
 {
     match picked(stack, dimension, lengths) {
@@ -67,10 +71,15 @@ fn length_at(stack: &[Cell], depth: usize) -> Option<u64>
 
 /// How many cells an element has that is an array of these lengths, which lie below the topmost operand; 2^64 - 1 where there are more.
 fn row_cells(stack: &[Cell], rows: u32, cells: u32) -> Option<u64>
-    ensures rows { (k : List ℕ → Stack → ActOf) → lengths_on rows [] k (drop 1 (reverse stack.now)) ≡
-        or_lost result (λ _. k (rows_of (take rows (drop 1 (reverse stack.now)))) (drop (1 + rows) (reverse stack.now))) }
-    ensures cells { IfSome result (λ n. n ≡ min (cells_of (rows_of (take rows (drop 1 (reverse stack.now)))) cells) (2 ^ 64 - 1)) }
-    ensures lengths { IfSome result (λ _. length_cells (rows_of (take rows (drop 1 (reverse stack.now)))) ≡ take rows (drop 1 (reverse stack.now))) }
+    ensures rows { (k : List ℕ → Stack → ActOf) →
+        lengths_on rows [] k (drop 1 (reverse stack.now)) ≡
+        or_lost result (λ _. k (rows_of (take rows (drop 1 (reverse stack.now))))
+        (drop (1 + rows) (reverse stack.now))) }
+    ensures cells { IfSome result (λ n.
+        n ≡ min (cells_of (rows_of (take rows (drop 1 (reverse stack.now)))) cells) (2 ^ 64 - 1)) }
+    ensures lengths { IfSome result (λ _.
+        length_cells (rows_of (take rows (drop 1 (reverse stack.now)))) ≡
+        take rows (drop 1 (reverse stack.now))) }
 {
     let mut size = cells as u64;
     for row in 0..rows {
@@ -93,7 +102,8 @@ fn element_on(stack: &[Cell], lengths: u32, cells: u32) -> Option<Element>
     ensures deep { IfSome result (λ _. (lengths + 2 ≤ length stack.now) × (1 ≤ lengths)) }
     ensures some { IfSome result (λ e. (n : ℕ) × (e.cells ≡ min n (2 ^ 64 - 1)) ×
         (indexes_open lengths cells (reverse stack.now) ≡
-        element (addr_in e.at) e.number n (take (lengths - 1) (drop 1 (reverse stack.now))) (drop (lengths + 2) (reverse stack.now)))) }
+        element (addr_in e.at) e.number n (take (lengths - 1) (drop 1 (reverse stack.now)))
+        (drop (lengths + 2) (reverse stack.now)))) }
 {
     let index = number(stack, 0)?;
     let rows = lengths.checked_sub(1)?;
@@ -111,7 +121,9 @@ fn element_on(stack: &[Cell], lengths: u32, cells: u32) -> Option<Element>
 fn put_row(stack: &mut Vec<Cell>, lengths: u32, place: Cell)
     requires deep { lengths + 2 ≤ vec_len stack.old }
     requires some { 1 ≤ lengths }
-    ensures operands { operands_in stack.new ≡ take (lengths - 1) (drop 1 (operands_in stack.old)) ++ place ∷ drop (lengths + 2) (operands_in stack.old) }
+    ensures operands { operands_in stack.new ≡
+        take (lengths - 1) (drop 1 (operands_in stack.old)) ++ place ∷
+        drop (lengths + 2) (operands_in stack.old) }
     ensures room { vec_capacity stack.new ≡ vec_capacity stack.old }
 {
     let at = stack.len() - (lengths as usize + 2);
@@ -124,7 +136,8 @@ fn put_row(stack: &mut Vec<Cell>, lengths: u32, place: Cell)
 pub fn index_open(stack: &mut Vec<Cell>, lengths: u32, cells: u32) -> Act
     ensures kept { WhereStays result (stack.new ≡ stack.old) }
     ensures room { vec_capacity stack.new ≡ vec_capacity stack.old }
-    ensures act { act_in result (operands_in stack.new) ≡ indexes_open lengths cells (operands_in stack.old) }
+    ensures act { act_in result (operands_in stack.new) ≡
+        indexes_open lengths cells (operands_in stack.old) }
     ensures begins { (code : List InstrOf) → IsBeginOf code result }
 {
     let Some(element) = element_on(stack, lengths, cells) else {

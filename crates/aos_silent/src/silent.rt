@@ -51,10 +51,15 @@ fn walk_from(
     frame: &mut Frame,
 ) -> Result<Stop, NoMemory>
     requires keeps { keeps ≡ keeps_in (numbered_of image.now.shapes.items frame.old.procedure) }
-    ensures stop { IfOk result (λ stop. stop_in stop (frame_in frame.new) ≡ silent_with image.now code.now (known heap.now) here (frame_in frame.old)) }
+    ensures stop { IfOk result (λ stop.
+        stop_in stop (frame_in frame.new) ≡ silent_with image.now code.now (known heap.now) here
+        (frame_in frame.old)) }
     ensures place { IfOk result (λ stop. IsStopOf stop (frame_in frame.new)) }
-    ensures alike { (all : ℕ → Option Made) → Knows all (known heap.now) → seen_with image.now code.now all here (frame_in frame.new) ≡ seen_with image.now code.now all here (frame_in frame.old) }
-    ensures room { (depth : ℕ) → KeepsToPaths image.now frame.old.procedure code.now depth → StandsInRoom image.now depth keeps code.now frame.old →
+    ensures alike { (all : ℕ → Option Made) → Knows all (known heap.now) →
+        seen_with image.now code.now all here (frame_in frame.new) ≡
+        seen_with image.now code.now all here (frame_in frame.old) }
+    ensures room { (depth : ℕ) → KeepsToPaths image.now frame.old.procedure code.now depth →
+        StandsInRoom image.now depth keeps code.now frame.old →
         IsOk result × StandsInRoom image.now depth keeps code.now frame.new }
     ensures more { HasMoreRoom frame.old frame.new }
     ensures moves { list_all may_evaluate code.now ≡ true → HasRoomFor code.now frame.old →
@@ -86,12 +91,23 @@ pub fn silent_from(
     here: usize,
     frame: &mut Frame,
 ) -> Result<Stop, NoMemory>
-    ensures stop { IfOk result (λ stop. stop_in stop (frame_in frame.new) ≡ silent_at image.now (known heap.now) here (frame_in frame.old)) }
+    ensures stop { IfOk result (λ stop.
+        stop_in stop (frame_in frame.new) ≡
+        silent_at image.now (known heap.now) here (frame_in frame.old)) }
     ensures place { IfOk result (λ stop. IsStopOf stop (frame_in frame.new)) }
-    ensures alike { (all : ℕ → Option Made) → Knows all (known heap.now) → seen_at image.now all here (frame_in frame.new) ≡ seen_at image.now all here (frame_in frame.old) }
-    ensures room { (depth : ℕ) → KeepsToPaths image.now frame.old.procedure (code_at image.now frame.old.procedure) depth → here < 2 ^ 32 →
-        StandsInRoom image.now depth (keeps_in (numbered_of image.now.shapes.items frame.old.procedure)) (code_at image.now frame.old.procedure) frame.old →
-        IsOk result × StandsInRoom image.now depth (keeps_in (numbered_of image.now.shapes.items frame.old.procedure)) (code_at image.now frame.old.procedure) frame.new }
+    ensures alike { (all : ℕ → Option Made) → Knows all (known heap.now) →
+        seen_at image.now all here (frame_in frame.new) ≡
+        seen_at image.now all here (frame_in frame.old) }
+    ensures room { (depth : ℕ) →
+        KeepsToPaths image.now frame.old.procedure (code_at image.now frame.old.procedure) depth →
+        here < 2 ^ 32 →
+        StandsInRoom image.now depth
+        (keeps_in (numbered_of image.now.shapes.items frame.old.procedure))
+        (code_at image.now frame.old.procedure) frame.old →
+        IsOk result ×
+        StandsInRoom image.now depth
+        (keeps_in (numbered_of image.now.shapes.items frame.old.procedure))
+        (code_at image.now frame.old.procedure) frame.new }
 {
     let Ok(above) = u32::try_from(here) else {
         return Err(NoMemory);
@@ -117,7 +133,8 @@ pub fn silent_condition(
     requires evaluates { list_all may_evaluate code.now ≡ true }
     requires few { here < 2 ^ 32 }
     requires room { HasRoomFor code.now frame.old }
-    ensures stop { stop_in result (frame_in frame.new) ≡ silent_with image.now code.now (known heap.now) here (frame_in frame.old) }
+    ensures stop { stop_in result (frame_in frame.new) ≡
+        silent_with image.now code.now (known heap.now) here (frame_in frame.old) }
     ensures place { IsStopOf result (frame_in frame.new) }
     ensures moves { HasMoved (frame_in frame.old) (frame_in frame.new) }
     ensures asks { AsksInRoom result code.now frame.new }

@@ -29,7 +29,9 @@ pub fn give(frame: &mut Frame, cell: Cell) -> Result<(), NoMemory>
 
 /// An operand more.
 pub fn give_value(frame: &mut Frame, value: Cell) -> Result<Act, NoMemory>
-    ensures ok { IfOk result (λ did. IsStep (gives value (frame_in frame.old).stack) did (frame_in frame.old) (frame_in frame.new)) }
+    ensures ok { IfOk result (λ did.
+        IsStep (gives value (frame_in frame.old).stack) did (frame_in frame.old)
+        (frame_in frame.new)) }
     ensures stays { IfOk result (λ did. WhereStays did (frame_in frame.new ≡ frame_in frame.old)) }
     ensures begins { (code : List InstrOf) → IfOk result (λ did. IsBeginOf code did) }
     ensures err { OnErr result (frame_in frame.new ≡ frame_in frame.old) }
@@ -43,7 +45,9 @@ pub fn give_value(frame: &mut Frame, value: Cell) -> Result<Act, NoMemory>
 
 /// The topmost operand once more.
 pub fn give_again(frame: &mut Frame) -> Result<Act, NoMemory>
-    ensures ok { IfOk result (λ did. IsStep (duplicates (frame_in frame.old).stack) did (frame_in frame.old) (frame_in frame.new)) }
+    ensures ok { IfOk result (λ did.
+        IsStep (duplicates (frame_in frame.old).stack) did (frame_in frame.old)
+        (frame_in frame.new)) }
     ensures stays { IfOk result (λ did. WhereStays did (frame_in frame.new ≡ frame_in frame.old)) }
     ensures begins { (code : List InstrOf) → IfOk result (λ did. IsBeginOf code did) }
     ensures err { OnErr result (frame_in frame.new ≡ frame_in frame.old) }
@@ -59,7 +63,9 @@ pub fn give_again(frame: &mut Frame) -> Result<Act, NoMemory>
 
 /// The object on which the frame's procedure is called.
 pub fn self_value(frame: &mut Frame) -> Result<Act, NoMemory>
-    ensures ok { IfOk result (λ did. IsStep (gives_self frame.old.object (frame_in frame.old).stack) did (frame_in frame.old) (frame_in frame.new)) }
+    ensures ok { IfOk result (λ did.
+        IsStep (gives_self frame.old.object (frame_in frame.old).stack) did (frame_in frame.old)
+        (frame_in frame.new)) }
     ensures stays { IfOk result (λ did. WhereStays did (frame_in frame.new ≡ frame_in frame.old)) }
     ensures begins { (code : List InstrOf) → IfOk result (λ did. IsBeginOf code did) }
     ensures err { OnErr result (frame_in frame.new ≡ frame_in frame.old) }
@@ -76,7 +82,9 @@ pub fn self_value(frame: &mut Frame) -> Result<Act, NoMemory>
 
 /// A value of this kind is kept under a number.
 pub fn keep_value(frame: &mut Frame, number: u32, kind: Kind) -> Result<Act, NoMemory>
-    ensures ok { IfOk result (λ did. IsStep (on_kind kind (λ v s. Puts number v s) (frame_in frame.old).stack) did (frame_in frame.old) (frame_in frame.new)) }
+    ensures ok { IfOk result (λ did.
+        IsStep (on_kind kind (λ v s. Puts number v s) (frame_in frame.old).stack) did
+        (frame_in frame.old) (frame_in frame.new)) }
     ensures stays { IfOk result (λ did. WhereStays did (frame_in frame.new ≡ frame_in frame.old)) }
     ensures begins { (code : List InstrOf) → IfOk result (λ did. IsBeginOf code did) }
     ensures err { OnErr result (frame_in frame.new ≡ frame_in frame.old) }
@@ -96,7 +104,9 @@ pub fn keep_value(frame: &mut Frame, number: u32, kind: Kind) -> Result<Act, NoM
 
 /// A value, where it is of this kind.
 fn give_kind(frame: &mut Frame, value: Cell, kind: Kind) -> Result<Act, NoMemory>
-    ensures ok { IfOk result (λ did. (number : ℕ) → value ≡ (frame_in frame.old).keeps number → IsStep (Takes number kind (frame_in frame.old).stack) did (frame_in frame.old) (frame_in frame.new)) }
+    ensures ok { IfOk result (λ did. (number : ℕ) → value ≡ (frame_in frame.old).keeps number →
+        IsStep (Takes number kind (frame_in frame.old).stack) did (frame_in frame.old)
+        (frame_in frame.new)) }
     ensures stays { IfOk result (λ did. WhereStays did (frame_in frame.new ≡ frame_in frame.old)) }
     ensures begins { (code : List InstrOf) → IfOk result (λ did. IsBeginOf code did) }
     ensures err { OnErr result (frame_in frame.new ≡ frame_in frame.old) }
@@ -112,7 +122,9 @@ fn give_kind(frame: &mut Frame, value: Cell, kind: Kind) -> Result<Act, NoMemory
 
 /// What is kept under a number, which is of this kind.
 pub fn kept_value(frame: &mut Frame, number: u32, kind: Kind) -> Result<Act, NoMemory>
-    ensures ok { IfOk result (λ did. IsStep (Takes number kind (frame_in frame.old).stack) did (frame_in frame.old) (frame_in frame.new)) }
+    ensures ok { IfOk result (λ did.
+        IsStep (Takes number kind (frame_in frame.old).stack) did (frame_in frame.old)
+        (frame_in frame.new)) }
     ensures stays { IfOk result (λ did. WhereStays did (frame_in frame.new ≡ frame_in frame.old)) }
     ensures begins { (code : List InstrOf) → IfOk result (λ did. IsBeginOf code did) }
     ensures err { OnErr result (frame_in frame.new ≡ frame_in frame.old) }
@@ -126,7 +138,10 @@ pub fn kept_value(frame: &mut Frame, number: u32, kind: Kind) -> Result<Act, NoM
 
 /// What an own cell holds, which is of this kind.
 fn own_value(frame: &mut Frame, number: u32, kind: Kind) -> Result<Act, NoMemory>
-    ensures ok { IfOk result (λ did. (q : QuestionOf) → noted (frame_in frame.old).cells q ≡ noted_as kind (slice_get (frame_in frame.old).cells number) → IsStep (Sees q (frame_in frame.old).stack) did (frame_in frame.old) (frame_in frame.new)) }
+    ensures ok { IfOk result (λ did. (q : QuestionOf) →
+        noted (frame_in frame.old).cells q ≡
+        noted_as kind (slice_get (frame_in frame.old).cells number) →
+        IsStep (Sees q (frame_in frame.old).stack) did (frame_in frame.old) (frame_in frame.new)) }
     ensures stays { IfOk result (λ did. WhereStays did (frame_in frame.new ≡ frame_in frame.old)) }
     ensures begins { (code : List InstrOf) → IfOk result (λ did. IsBeginOf code did) }
     ensures err { OnErr result (frame_in frame.new ≡ frame_in frame.old) }
@@ -147,7 +162,9 @@ fn own_value(frame: &mut Frame, number: u32, kind: Kind) -> Result<Act, NoMemory
 
 /// The place that a parameter's cell holds.
 pub fn param_value(frame: &mut Frame, number: u32) -> Result<Act, NoMemory>
-    ensures ok { IfOk result (λ did. (here : ℕ) → IsStep (Sees (Places (record { root = Root.Frame here; cell = number })) (frame_in frame.old).stack) did (frame_in frame.old) (frame_in frame.new)) }
+    ensures ok { IfOk result (λ did.
+        (here : ℕ) → IsStep (Sees (Places (record { root = Root.Frame here; cell = number }))
+        (frame_in frame.old).stack) did (frame_in frame.old) (frame_in frame.new)) }
     ensures stays { IfOk result (λ did. WhereStays did (frame_in frame.new ≡ frame_in frame.old)) }
     ensures begins { (code : List InstrOf) → IfOk result (λ did. IsBeginOf code did) }
     ensures err { OnErr result (frame_in frame.new ≡ frame_in frame.old) }
@@ -160,7 +177,9 @@ pub fn param_value(frame: &mut Frame, number: u32) -> Result<Act, NoMemory>
 
 /// The length that a parameter's cell holds.
 pub fn length_value(frame: &mut Frame, number: u32) -> Result<Act, NoMemory>
-    ensures ok { IfOk result (λ did. (here : ℕ) → IsStep (Sees (Lengths (record { root = Root.Frame here; cell = number })) (frame_in frame.old).stack) did (frame_in frame.old) (frame_in frame.new)) }
+    ensures ok { IfOk result (λ did.
+        (here : ℕ) → IsStep (Sees (Lengths (record { root = Root.Frame here; cell = number }))
+        (frame_in frame.old).stack) did (frame_in frame.old) (frame_in frame.new)) }
     ensures stays { IfOk result (λ did. WhereStays did (frame_in frame.new ≡ frame_in frame.old)) }
     ensures begins { (code : List InstrOf) → IfOk result (λ did. IsBeginOf code did) }
     ensures err { OnErr result (frame_in frame.new ≡ frame_in frame.old) }

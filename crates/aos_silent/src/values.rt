@@ -149,7 +149,8 @@ pub fn jump_on_false(code: &[Instr], to: u32, at: usize, stack: &mut Vec<Cell>) 
 pub fn drop_one(stack: &mut Vec<Cell>) -> Act
     ensures kept { WhereStays result (stack.new ≡ stack.old) }
     ensures room { vec_capacity stack.new ≡ vec_capacity stack.old }
-    ensures act { act_in result (operands_in stack.new) ≡ on_any (λ v s. Goes 0 s) (operands_in stack.old) }
+    ensures act { act_in result (operands_in stack.new) ≡
+        on_any (λ v s. Goes 0 s) (operands_in stack.old) }
 {
     match operand(stack, 0) {
         None => LOST,
@@ -171,7 +172,9 @@ fn put_place(
     requires { vec_len stack.old - taken < vec_capacity stack.old }
     ensures kept { WhereStays result (stack.new ≡ stack.old) }
     ensures room { vec_capacity stack.new ≡ vec_capacity stack.old }
-    ensures act { (n : ℕ) → cell ≡ small n → act_in result (operands_in stack.new) ≡ gives_place root n of_type [] (drop taken (operands_in stack.old)) }
+    ensures act { (n : ℕ) → cell ≡ small n →
+        act_in result (operands_in stack.new) ≡
+        gives_place root n of_type [] (drop taken (operands_in stack.old)) }
 {
     match cell {
         None => LOST,
@@ -186,7 +189,9 @@ fn put_place(
 pub fn offset(stack: &mut Vec<Cell>, cells: u32, of_type: u32) -> Act
     ensures kept { WhereStays result (stack.new ≡ stack.old) }
     ensures room { vec_capacity stack.new ≡ vec_capacity stack.old }
-    ensures act { act_in result (operands_in stack.new) ≡ on_place (λ a u s. gives_place a.root (a.cell + cells) of_type [] s) (operands_in stack.old) }
+    ensures act { act_in result (operands_in stack.new) ≡
+        on_place (λ a u s. gives_place a.root (a.cell + cells) of_type [] s)
+        (operands_in stack.old) }
 {
     match address(stack, 0) {
         None => LOST,
@@ -212,7 +217,8 @@ pub fn cell_past(cell: u32, elements: u64, cells: u64) -> Option<u32>
 pub fn index(stack: &mut Vec<Cell>, elements: u32, cells: u32) -> Act
     ensures kept { WhereStays result (stack.new ≡ stack.old) }
     ensures room { vec_capacity stack.new ≡ vec_capacity stack.old }
-    ensures act { act_in result (operands_in stack.new) ≡ indexes elements cells (operands_in stack.old) }
+    ensures act { act_in result (operands_in stack.new) ≡
+        indexes elements cells (operands_in stack.old) }
 {
     match number(stack, 0) {
         None => LOST,

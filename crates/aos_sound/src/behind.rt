@@ -80,7 +80,9 @@ fn take_index(stacks: &Stacks, lengths: u32, id: u32) -> Option<u32>
 fn give_lengths(below: u32, lengths: u32, stacks: &mut Stacks) -> Result<u32, NoMemory>
     requires { below < length stacks.old }
     ensures kept { IfOk result (λ r. Extends stacks.old stacks.new) }
-    ensures given { IfOk result (λ r. (r < length stacks.new) × (stack_at stacks.new r ≡ replicate lengths N ++ stack_at stacks.old below)) }
+    ensures given { IfOk result (λ r.
+        (r < length stacks.new) × (stack_at stacks.new r ≡ replicate lengths N ++
+        stack_at stacks.old below)) }
 {
     let mut id = below;
     for _ in 0..lengths {
@@ -239,7 +241,8 @@ fn take_result(stacks: &Stacks, result_kind: Option<Kind>, id: u32) -> Option<u3
 /// The procedure of this number returns.
 fn ends(shapes: &[ProcShape], own: u32, stacks: &Stacks, id: u32) -> Option<u32>
     requires { id < length stacks.now }
-    ensures { Means stacks.now result (returned (numbered shapes.now own) (stack_at stacks.now id)) }
+    ensures { Means stacks.now result
+        (returned (numbered shapes.now own) (stack_at stacks.now id)) }
 {
     if own == 0 || own as usize > shapes.len() {
         return None;

@@ -24,19 +24,28 @@ pub fn law_of_paths()
 /// that is left to the kernel, and frames that fit have room for all operands that they are to have.
 pub fn law_of_frames()
     ensures first { (image : Image) → IsSoundImage image → FramesFit image (first_frames image) }
-    ensures body { (image : Image) → IsSoundImage image → (mem : Memory) (o : ℕ) → FramesFit image (body_of image mem o) }
-    ensures turn { (image : Image) → IsSoundImage image → (mem : Memory) (fs : Frames) → FramesFit image fs → FramesFit image (turn image mem fs).frames }
-    ensures past { (image : Image) → IsSoundImage image → (mem : Memory) (fs : Frames) → FramesFit image fs →
-        is_passed (turn image mem fs).left ≡ true → FramesFit image (past image (turn image mem fs).frames) }
-    ensures opened { (image : Image) → IsSoundImage image → (fs : Frames) → FramesFit image fs → FramesFit image (opened fs) }
-    ensures room { (image : Image) → IsSoundImage image → (fs : Frames) → FramesFit image fs → HaveRoom image fs }
+    ensures body { (image : Image) → IsSoundImage image → (mem : Memory) (o : ℕ) →
+        FramesFit image (body_of image mem o) }
+    ensures turn { (image : Image) → IsSoundImage image → (mem : Memory) (fs : Frames) →
+        FramesFit image fs → FramesFit image (turn image mem fs).frames }
+    ensures past { (image : Image) → IsSoundImage image → (mem : Memory) (fs : Frames) →
+        FramesFit image fs →
+        is_passed (turn image mem fs).left ≡ true →
+        FramesFit image (past image (turn image mem fs).frames) }
+    ensures opened { (image : Image) → IsSoundImage image → (fs : Frames) → FramesFit image fs →
+        FramesFit image (opened fs) }
+    ensures room { (image : Image) → IsSoundImage image → (fs : Frames) → FramesFit image fs →
+        HaveRoom image fs }
 {}
 
 /// Where procedures name no more cells than they have, activities begin with frames that have the cells that their procedures name, and
 /// so they do behind each turn, and past what is left to the kernel.
 pub fn law_of_cells()
     ensures first { (image : Image) → IsLaidOut image → HaveCells image (first_frames image) }
-    ensures body { (image : Image) → IsLaidOut image → (mem : Memory) (o : ℕ) → HaveCells image (body_of image mem o) }
-    ensures turn { (image : Image) → IsLaidOut image → (mem : Memory) (fs : Frames) → HaveCells image fs → HaveCells image (turn image mem fs).frames }
-    ensures past { (image : Image) → IsLaidOut image → (fs : Frames) → HaveCells image fs → HaveCells image (past image fs) }
+    ensures body { (image : Image) → IsLaidOut image → (mem : Memory) (o : ℕ) →
+        HaveCells image (body_of image mem o) }
+    ensures turn { (image : Image) → IsLaidOut image → (mem : Memory) (fs : Frames) →
+        HaveCells image fs → HaveCells image (turn image mem fs).frames }
+    ensures past { (image : Image) → IsLaidOut image → (fs : Frames) → HaveCells image fs →
+        HaveCells image (past image fs) }
 {}

@@ -53,7 +53,8 @@ fn go_on(
     requires inside { id < length stacks.now }
     requires here { at < length table.old.items }
     requires numbers { AreNumbers stacks.now table.old.items }
-    ensures arrives { IfOk result (λ b. Arrives stacks.now (λ p. Leads next at p) (stack_at stacks.now id)
+    ensures arrives { IfOk result (λ b.
+        Arrives stacks.now (λ p. Leads next at p) (stack_at stacks.now id)
         table.old.items todo.old.items table.new.items todo.new.items) }
     ensures leads { IfOk result (λ b.
         GoesOn stacks.now next at (stack_at stacks.now id) b table.new.items) }
@@ -83,9 +84,11 @@ fn pass(
     at: usize,
 ) -> Result<bool, NoMemory>
     requires inside { at < length code.now }
-    requires explored { Explored image.now own code.now depth stacks.old table.old.items (todo.old.items ++ at ∷ []) }
+    requires explored { Explored image.now own code.now depth stacks.old table.old.items
+        (todo.old.items ++ at ∷ []) }
     ensures explored { IfOk result (λ b.
-        ExploredOrUnsound image.now own code.now depth b stacks.new table.new.items todo.new.items) }
+        ExploredOrUnsound image.now own code.now depth b stacks.new table.new.items
+        todo.new.items) }
     ensures fewer { IfOk result (λ b. unknown table.new.items + length todo.new.items
         ≡ unknown table.old.items + length todo.old.items) }
 {

@@ -17,7 +17,8 @@ fn is_sound_as(
     own: u32,
     image: &Image,
 ) -> Result<bool, NoMemory>
-    ensures { IfOk result (λ b. IsTrue b ↔ IsSound image.now own role body.now.code.items body.now.depth) }
+    ensures { IfOk result (λ b.
+        IsTrue b ↔ IsSound image.now own role body.now.code.items body.now.depth) }
 {
     if !all_stand(image, own, role, &body.code) {
         return Ok(false);
@@ -30,7 +31,8 @@ fn is_sound_as(
 /// many arguments and lengths are taken in it, of which it takes no more than there are, and how many lengths objects tell.
 pub fn is_sound(alloc: Global, body: &Body, own: u32, image: &Image) -> Result<bool, NoMemory>
     requires { (0 < own) × (own ≤ length image.now.shapes.items) }
-    ensures { IfOk result (λ b. IsTrue b ↔ IsSound image.now own Procedure body.now.code.items body.now.depth) }
+    ensures { IfOk result (λ b.
+        IsTrue b ↔ IsSound image.now own Procedure body.now.code.items body.now.depth) }
 {
     is_sound_as(alloc, Role::Procedure, body, own, image)
 }

@@ -37,7 +37,8 @@ pub fn value_fits(
     value: &Answer,
 ) -> Result<bool, AllocError>
     ensures { IfOk result (λ b. b ≡ judge.value_fits env.now (seen_entity entity.now)
-        (seen_answer value.now) (judge.text_to env.now (seen_entity entity.now) (seen_answer value.now))) }
+        (seen_answer value.now) (judge.text_to env.now (seen_entity entity.now)
+        (seen_answer value.now))) }
 {
     let of = entity.known.of;
     match text_to(env, entity, value) {

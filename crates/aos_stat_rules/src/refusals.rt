@@ -83,7 +83,8 @@ pub fn goes_on(selectors: &[Selector]) -> bool
 
 /// What stands behind a call that gives no value, and that begins at `first`: nothing may.
 pub fn refuse_behind(found: &mut Option<Breach>, first: Pos, behind: &[Selector])
-    ensures { found.new ≡ first_after found.old (judge.ended first behind.now (kept None)).breaches }
+    ensures { found.new ≡
+        first_after found.old (judge.ended first behind.now (kept None)).breaches }
 {
     let Some(selector) = behind.first() else {
         return;

@@ -48,7 +48,8 @@ pub fn make_change(cells: &mut [Cell], what: Change) -> bool
 pub fn change_front(cells: &mut [Cell], own: usize, what: Change) -> bool
     requires { own ≤ length cells.old }
     ensures there { result ≡ fits_of what own }
-    ensures front { take own cells.new ≡ (if result then changed what (take own cells.old) else take own cells.old) }
+    ensures front { take own cells.new ≡
+        (if result then changed what (take own cells.old) else take own cells.old) }
     ensures rest { drop own cells.new ≡ drop own cells.old }
 {
     make_change(&mut cells[..own], what)

@@ -110,7 +110,8 @@ impl Frame {
 
     /// Keeps a value under a number.
     pub fn keep(&mut self, number: u32, value: Cell) -> Result<(), NoMemory>
-        ensures ok { IfOk result (λ _. frame_in self.new ≡ with_kept number value (frame_in self.old)) }
+        ensures ok { IfOk result (λ _.
+            frame_in self.new ≡ with_kept number value (frame_in self.old)) }
         ensures err { OnErr result (frame_in self.new ≡ frame_in self.old) }
         ensures full { OnErr result (length (kept_cells self.old) ≤ number) }
         ensures keeps { length (kept_cells self.old) ≤ length (kept_cells self.new) }
@@ -125,7 +126,8 @@ impl Frame {
     /// Changes its cells, where there are such cells, and says whether there are.
     pub fn change(&mut self, what: Change) -> bool
         ensures there { result ≡ fits what (length (own_cells self.old)) }
-        ensures after { frame_in self.new ≡ (if result then with_cells (changed what) (frame_in self.old) else frame_in self.old) }
+        ensures after { frame_in self.new ≡
+            (if result then with_cells (changed what) (frame_in self.old) else frame_in self.old) }
         ensures room { HasMoreRoom self.old self.new }
     {
         let own = self.len();
@@ -199,7 +201,8 @@ impl Frames {
 
     /// What a cell of the frame above so many others holds, where there is such a cell.
     pub fn load(&self, above: usize, cell: usize) -> Option<Cell>
-        ensures { result ≡ option_and_then (λ cells. slice_get cells cell) (from_last above (map (λ f. f.cells) (list_in self.now.list.items))) }
+        ensures { result ≡ option_and_then (λ cells. slice_get cells cell)
+            (from_last above (map (λ f. f.cells) (list_in self.now.list.items))) }
     {
         match self.frame(above) {
             None => None,
@@ -209,7 +212,8 @@ impl Frames {
 
     /// How many cells the frame above so many others has.
     pub fn cells(&self, above: usize) -> Option<usize>
-        ensures { result ≡ option_map length (from_last above (map (λ f. f.cells) (list_in self.now.list.items))) }
+        ensures { result ≡
+            option_map length (from_last above (map (λ f. f.cells) (list_in self.now.list.items))) }
     {
         match self.frame(above) {
             None => None,
@@ -219,8 +223,11 @@ impl Frames {
 
     /// Changes the cells of the frame above so many others, where there are such cells, and says whether there are.
     pub fn change(&mut self, above: usize, what: Change) -> bool
-        ensures there { result ≡ fits_in what (from_last above (map (λ f. f.cells) (list_in self.old.list.items))) }
-        ensures after { list_in self.new.list.items ≡ (if result then change_from_last above (with_cells (changed what)) (list_in self.old.list.items) else list_in self.old.list.items) }
+        ensures there { result ≡
+            fits_in what (from_last above (map (λ f. f.cells) (list_in self.old.list.items))) }
+        ensures after { list_in self.new.list.items ≡
+            (if result then change_from_last above (with_cells (changed what))
+            (list_in self.old.list.items) else list_in self.old.list.items) }
         ensures following { self.new.following ≡ self.old.following }
         ensures counts { SameCounts self.old self.new }
         ensures room { KeepsRoom self.old self.new }
@@ -256,9 +263,12 @@ impl Frames {
         depth: u32,
         counted: u32,
     ) -> Result<(), FrameErr>
-        ensures ok { IfOk result (λ _. list_in self.new.list.items ≡ new_frame procedure object kinds.now more counted ∷ list_in self.old.list.items) }
+        ensures ok { IfOk result (λ _.
+            list_in self.new.list.items ≡ new_frame procedure object kinds.now more counted ∷
+            list_in self.old.list.items) }
         ensures fits { IfOk result (λ _. deep counted (list_in self.old.list.items) ≡ false) }
-        ensures err { IfErr result (λ e. IsFrameRefusal e (deep counted (list_in self.old.list.items))) }
+        ensures err { IfErr result (λ e.
+            IsFrameRefusal e (deep counted (list_in self.old.list.items))) }
         ensures same { OnErr result (list_in self.new.list.items ≡ list_in self.old.list.items) }
         ensures following { self.new.following ≡ self.old.following }
         ensures counts { SameCounts self.old self.new }
@@ -303,7 +313,8 @@ const TOO_MANY: u32 = MOST_FRAME_SCALARS + 1;
 
 /// Whether frames and so many scalars more have too many scalars.
 fn counts_past(list: &[Frame], counted: u32) -> bool
-    ensures { result ≡ nat_lt MOST_FRAME_SCALARS (counted + sum_by (λ f. f.counted) (list_in list.now)) }
+    ensures { result ≡
+        nat_lt MOST_FRAME_SCALARS (counted + sum_by (λ f. f.counted) (list_in list.now)) }
 {
     let mut sum = counted.min(TOO_MANY);
     for frame in list {
@@ -326,7 +337,8 @@ fn first_cell(kind: Kind) -> Cell
 
 /// So many cells more, which hold 0.
 fn add_zeros(cells: &mut Vec<Cell>, more: usize) -> Result<(), NoMemory>
-    ensures { IfOk result (λ _. cells.new.items ≡ cells.old.items ++ replicate more (Cell.Num (pos 0))) }
+    ensures { IfOk result (λ _.
+        cells.new.items ≡ cells.old.items ++ replicate more (Cell.Num (pos 0))) }
 {
     for _ in 0..more {
         cells.reserve(1)?;
@@ -352,7 +364,9 @@ fn first_cells(
     more: usize,
     keeps: u32,
 ) -> Result<Vec<Cell>, NoMemory>
-    ensures { IfOk result (λ cells. cells.items ≡ (map first_cell_of kinds.now ++ replicate more (Cell.Num (pos 0))) ++ replicate keeps (Cell.Num (pos 0))) }
+    ensures { IfOk result (λ cells.
+        cells.items ≡ (map first_cell_of kinds.now ++ replicate more (Cell.Num (pos 0))) ++
+        replicate keeps (Cell.Num (pos 0))) }
 {
     let mut cells = Vec::new(alloc);
     for kind in kinds {

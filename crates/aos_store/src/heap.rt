@@ -67,7 +67,9 @@ impl Heap {
     /// Changes the cells of an object, where there are such cells, and says whether there are.
     pub fn change(&mut self, number: u32, what: Change) -> bool
         ensures there { result ≡ fits_in what (by_number number (map object_cells self.old)) }
-        ensures cells { map object_cells self.new ≡ (if result then change_by_number number (changed what) (map object_cells self.old) else map object_cells self.old) }
+        ensures cells { map object_cells self.new ≡
+            (if result then change_by_number number (changed what)
+            (map object_cells self.old) else map object_cells self.old) }
         ensures made { map made_in self.new ≡ map made_in self.old }
     {
         if number == 0 {
@@ -92,7 +94,8 @@ impl Heap {
     /// One object more, for which there is room: it gives the object's number.
     pub fn add(&mut self, object: Object) -> Result<u32, NoMemory>
         requires { object_counted object + sum_by object_counted self.old ≤ MOST_SCALARS }
-        ensures ok { IfOk result (λ o. (o ≡ suc (length self.old)) × (self.new ≡ self.old ++ object ∷ [])) }
+        ensures ok { IfOk result (λ o.
+            (o ≡ suc (length self.old)) × (self.new ≡ self.old ++ object ∷ [])) }
         ensures err { OnErr result (self.new ≡ self.old) }
     {
         self.list.reserve(1)?;
@@ -103,7 +106,8 @@ impl Heap {
 
     /// The objects without the last one.
     pub fn forget_last(&mut self)
-        ensures { (before : List ObjectOf) (last : ObjectOf) → self.old ≡ before ++ last ∷ [] → self.new ≡ before }
+        ensures { (before : List ObjectOf) (last : ObjectOf) → self.old ≡ before ++ last ∷ [] →
+            self.new ≡ before }
     {
         if let Some(object) = self.list.pop() {
             self.counted -= counts_as(object.cells.len() as u64);

@@ -40,7 +40,8 @@ impl Store {
 
     /// What a cell of a module holds, where there is such a cell.
     pub fn load_module(&self, of_module: usize, cell: usize) -> Option<Cell>
-        ensures { result ≡ option_and_then (λ cells. slice_get cells cell) (slice_get (memory_in self.now).modules of_module) }
+        ensures { result ≡ option_and_then (λ cells. slice_get cells cell)
+            (slice_get (memory_in self.now).modules of_module) }
     {
         match self.modules.get(of_module) {
             None => None,
@@ -70,7 +71,8 @@ impl Store {
 
     /// What a cell of an object holds, where there is such a cell.
     pub fn load_object(&self, number: u32, cell: usize) -> Option<Cell>
-        ensures { result ≡ option_and_then (λ cells. slice_get cells cell) (by_number number (memory_in self.now).objects) }
+        ensures { result ≡ option_and_then (λ cells. slice_get cells cell)
+            (by_number number (memory_in self.now).objects) }
     {
         match self.objects.get(number) {
             None => None,
@@ -91,7 +93,9 @@ impl Store {
     /// Changes the cells of a module, where there are such cells, and says whether there are.
     pub fn change_module(&mut self, number: u32, what: Change) -> bool
         ensures there { result ≡ fits_in what (slice_get (memory_in self.old).modules number) }
-        ensures after { memory_in self.new ≡ (if result then memory_with (Root.Module number) (changed what) (memory_in self.old) else memory_in self.old) }
+        ensures after { memory_in self.new ≡
+            (if result then memory_with (Root.Module number) (changed what)
+            (memory_in self.old) else memory_in self.old) }
     {
         match self.modules.get_mut(number as usize) {
             None => false,
@@ -102,14 +106,17 @@ impl Store {
     /// Changes the cells of an object, where there are such cells, and says whether there are.
     pub fn change_object(&mut self, number: u32, what: Change) -> bool
         ensures there { result ≡ fits_in what (by_number number (memory_in self.old).objects) }
-        ensures after { memory_in self.new ≡ (if result then memory_with (Root.Object number) (changed what) (memory_in self.old) else memory_in self.old) }
+        ensures after { memory_in self.new ≡
+            (if result then memory_with (Root.Object number) (changed what)
+            (memory_in self.old) else memory_in self.old) }
     {
         self.objects.change(number, what)
     }
 
     /// Whether the heap has room for an object more, which has so many cells.
     pub fn has_room(&self, cells: u64) -> bool
-        ensures { result ≡ nat_le (max 1 cells + sum_by counted (memory_in self.now).objects) MOST_SCALARS }
+        ensures { result ≡
+            nat_le (max 1 cells + sum_by counted (memory_in self.now).objects) MOST_SCALARS }
     {
         self.objects.has_room(cells)
     }
@@ -121,9 +128,12 @@ impl Store {
         lengths: Vec<u32>,
         cells: Vec<Cell>,
     ) -> Result<u32, NoMemory>
-        requires { counted cells.items + sum_by counted (memory_in self.old).objects ≤ MOST_SCALARS }
+        requires { counted cells.items + sum_by counted
+            (memory_in self.old).objects ≤ MOST_SCALARS }
         ensures ok { IfOk result (λ o. (o ≡ new_number (memory_in self.old)) ×
-            (memory_in self.new ≡ with_object (record { type = made_of; lengths = lengths.items }) cells.items (memory_in self.old))) }
+            (memory_in self.new ≡
+            with_object (record { type = made_of; lengths = lengths.items }) cells.items
+            (memory_in self.old))) }
         ensures err { OnErr result (memory_in self.new ≡ memory_in self.old) }
     {
         self.objects.add(Object {
@@ -135,7 +145,8 @@ impl Store {
 
     /// Takes back the object that was made last.
     pub fn take_back(&mut self)
-        ensures { (made : Made) (cells : List CellOf) (before : Memory) → memory_in self.old ≡ with_object made cells before → memory_in self.new ≡ before }
+        ensures { (made : Made) (cells : List CellOf) (before : Memory) →
+            memory_in self.old ≡ with_object made cells before → memory_in self.new ≡ before }
     {
         self.objects.forget_last();
     }

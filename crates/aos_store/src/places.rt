@@ -26,10 +26,13 @@ pub fn load_at(frames: &Frames, store: &Store, root: Root, cell: usize) -> Optio
 /// Changes the cells below a root, where there are such cells, and says whether there are.
 pub fn change_at(frames: &mut Frames, store: &mut Store, root: Root, what: Change) -> bool
     ensures there { result ≡ fits_in what (at_root root (rooted_in frames.old store.old)) }
-    ensures frames { frames_in frames.new ≡ (if result then with_frames root (changed what) frames.old else frames_in frames.old) }
+    ensures frames { frames_in frames.new ≡
+        (if result then with_frames root (changed what) frames.old else frames_in frames.old) }
     ensures counts { SameCounts frames.old frames.new }
     ensures room { KeepsRoom frames.old frames.new }
-    ensures memory { memory_in store.new ≡ (if result then memory_with root (changed what) (memory_in store.old) else memory_in store.old) }
+    ensures memory { memory_in store.new ≡
+        (if result then memory_with root (changed what)
+        (memory_in store.old) else memory_in store.old) }
 {
     match root {
         Root::Frame(above) => frames.change(above as usize, what),
@@ -47,10 +50,14 @@ pub fn store_at(
     value: Cell,
 ) -> bool
     ensures there { result ≡ is_some (load root cell (rooted_in frames.old store.old)) }
-    ensures frames { frames_in frames.new ≡ (if result then with_frames root (spliced cell (value ∷ [])) frames.old else frames_in frames.old) }
+    ensures frames { frames_in frames.new ≡
+        (if result then with_frames root (spliced cell (value ∷ [])) frames.old else frames_in
+        frames.old) }
     ensures counts { SameCounts frames.old frames.new }
     ensures room { KeepsRoom frames.old frames.new }
-    ensures memory { memory_in store.new ≡ (if result then memory_with root (spliced cell (value ∷ [])) (memory_in store.old) else memory_in store.old) }
+    ensures memory { memory_in store.new ≡
+        (if result then memory_with root (spliced cell (value ∷ []))
+        (memory_in store.old) else memory_in store.old) }
 {
     change_at(frames, store, root, Change::Sets(cell, value))
 }
@@ -85,9 +92,13 @@ fn copy_one(
     to: Root,
     to_cell: usize,
 )
-    ensures frames { (v : Cell) → load from from_cell (rooted_in frames.old store.old) ≡ Option.Some v → is_some (load to to_cell (rooted_in frames.old store.old)) ≡ true →
+    ensures frames { (v : Cell) →
+        load from from_cell (rooted_in frames.old store.old) ≡ Option.Some v →
+        is_some (load to to_cell (rooted_in frames.old store.old)) ≡ true →
         frames_in frames.new ≡ with_frames to (spliced to_cell (v ∷ [])) frames.old }
-    ensures memory { (v : Cell) → load from from_cell (rooted_in frames.old store.old) ≡ Option.Some v → is_some (load to to_cell (rooted_in frames.old store.old)) ≡ true →
+    ensures memory { (v : Cell) →
+        load from from_cell (rooted_in frames.old store.old) ≡ Option.Some v →
+        is_some (load to to_cell (rooted_in frames.old store.old)) ≡ true →
         memory_in store.new ≡ memory_with to (spliced to_cell (v ∷ [])) (memory_in store.old) }
     ensures following { (frames_in frames.new).following ≡ (frames_in frames.old).following }
     ensures counts { SameCounts frames.old frames.new }
@@ -109,12 +120,19 @@ fn copy_across(
     count: u32,
 )
     requires apart { from ≢ to }
-    requires source { has_all count from_cell (at_root from (rooted_in frames.old store.old)) ≡ true }
+    requires source { has_all count from_cell (at_root from (rooted_in frames.old store.old)) ≡
+        true }
     requires target { has_all count to_cell (at_root to (rooted_in frames.old store.old)) ≡ true }
-    ensures frames { frames_in frames.new ≡ with_frames to (spliced to_cell (read_all count from_cell (at_root from (rooted_in frames.old store.old)))) frames.old }
+    ensures frames { frames_in frames.new ≡
+        with_frames to
+        (spliced to_cell (read_all count from_cell (at_root from (rooted_in frames.old store.old))))
+        frames.old }
     ensures counts { SameCounts frames.old frames.new }
     ensures room { KeepsRoom frames.old frames.new }
-    ensures memory { memory_in store.new ≡ memory_with to (spliced to_cell (read_all count from_cell (at_root from (rooted_in frames.old store.old)))) (memory_in store.old) }
+    ensures memory { memory_in store.new ≡
+        memory_with to
+        (spliced to_cell (read_all count from_cell (at_root from (rooted_in frames.old store.old))))
+        (memory_in store.old) }
 {
     for i in 0..count {
         copy_one(
@@ -139,11 +157,19 @@ pub fn copy_at(
     to_cell: u32,
     count: u32,
 ) -> bool
-    ensures there { result ≡ (has_all count from_cell (at_root from (rooted_in frames.old store.old)) && has_all count to_cell (at_root to (rooted_in frames.old store.old))) }
-    ensures frames { frames_in frames.new ≡ (if result then with_frames to (spliced to_cell (read_all count from_cell (at_root from (rooted_in frames.old store.old)))) frames.old else frames_in frames.old) }
+    ensures there { result ≡
+        (has_all count from_cell (at_root from (rooted_in frames.old store.old)) &&
+        has_all count to_cell (at_root to (rooted_in frames.old store.old))) }
+    ensures frames { frames_in frames.new ≡
+        (if result then with_frames to
+        (spliced to_cell (read_all count from_cell (at_root from (rooted_in frames.old store.old))))
+        frames.old else frames_in frames.old) }
     ensures counts { SameCounts frames.old frames.new }
     ensures room { KeepsRoom frames.old frames.new }
-    ensures memory { memory_in store.new ≡ (if result then memory_with to (spliced to_cell (read_all count from_cell (at_root from (rooted_in frames.old store.old)))) (memory_in store.old) else memory_in store.old) }
+    ensures memory { memory_in store.new ≡
+        (if result then memory_with to
+        (spliced to_cell (read_all count from_cell (at_root from (rooted_in frames.old store.old))))
+        (memory_in store.old) else memory_in store.old) }
 {
     if from == to {
         return change_at(

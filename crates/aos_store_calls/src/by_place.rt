@@ -42,7 +42,9 @@ pub fn load(store: &Store, root: Root, cell: u32) -> Cell
 // Changes the cells of a module or an object, where there are such cells, and says whether there are.
 fn change(store: &mut Store, root: Root, what: Change) -> bool
     ensures there { result ≡ fits_in what (at_root root (rooted [] (memory_in store.old))) }
-    ensures after { memory_in store.new ≡ (if result then memory_with root (changed what) (memory_in store.old) else memory_in store.old) }
+    ensures after { memory_in store.new ≡
+        (if result then memory_with root (changed what)
+        (memory_in store.old) else memory_in store.old) }
 {
     match root {
         Root::Frame(_) => false,
@@ -54,7 +56,9 @@ fn change(store: &mut Store, root: Root, what: Change) -> bool
 // Sets a cell of a module or an object, where there is such a cell, and says whether there is.
 fn set(store: &mut Store, root: Root, cell: u32, value: Cell) -> bool
     ensures there { result ≡ is_some (load_in root cell (rooted [] (memory_in store.old))) }
-    ensures after { memory_in store.new ≡ (if result then memory_with root (spliced cell (value ∷ [])) (memory_in store.old) else memory_in store.old) }
+    ensures after { memory_in store.new ≡
+        (if result then memory_with root (spliced cell (value ∷ []))
+        (memory_in store.old) else memory_in store.old) }
 {
     change(store, root, Change::Sets(cell as usize, value))
 }
@@ -62,7 +66,8 @@ fn set(store: &mut Store, root: Root, cell: u32, value: Cell) -> bool
 /// Sets a cell of a module or an object. Takes no memory.
 pub fn store(store: &mut Store, root: Root, cell: u32, value: Cell)
     requires { is_some (load_in root cell (rooted [] (memory_in store.old))) ≡ true }
-    ensures { memory_in store.new ≡ memory_with root (spliced cell (value ∷ [])) (memory_in store.old) }
+    ensures { memory_in store.new ≡
+        memory_with root (spliced cell (value ∷ [])) (memory_in store.old) }
 {
     set(store, root, cell, value);
 }
@@ -80,7 +85,8 @@ pub fn cells(store: &Store, root: Root) -> Option<usize>
 
 /// The lengths with which an object was made, none where there is no such object. Takes no memory.
 pub fn lens(store: &Store, object: u32) -> &[u32]
-    ensures { result.now ≡ option_map_or (λ m. m.lengths) (by_number object (memory_in store.now).made) [] }
+    ensures { result.now ≡
+        option_map_or (λ m. m.lengths) (by_number object (memory_in store.now).made) [] }
 {
     match store.objects.get(object) {
         None => &[],
@@ -90,14 +96,22 @@ pub fn lens(store: &Store, object: u32) -> &[u32]
 
 /// Copies so many cells from one place to another, as if all were read first. Takes no memory.
 pub fn copy(store: &mut Store, frames: &mut Frames, to: Place, from: Place, count: u32)
-    requires source { has_all count from.cell (at_root from.root (rooted_in frames.old store.old)) ≡ true }
-    requires target { has_all count to.cell (at_root to.root (rooted_in frames.old store.old)) ≡ true }
+    requires source { has_all count from.cell (at_root from.root (rooted_in frames.old store.old)) ≡
+        true }
+    requires target { has_all count to.cell (at_root to.root (rooted_in frames.old store.old)) ≡
+        true }
     ensures frames { frames_in frames.new ≡
-        with_frames to.root (spliced to.cell (read_all count from.cell (at_root from.root (rooted_in frames.old store.old)))) frames.old }
+        with_frames to.root
+        (spliced to.cell
+        (read_all count from.cell (at_root from.root (rooted_in frames.old store.old))))
+        frames.old }
     ensures counts { SameCounts frames.old frames.new }
     ensures room { KeepsRoom frames.old frames.new }
     ensures memory { memory_in store.new ≡
-        memory_with to.root (spliced to.cell (read_all count from.cell (at_root from.root (rooted_in frames.old store.old)))) (memory_in store.old) }
+        memory_with to.root
+        (spliced to.cell
+        (read_all count from.cell (at_root from.root (rooted_in frames.old store.old))))
+        (memory_in store.old) }
 {
     copy_at(frames, store, from.root, from.cell, to.root, to.cell, count);
 }

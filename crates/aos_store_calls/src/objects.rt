@@ -58,9 +58,11 @@ fn make(
     kinds: &[Kind],
     count: u64,
 ) -> Result<u32, NoMemory>
-    requires { counted (times [] count (map first_cell kinds.now)) + sum_by counted (memory_in store.old).objects ≤ MOST_SCALARS }
+    requires { counted (times [] count (map first_cell kinds.now)) + sum_by counted
+        (memory_in store.old).objects ≤ MOST_SCALARS }
     ensures ok { IfOk result (λ o. (o ≡ new_number (memory_in store.old)) ×
-        (memory_in store.new ≡ with_object (record { type = of_type; lengths = lens.now }) (times [] count (map first_cell kinds.now)) (memory_in store.old))) }
+        (memory_in store.new ≡ with_object (record { type = of_type; lengths = lens.now })
+        (times [] count (map first_cell kinds.now)) (memory_in store.old))) }
     ensures err { OnErr result (memory_in store.new ≡ memory_in store.old) }
 {
     let cells = element_cells(alloc, kinds, count)?;
@@ -76,7 +78,8 @@ fn make_as(
     lens: &[u32],
     desc: &TypeDesc,
 ) -> Result<u32, StoreErr>
-    ensures { IsMadeAs of_type lens.now (memory_in store.old) (memory_in store.new) desc.now result }
+    ensures { IsMadeAs of_type lens.now (memory_in store.old)
+        (memory_in store.new) desc.now result }
 {
     let count = elements_of(lens);
     if !store.has_room(count.saturating_mul(desc.kinds.len() as u64)) {
@@ -98,7 +101,8 @@ pub fn new_object(
     of_type: u32,
     lens: &[u32],
 ) -> Result<u32, StoreErr>
-    ensures { IsMadeOf of_type lens.now (memory_in store.old) (memory_in store.new) (numbered image.now.types.items of_type) result }
+    ensures { IsMadeOf of_type lens.now (memory_in store.old) (memory_in store.new)
+        (numbered image.now.types.items of_type) result }
 {
     match numbered(&image.types, of_type) {
         None => Err(StoreErr::Full),

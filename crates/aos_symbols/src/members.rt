@@ -175,7 +175,8 @@ impl<'a> Env<'a> {
     /// The own field of a type that has a name with this number.
     fn numbered_field(&self, all: &Members<'_>, of: TypeId, name: Name, place: u32) -> Option<Field>
         requires all { members.AreMembers self.now all.now }
-        requires place { place ≡ names.place_of all.now.words (spelling.word self.now.here.text name) }
+        requires place { place ≡
+            names.place_of all.now.words (spelling.word self.now.here.text name) }
         ensures { result ≡ env.own_field self.now of name }
     {
         if may_declare(all.fields.as_slice(), of, place) {

@@ -10,7 +10,8 @@ use std::alloc::Global;
 
 /// The lock of a frame joins others, where the frame's region is open.
 fn add_region(locks: &mut Vec<LockName>, image: &Image, frame: &Frame) -> Result<(), NoMemory>
-    ensures { IfOk result (λ _. locks.new.items ≡ locks.old.items ++ regions_of image.now (frame_in frame.now ∷ [])) }
+    ensures { IfOk result (λ _.
+        locks.new.items ≡ locks.old.items ++ regions_of image.now (frame_in frame.now ∷ [])) }
 {
     if frame.is_open {
         locks.reserve(1)?;
@@ -22,7 +23,8 @@ fn add_region(locks: &mut Vec<LockName>, image: &Image, frame: &Frame) -> Result
 /// The locks of the open regions, the latest entered first: those that are to be released, in this order, once the activity has
 /// trapped.
 pub fn unwind(alloc: Global, image: &Image, frames: &Frames) -> Result<Vec<LockName>, NoMemory>
-    ensures { IfOk result (λ locks. locks.items ≡ regions_of image.now (list_in frames.now.list.items)) }
+    ensures { IfOk result (λ locks.
+        locks.items ≡ regions_of image.now (list_in frames.now.list.items)) }
 {
     let mut locks = Vec::new(alloc);
     let mut left = frames.list.len();

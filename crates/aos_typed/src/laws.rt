@@ -14,7 +14,8 @@ ghost use Rattle.aos_typed.specs.WellTyped.{variable_type, HasTypedParts, IsStat
 /// among those of the program.
 pub fn law_of_conditions()
     ensures walk { (p : Program) → HasNumbers (numbered p) }
-    ensures typed { (p : Program) → HasTypedParts p → ProgramKeepsRules p → IsWellTyped (numbered p) }
+    ensures typed { (p : Program) → HasTypedParts p → ProgramKeepsRules p →
+        IsWellTyped (numbered p) }
     ensures linked { (p : Program) → HasNumbers p → All (IsLinkedIn p) (routines p) }
 {}
 
@@ -23,11 +24,14 @@ pub fn law_of_rules()
     ensures step { (r l : Bool) (at : Pos) (w : Width) (p : Place) (from to : Expr) (body : Stats) →
         KeepsRules r l (For at w p from to (pos 0) body) → ⊥ }
     ensures exit { (r : Bool) (at : Pos) → KeepsRules r false (Exit at) → ⊥ }
-    ensures await_ { (l : Bool) (at : Pos) (n : ℕ) (e : Expr) → KeepsRules false l (Await at n e) → ⊥ }
+    ensures await_ { (l : Bool) (at : Pos) (n : ℕ) (e : Expr) → KeepsRules false l (Await at n e) →
+        ⊥ }
 {}
 
 /// No well-typed statement puts a text in a string constant.
 pub fn law_of_constants()
-    ensures { (p : Program) (own : Option Procedure) (at : Pos) (strict : Bool) (from : Rows) (m k : ℕ) (ns : List ℕ) →
-        variable_type p m k ≡ None → IsStatement p own (PutText at strict from (Known (ModuleVar m k) ns)) → ⊥ }
+    ensures { (p : Program) (own : Option Procedure) (at : Pos) (strict : Bool) (from : Rows)
+        (m k : ℕ) (ns : List ℕ) →
+        variable_type p m k ≡ None →
+        IsStatement p own (PutText at strict from (Known (ModuleVar m k) ns)) → ⊥ }
 {}

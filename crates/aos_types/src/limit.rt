@@ -78,7 +78,8 @@ fn is_part_past(rows: &[TypeRow], counts: &[Option<u32>], t: TypeId) -> bool
 /// Whether a type is past the limit, and none of its parts is.
 pub(crate) fn is_first_past(rows: &[TypeRow], counts: &[Option<u32>], t: TypeId) -> bool
     ensures { result ≡ (limit.count_past counts.now t && not
-        (list_any (limit.count_past counts.now) (chain.parts_of rows.now (table.row_of rows.now t)))) }
+        (list_any (limit.count_past counts.now)
+        (chain.parts_of rows.now (table.row_of rows.now t)))) }
 {
     is_past(counts, t) && !is_part_past(rows, counts, t)
 }

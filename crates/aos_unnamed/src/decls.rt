@@ -26,7 +26,8 @@ fn in_variables(
     defs: Items<VarDef>,
 ) -> Result<Items<VarDef>, NoMemory>
     ensures part { IfOk result (λ r. r ≡ (rules.through rules.in_variable added.old defs).part) }
-    ensures added { OnOk result (added.new ≡ (rules.through rules.in_variable added.old defs).added) }
+    ensures added { OnOk result (added.new ≡
+        (rules.through rules.in_variable added.old defs).added) }
 {
     let mut all = Items::new(alloc);
     for def in defs.into_vec() {

@@ -75,7 +75,8 @@ fn in_fields(
     fields: Items<Fields>,
 ) -> Result<Items<Fields>, NoMemory>
     ensures part { IfOk result (λ r. r ≡ (rules.through rules.in_field added.old fields).part) }
-    ensures added { OnOk result (added.new ≡ (rules.through rules.in_field added.old fields).added) }
+    ensures added { OnOk result (added.new ≡
+        (rules.through rules.in_field added.old fields).added) }
 {
     let mut all = Items::new(alloc);
     for field in fields.into_vec() {

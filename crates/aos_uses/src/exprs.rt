@@ -26,7 +26,9 @@ pub fn put(uses: &mut Vec<Use>, one: Use) -> Result<(), AllocError>
 
 // Whether one of these parameters is one by reference.
 fn is_reference(parameters: &[TParameter], number: usize) -> bool
-    ensures { result ≡ unwrap_or (option_map (λ a. a.by_reference) (slice_get (map seen_parameter parameters.now) number)) false }
+    ensures { result ≡
+        unwrap_or (option_map (λ a. a.by_reference)
+        (slice_get (map seen_parameter parameters.now) number)) false }
 {
     match parameters.get(number) {
         Some(parameter) => parameter.by_reference,
@@ -97,7 +99,8 @@ fn put_called(uses: &mut Vec<Use>, callee: &TCallee) -> Result<(), AllocError>
 
 // The number under which runs what a call names.
 fn callee_number(dispatch: &Dispatch<'_>, callee: &TCallee) -> Result<u32, AllocError>
-    ensures { IfOk result (λ n. n ≡ callee_number (seen_program dispatch.now) (seen_callee callee.now)) }
+    ensures { IfOk result (λ n.
+        n ≡ callee_number (seen_program dispatch.now) (seen_callee callee.now)) }
 {
     match callee {
         TCallee::Plain(home, number) => dispatch.called(*home, *number),
@@ -180,7 +183,8 @@ fn argument_uses(
 ) -> Result<(), AllocError>
     ensures { OnOk result ((more : Arguments) →
         uses.new.items ++ arguments_uses (seen_program dispatch.now) number (suc parameter) more ≡
-        uses.old.items ++ arguments_uses (seen_program dispatch.now) number parameter (seen_argument argument.now more)) }
+        uses.old.items ++ arguments_uses (seen_program dispatch.now) number parameter
+        (seen_argument argument.now more)) }
 {
     match argument {
         TArgument::Scalar(value) => value_uses(dispatch, uses, value),
@@ -207,7 +211,8 @@ pub fn arguments_uses(
     number: u32,
 ) -> Result<(), AllocError>
     ensures { OnOk result (uses.new.items ≡
-        uses.old.items ++ arguments_uses (seen_program dispatch.now) number 0 (seen_list arguments.now)) }
+        uses.old.items ++ arguments_uses (seen_program dispatch.now) number 0
+        (seen_list arguments.now)) }
 {
     for parameter in 0..arguments.len() {
         argument_uses(dispatch, uses, &arguments[parameter], number, parameter)?;
@@ -238,8 +243,10 @@ fn call_end<'b>(
 ) -> Result<Option<Prefix<'b>>, AllocError>
     ensures uses { IfOk result (λ rest.
         uses.new.items ++ rest_uses (seen_program dispatch.now) rest ≡
-        uses.old.items ++ call_uses (seen_program dispatch.now) (seen_callee callee.now) (seen_list arguments.now)) }
-    ensures less { IfOk result (λ rest. rest_size rest ≤ suc (callee_size (seen_callee callee.now))) }
+        uses.old.items ++ call_uses (seen_program dispatch.now) (seen_callee callee.now)
+        (seen_list arguments.now)) }
+    ensures less { IfOk result (λ rest.
+        rest_size rest ≤ suc (callee_size (seen_callee callee.now))) }
 {
     let number = callee_number(dispatch, callee)?;
     put_called(uses, callee)?;
@@ -253,8 +260,10 @@ fn read_end<'b>(
     uses: &mut Vec<Use>,
     place: &'b TPlace,
 ) -> Result<Option<Prefix<'b>>, AllocError>
-    ensures uses { IfOk result (λ rest. uses.new.items ++ rest_uses (seen_program dispatch.now) rest ≡ uses.old.items ++
-        (Use.Reads (target (seen_program dispatch.now) (seen_place place.now)) ∷ place_uses (seen_program dispatch.now) (seen_place place.now))) }
+    ensures uses { IfOk result (λ rest.
+        uses.new.items ++ rest_uses (seen_program dispatch.now) rest ≡ uses.old.items ++
+        (Use.Reads (target (seen_program dispatch.now) (seen_place place.now)) ∷
+        place_uses (seen_program dispatch.now) (seen_place place.now))) }
     ensures less { IfOk result (λ rest. rest_size rest ≤ suc (place_size (seen_place place.now))) }
 {
     put(uses, Use::Reads(place_target(dispatch, place)?))?;
@@ -269,9 +278,12 @@ fn texts_end<'b>(
     left: &'b TRows,
     right: &TRows,
 ) -> Result<Option<Prefix<'b>>, AllocError>
-    ensures uses { IfOk result (λ rest. uses.new.items ++ rest_uses (seen_program dispatch.now) rest ≡ uses.old.items ++
-        ((Use.Reads (rows_target (seen_program dispatch.now) (seen_rows right.now)) ∷ rows_uses (seen_program dispatch.now) (seen_rows right.now)) ++
-        (Use.Reads (rows_target (seen_program dispatch.now) (seen_rows left.now)) ∷ rows_uses (seen_program dispatch.now) (seen_rows left.now)))) }
+    ensures uses { IfOk result (λ rest.
+        uses.new.items ++ rest_uses (seen_program dispatch.now) rest ≡ uses.old.items ++
+        ((Use.Reads (rows_target (seen_program dispatch.now) (seen_rows right.now)) ∷
+        rows_uses (seen_program dispatch.now) (seen_rows right.now)) ++
+        (Use.Reads (rows_target (seen_program dispatch.now) (seen_rows left.now)) ∷
+        rows_uses (seen_program dispatch.now) (seen_rows left.now)))) }
     ensures less { IfOk result (λ rest. rest_size rest ≤ suc (rows_size (seen_rows left.now))) }
 {
     array_read(dispatch, uses, right)?;
@@ -304,8 +316,10 @@ fn both_end<'b>(
     left: &'b TExpr,
     right: &TExpr,
 ) -> Result<Option<Prefix<'b>>, AllocError>
-    ensures uses { IfOk result (λ rest. uses.new.items ++ rest_uses (seen_program dispatch.now) rest ≡ uses.old.items ++
-        (expr_uses (seen_program dispatch.now) (seen_expr right.now) ++ expr_uses (seen_program dispatch.now) (seen_expr left.now))) }
+    ensures uses { IfOk result (λ rest.
+        uses.new.items ++ rest_uses (seen_program dispatch.now) rest ≡ uses.old.items ++
+        (expr_uses (seen_program dispatch.now) (seen_expr right.now) ++
+        expr_uses (seen_program dispatch.now) (seen_expr left.now))) }
     ensures less { IfOk result (λ rest. rest_size rest ≤ suc (value_size (seen_expr left.now))) }
 {
     value_uses(dispatch, uses, right)?;
@@ -377,7 +391,8 @@ fn front_uses(
     uses: &mut Vec<Use>,
     all: Prefix<'_>,
 ) -> Result<(), AllocError>
-    ensures { OnOk result (uses.new.items ≡ uses.old.items ++ front_uses (seen_program dispatch.now) all.entry) }
+    ensures { OnOk result (uses.new.items ≡ uses.old.items ++
+        front_uses (seen_program dispatch.now) all.entry) }
 {
     let mut rest = Some(all);
     while let Some(front) = rest {
@@ -393,7 +408,8 @@ pub fn value_uses(
     uses: &mut Vec<Use>,
     value: &TExpr,
 ) -> Result<(), AllocError>
-    ensures { OnOk result (uses.new.items ≡ uses.old.items ++ expr_uses (seen_program dispatch.now) (seen_expr value.now)) }
+    ensures { OnOk result (uses.new.items ≡ uses.old.items ++
+        expr_uses (seen_program dispatch.now) (seen_expr value.now)) }
 {
     front_uses(dispatch, uses, Prefix::Value(value))
 }
@@ -405,7 +421,8 @@ pub fn place_uses(
     uses: &mut Vec<Use>,
     place: &TPlace,
 ) -> Result<(), AllocError>
-    ensures { OnOk result (uses.new.items ≡ uses.old.items ++ place_uses (seen_program dispatch.now) (seen_place place.now)) }
+    ensures { OnOk result (uses.new.items ≡ uses.old.items ++
+        place_uses (seen_program dispatch.now) (seen_place place.now)) }
 {
     front_uses(dispatch, uses, Prefix::Place(place))
 }
@@ -417,7 +434,8 @@ pub fn rows_uses(
     uses: &mut Vec<Use>,
     rows: &TRows,
 ) -> Result<(), AllocError>
-    ensures { OnOk result (uses.new.items ≡ uses.old.items ++ rows_uses (seen_program dispatch.now) (seen_rows rows.now)) }
+    ensures { OnOk result (uses.new.items ≡ uses.old.items ++
+        rows_uses (seen_program dispatch.now) (seen_rows rows.now)) }
 {
     front_uses(dispatch, uses, Prefix::Rows(rows))
 }
@@ -430,7 +448,8 @@ pub fn array_read(
     rows: &TRows,
 ) -> Result<(), AllocError>
     ensures { OnOk result (uses.new.items ≡ uses.old.items ++
-        (Use.Reads (rows_target (seen_program dispatch.now) (seen_rows rows.now)) ∷ rows_uses (seen_program dispatch.now) (seen_rows rows.now))) }
+        (Use.Reads (rows_target (seen_program dispatch.now) (seen_rows rows.now)) ∷
+        rows_uses (seen_program dispatch.now) (seen_rows rows.now))) }
 {
     put(uses, Use::Reads(array_target(dispatch, rows)?))?;
     rows_uses(dispatch, uses, rows)
@@ -444,7 +463,8 @@ pub fn call_uses(
     arguments: &[TArgument],
 ) -> Result<(), AllocError>
     ensures { OnOk result (uses.new.items ≡
-        uses.old.items ++ call_uses (seen_program dispatch.now) (seen_callee callee.now) (seen_list arguments.now)) }
+        uses.old.items ++ call_uses (seen_program dispatch.now) (seen_callee callee.now)
+        (seen_list arguments.now)) }
 {
     match call_end(dispatch, uses, callee, arguments)? {
         Some(object) => front_uses(dispatch, uses, object),

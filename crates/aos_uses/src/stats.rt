@@ -21,7 +21,8 @@ fn place_read(
     place: &TPlace,
 ) -> Result<(), AllocError>
     ensures { OnOk result (uses.new.items ≡ uses.old.items ++
-        (Use.Reads (target (seen_program dispatch.now) (seen_place place.now)) ∷ place_uses (seen_program dispatch.now) (seen_place place.now))) }
+        (Use.Reads (target (seen_program dispatch.now) (seen_place place.now)) ∷
+        place_uses (seen_program dispatch.now) (seen_place place.now))) }
 {
     put(uses, Use::Reads(place_target(dispatch, place)?))?;
     place_uses(dispatch, uses, place)
@@ -34,7 +35,8 @@ fn place_written(
     exclusive: bool,
     place: &TPlace,
 ) -> Result<(), AllocError>
-    ensures { OnOk result (uses.new.items ≡ uses.old.items ++ written (seen_program dispatch.now) exclusive (seen_place place.now)) }
+    ensures { OnOk result (uses.new.items ≡ uses.old.items ++
+        written (seen_program dispatch.now) exclusive (seen_place place.now)) }
 {
     put(uses, Use::Writes(place_target(dispatch, place)?, exclusive))?;
     place_uses(dispatch, uses, place)
@@ -49,7 +51,8 @@ fn assign_uses(
     value: &TExpr,
 ) -> Result<(), AllocError>
     ensures { OnOk result (uses.new.items ≡ uses.old.items ++
-        (written (seen_program dispatch.now) exclusive (seen_place place.now) ++ expr_uses (seen_program dispatch.now) (seen_expr value.now))) }
+        (written (seen_program dispatch.now) exclusive (seen_place place.now) ++
+        expr_uses (seen_program dispatch.now) (seen_expr value.now))) }
 {
     place_written(dispatch, uses, exclusive, place)?;
     value_uses(dispatch, uses, value)
@@ -64,7 +67,8 @@ fn copy_uses(
 ) -> Result<(), AllocError>
     ensures { OnOk result (uses.new.items ≡ uses.old.items ++
         (written (seen_program dispatch.now) exclusive (seen_place to.now) ++
-        (Use.Reads (target (seen_program dispatch.now) (seen_place from.now)) ∷ place_uses (seen_program dispatch.now) (seen_place from.now)))) }
+        (Use.Reads (target (seen_program dispatch.now) (seen_place from.now)) ∷
+        place_uses (seen_program dispatch.now) (seen_place from.now)))) }
 {
     place_written(dispatch, uses, exclusive, to)?;
     place_read(dispatch, uses, from)
@@ -78,8 +82,10 @@ fn text_uses(
     to: &TRows,
 ) -> Result<(), AllocError>
     ensures { OnOk result (uses.new.items ≡ uses.old.items ++
-        ((Use.Writes (rows_target (seen_program dispatch.now) (seen_rows to.now)) exclusive ∷ rows_uses (seen_program dispatch.now) (seen_rows to.now)) ++
-        (Use.Reads (rows_target (seen_program dispatch.now) (seen_rows from.now)) ∷ rows_uses (seen_program dispatch.now) (seen_rows from.now)))) }
+        ((Use.Writes (rows_target (seen_program dispatch.now) (seen_rows to.now)) exclusive ∷
+        rows_uses (seen_program dispatch.now) (seen_rows to.now)) ++
+        (Use.Reads (rows_target (seen_program dispatch.now) (seen_rows from.now)) ∷
+        rows_uses (seen_program dispatch.now) (seen_rows from.now)))) }
 {
     put(uses, Use::Writes(array_target(dispatch, to)?, exclusive))?;
     rows_uses(dispatch, uses, to)?;
@@ -87,7 +93,8 @@ fn text_uses(
 }
 
 fn out_uses(dispatch: &Dispatch<'_>, uses: &mut Vec<Use>, call: &OutCall) -> Result<(), AllocError>
-    ensures { OnOk result (uses.new.items ≡ uses.old.items ++ out_uses (seen_program dispatch.now) (seen_call call.now)) }
+    ensures { OnOk result (uses.new.items ≡ uses.old.items ++
+        out_uses (seen_program dispatch.now) (seen_call call.now)) }
 {
     put(uses, Use::Calls)?;
     match call {
@@ -107,7 +114,8 @@ fn values_uses(
     uses: &mut Vec<Use>,
     values: &[TExpr],
 ) -> Result<(), AllocError>
-    ensures { OnOk result (uses.new.items ≡ uses.old.items ++ values_uses (seen_program dispatch.now) (map seen_expr values.now)) }
+    ensures { OnOk result (uses.new.items ≡ uses.old.items ++
+        values_uses (seen_program dispatch.now) (map seen_expr values.now)) }
 {
     for value in values {
         value_uses(dispatch, uses, value)?;
@@ -131,7 +139,9 @@ fn put_makes(dispatch: &Dispatch<'_>, uses: &mut Vec<Use>, of: u32) -> Result<()
 
 // The number under which the initializer of a type runs.
 fn initial_number(dispatch: &Dispatch<'_>, of: u32) -> Result<u32, AllocError>
-    ensures { IfOk result (λ n. n ≡ initial_number (seen_program dispatch.now) (initializer (seen_program dispatch.now) of) of) }
+    ensures { IfOk result (λ n.
+        n ≡ initial_number (seen_program dispatch.now)
+        (initializer (seen_program dispatch.now) of) of) }
 {
     match dispatch.initializer(of)? {
         Some(slot) => dispatch.method(of, slot),
@@ -148,9 +158,11 @@ fn new_uses(
     arguments: &[TArgument],
 ) -> Result<(), AllocError>
     ensures { OnOk result (uses.new.items ≡ uses.old.items ++
-        ((written (seen_program dispatch.now) exclusive (seen_place place.now) ++ makes (seen_program dispatch.now) of) ++
+        ((written (seen_program dispatch.now) exclusive (seen_place place.now) ++
+        makes (seen_program dispatch.now) of) ++
         arguments_uses (seen_program dispatch.now)
-        (initial_number (seen_program dispatch.now) (initializer (seen_program dispatch.now) of) of) 0 (seen_list arguments.now))) }
+        (initial_number (seen_program dispatch.now) (initializer (seen_program dispatch.now) of) of)
+        0 (seen_list arguments.now))) }
 {
     let number = initial_number(dispatch, of)?;
     place_written(dispatch, uses, exclusive, place)?;
@@ -178,7 +190,8 @@ fn result_uses(
     uses: &mut Vec<Use>,
     value: &Option<TExpr>,
 ) -> Result<(), AllocError>
-    ensures { OnOk result (uses.new.items ≡ uses.old.items ++ result_uses (seen_program dispatch.now) (option_map seen_expr value.now)) }
+    ensures { OnOk result (uses.new.items ≡ uses.old.items ++
+        result_uses (seen_program dispatch.now) (option_map seen_expr value.now)) }
 {
     match value {
         None => Ok(()),
@@ -214,7 +227,8 @@ fn arm_uses(
     body: &[TStat],
 ) -> Result<(), AllocError>
     ensures { OnOk result (uses.new.items ≡ uses.old.items ++
-        (expr_uses (seen_program dispatch.now) (seen_expr test.now) ++ stats_uses (seen_program dispatch.now) exclusive (seen_stats body.now))) }
+        (expr_uses (seen_program dispatch.now) (seen_expr test.now) ++
+        stats_uses (seen_program dispatch.now) exclusive (seen_stats body.now))) }
 {
     value_uses(dispatch, uses, test)?;
     stats_uses(dispatch, uses, exclusive, body)
@@ -247,7 +261,8 @@ fn else_uses(
     exclusive: bool,
     otherwise: &TElse,
 ) -> Result<(), AllocError>
-    ensures { OnOk result (uses.new.items ≡ uses.old.items ++ cases_uses (seen_program dispatch.now) exclusive (seen_else otherwise.now)) }
+    ensures { OnOk result (uses.new.items ≡ uses.old.items ++
+        cases_uses (seen_program dispatch.now) exclusive (seen_else otherwise.now)) }
 {
     match otherwise {
         TElse::Missing => Ok(()),
@@ -265,7 +280,8 @@ fn cases_uses(
     otherwise: &TElse,
 ) -> Result<(), AllocError>
     ensures { OnOk result (uses.new.items ≡ uses.old.items ++
-        cases_uses (seen_program dispatch.now) exclusive (cases_of cases.now (seen_else otherwise.now))) }
+        cases_uses (seen_program dispatch.now) exclusive
+        (cases_of cases.now (seen_else otherwise.now))) }
 {
     for case in cases {
         stats_uses(dispatch, uses, exclusive, &case.body)?;
@@ -287,7 +303,8 @@ fn stat_uses(
     exclusive: bool,
     statement: &TStat,
 ) -> Result<(), AllocError>
-    ensures { OnOk result (uses.new.items ≡ uses.old.items ++ stat_uses (seen_program dispatch.now) exclusive (seen_stat statement.now)) }
+    ensures { OnOk result (uses.new.items ≡ uses.old.items ++
+        stat_uses (seen_program dispatch.now) exclusive (seen_stat statement.now)) }
 {
     match statement {
         TStat::Assign(_, _, place, value) => assign_uses(dispatch, uses, exclusive, place, value),
@@ -339,7 +356,8 @@ fn stats_uses(
     exclusive: bool,
     statements: &[TStat],
 ) -> Result<(), AllocError>
-    ensures { OnOk result (uses.new.items ≡ uses.old.items ++ stats_uses (seen_program dispatch.now) exclusive (seen_stats statements.now)) }
+    ensures { OnOk result (uses.new.items ≡ uses.old.items ++
+        stats_uses (seen_program dispatch.now) exclusive (seen_stats statements.now)) }
 {
     for statement in statements {
         stat_uses(dispatch, uses, exclusive, statement)?;
@@ -353,7 +371,8 @@ fn routine_uses(
     dispatch: &Dispatch<'_>,
     routine: &Routine<'_>,
 ) -> Result<Vec<Use>, AllocError>
-    ensures { IfOk result (λ uses. uses.items ≡ routine_uses (seen_program dispatch.now) (seen_routine routine.now)) }
+    ensures { IfOk result (λ uses.
+        uses.items ≡ routine_uses (seen_program dispatch.now) (seen_routine routine.now)) }
 {
     let mut uses = Vec::new(alloc);
     match routine {

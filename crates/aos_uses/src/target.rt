@@ -51,7 +51,8 @@ fn field_target<'b>(
 ) -> Result<(Target, Option<Prefix<'b>>), AllocError>
     ensures target { IfOk result (λ r. rest_target (seen_program dispatch.now) r.0 r.1 ≡
         target (seen_program dispatch.now) (Field (seen_place whole.now) of number)) }
-    ensures less { IfOk result (λ r. rest_size r.1 ≤ place_size (Field (seen_place whole.now) of number)) }
+    ensures less { IfOk result (λ r.
+        rest_size r.1 ≤ place_size (Field (seen_place whole.now) of number)) }
 {
     if dispatch.is_object(of) {
         let found = Target {
