@@ -11,7 +11,7 @@ use Rattle.aos_report.specs.Texts.{refusal_text}
 use Rattle.aos_symbols.specs.Outcome.{Outcome, went, refused}
 use Rattle.aos_compile.specs.Elaborates.{ComesTo, IsAccepted, names_of}
 use Rattle.aos_sim.specs.Monitors.{HasMonitors}
-use Rattle.aos_lasting.specs.Lasts.{Lasts}
+use Rattle.aos_stability.specs.Lasts.{Lasts}
 use Rattle.aos_words.specs.Words.{Words, Command, Run, Replay, Gen, command_of, Asks, default_budget}
 use Rattle.aos.specs.Wanted.{wanted_files, gen_texts, name_of}
 use Rattle.aos.specs.Call.{SinkUse, Call, Tells, ShelfFailed, GotWhole, GotNothing, SinksWorked}

@@ -5,7 +5,7 @@ ghost use Rattle.std.specs.String.{string_bytes};
 ghost use Rattle.aos_typed.specs.Seen.{seen_program};
 ghost use Rattle.aos_typed.specs.WellTyped.{IsWellTyped};
 ghost use Rattle.aos_sim.specs.Shows.{IsCodeOf, Shows};
-ghost use Rattle.aos_pieces.specs.Images.{IsSoundImageOf};
+ghost use Rattle.aos_code_soundness.specs.Images.{IsSoundImageOf};
 ghost use Rattle.aos_symbols.specs.Outcome.{went, refused};
 ghost use Rattle.aos_compile.specs.Elaborates.{ComesTo, names_of};
 ghost use Rattle.aos_reading.specs.Sources.{bytes_of, OnRefused};

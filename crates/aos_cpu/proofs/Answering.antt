@@ -12,11 +12,11 @@ use Rattle.aos_code.specs.Numbered.{numbered}
 use Rattle.aos_code.specs.Machine.{asker, Frame, Frames, Turned, answer, before as before_it, leaves, lock_in}
 use Rattle.aos_store.specs.declared.frames.Frames.{Frames as KeptFrames}
 use Rattle.aos_store.specs.Store.{list_in, frames_in}
-use Rattle.aos_silent.specs.declared.act.Question.{Question as KeptQuestion}
-use Rattle.aos_silent.specs.Acts.{question_in, operands_of}
+use Rattle.aos_silent_steps.specs.declared.act.Question.{Question as KeptQuestion}
+use Rattle.aos_silent_steps.specs.Acts.{question_in, operands_of}
 use Rattle.aos_cpu.specs.Answers.{Made, IsAnswered}
 use Rattle.aos_cpu.specs.Turns.{HasAnswered, Stands}
-use Rattle.aos_silent.proofs.Oks.{ok_more}
+use Rattle.aos_silent_steps.proofs.Oks.{ok_more}
 
 module _ (image : Image) (kept : KeptQuestion) (q : Question) (at taken : ℕ) (same : (s : Stack) → question_in kept s ≡ q) (count : operands_of kept ≡ taken) (old new : KeptFrames) (mem now : Memory) (before after : List ℕ) where
   pub has_answered : (did : Did) → IsAnswered q at taken old new mem now did before after → HasAnswered image kept at old new mem now did before after

@@ -17,7 +17,7 @@ use Rattle.aos_code.specs.declared.image.ProcShape.{ProcShape}
 use Rattle.aos_code.specs.declared.image.TypeDesc.{TypeDesc}
 use Rattle.aos_code.specs.Memory.{Addr}
 use Rattle.aos_code.specs.Numbered.{numbered}
-use Rattle.aos_silent.proofs.Walks.{drop_next}
+use Rattle.aos_silent_steps.proofs.Walks.{drop_next}
 use Rattle.aos_code.specs.Silent.{Here, Stack, Keeps, Question, Stop, Work, Ended, Act, Goes, Puts, Takes, Looks, Look, AtCell, AtElements, IsType, AsType, AsMethod, Sees, Stops, Fails, lost, is_of, gives, on_any, on_kind, on_number, number_then, place_then, object_then, on_object, unless_nil, looks, extends, Told, Tells, Refuses, Invokes, Unheard, told_by, on_told, on_place, on_text, length_then, lengths_on, counted_on, given, asserts, gives_place, element, cells_of, length_cells, in_rows, gives_picked, on_kinds, kinds_of, on_receiver, called, calls, sends, callable_then, on_callable, same_formals, applies_to, applies_as, applies, calls_value, gives_self, ends, lands, jumps, jumps_on_false, act, Noted, Visible, Answered, Unknown, noted, on_noted, on_act, walk, silent}
 
 -- Where silent work ends.

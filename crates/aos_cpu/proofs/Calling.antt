@@ -12,9 +12,9 @@ use Rattle.aos_code.specs.Memory.{Memory}
 use Rattle.aos_code.specs.Machine.{asker, object_of, arguments_of, Frame, Frames, rooted, behind, handed, called_frame, enters, calls_with}
 use Rattle.aos_store.specs.declared.frames.Frames.{Frames as KeptFrames}
 use Rattle.aos_store.specs.Store.{list_in, frames_in, deep}
-use Rattle.aos_silent.specs.declared.act.Way.{Way}
-use Rattle.aos_silent.specs.declared.act.Way.TheVariants.{Direct, Bound, Free}
-use Rattle.aos_silent.specs.Acts.{behind_value, with_object, passed}
+use Rattle.aos_silent_steps.specs.declared.act.Way.{Way}
+use Rattle.aos_silent_steps.specs.declared.act.Way.TheVariants.{Direct, Bound, Free}
+use Rattle.aos_silent_steps.specs.Acts.{behind_value, with_object, passed}
 use Rattle.aos_cpu.specs.Answers.{Made}
 use Rattle.aos_cpu.specs.Calls.{Gift, gifts, all_copied, called_cells, called, may_pass, IsCalled, IsEntered}
 use Rattle.aos_cpu.proofs.Behind.{lost_made}

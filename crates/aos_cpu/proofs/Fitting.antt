@@ -19,10 +19,10 @@ use Rattle.aos_store.specs.declared.frames.Frames.{Frames as KeptFrames}
 use Rattle.aos_store.specs.Store.{frame_in, list_in, frames_in}
 use Rattle.aos_store.specs.Room.{HasMoreRoom, AreRoomyFor}
 use Rattle.aos_store.proofs.Rooms.{roomy_set}
-use Rattle.aos_silent.specs.declared.act.Question.{Question as KeptQuestion}
-use Rattle.aos_silent.specs.declared.silent.Stop.TheVariants.{Work as AtWork, Begins as AtBegin}
-use Rattle.aos_silent.specs.Acts.{question_in, operands_of}
-use Rattle.aos_silent.specs.Room.{StandsInRoom, keeps_for, AreRoomy, FitInRoom, StayFit}
+use Rattle.aos_silent_steps.specs.declared.act.Question.{Question as KeptQuestion}
+use Rattle.aos_silent_steps.specs.declared.silent.Stop.TheVariants.{Work as AtWork, Begins as AtBegin}
+use Rattle.aos_silent_steps.specs.Acts.{question_in, operands_of}
+use Rattle.aos_silent_steps.specs.Room.{StandsInRoom, keeps_for, AreRoomy, FitInRoom, StayFit}
 use Rattle.aos_cpu.specs.Answers.{begun_at}
 use Rattle.aos_cpu.specs.Turns.{StandsAtStop, HasAnswered, Same, IsBefore, IsBeforeAsking, operands_left, open_behind}
 use Rattle.aos_cpu.proofs.Turns.{all_but_top, list_top, list_set}

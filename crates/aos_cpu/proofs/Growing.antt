@@ -18,7 +18,7 @@ use Rattle.aos_code.specs.Numbered.{numbered}
 use Rattle.aos_code.specs.Memory.{Addr, Memory, has_room}
 use Rattle.aos_code.specs.Silent.{Stack, Keeps, Question, Begins, Fails, Decides, Stop, Work, Ended, is_of}
 use Rattle.aos_code.specs.Machine.{asker, fitted_in, object_of, arguments_of, Frame, Frames, Turned, Handed, first_cell, rooted, cells_at, memory_with, made_in, leaves, goes_on, behind, written, writes, reads, copies, prints, writes_out, makes, makes_with, makes_of, numbers_in, in_rows, starts, works, finds, stores_text, fitted, puts_text, compares, called_frame, is_deep, enters, calls_with, calls, handed, text_at, length_in, code_in, character_cells, answer, goes, opened, stop_of, turn_at, turn}
-use Rattle.aos_silent.specs.Known.{Knows}
+use Rattle.aos_silent_steps.specs.Known.{Knows}
 
 read_still : {A : Type 0} (xs ys : List A) (k : ℕ) (x : A) → slice_get xs k ≡ Some x → slice_get (xs ++ ys) k ≡ Some x
 read_still [] ys zero x e = absurd (cc e)

@@ -33,17 +33,17 @@ use Rattle.aos_store.specs.Store.{frame_in, list_in, frames_in, fits, fits_in, c
 use Rattle.aos_store.specs.Room.{HasMoreRoom, AreRoomyFor}
 use Rattle.aos_store.proofs.Lists.{there_is}
 use Rattle.aos_store.proofs.Rooms.{roomy_set}
-use Rattle.aos_silent.specs.declared.act.Act.{Act as KeptAct}
-use Rattle.aos_silent.specs.declared.act.Act.TheVariants.{Goes as GoesOn, Sees as Asks, Begins as BeginsAt, Fails as FailsWith, Decides as DecidesWith}
-use Rattle.aos_silent.specs.declared.act.Address.{Address}
-use Rattle.aos_silent.specs.declared.act.Question.{Question}
-use Rattle.aos_silent.specs.declared.silent.Stop.TheVariants.{Work as AtWork}
-use Rattle.aos_silent.specs.Acts.{address_in, kind_in, addr_in, question_in, operands_of, WhereStays}
-use Rattle.aos_silent.specs.Known.{Knows}
-use Rattle.aos_silent.specs.Steps.{IsStepOf, after}
-use Rattle.aos_silent.specs.Silent.{Seen, here_at, silent_at, seen_at, seen_with}
-use Rattle.aos_silent.specs.Room.{keeps_for, FitInRoom}
-use Rattle.aos_silent.proofs.Walks.{acts, seen_on}
+use Rattle.aos_silent_steps.specs.declared.act.Act.{Act as KeptAct}
+use Rattle.aos_silent_steps.specs.declared.act.Act.TheVariants.{Goes as GoesOn, Sees as Asks, Begins as BeginsAt, Fails as FailsWith, Decides as DecidesWith}
+use Rattle.aos_silent_steps.specs.declared.act.Address.{Address}
+use Rattle.aos_silent_steps.specs.declared.act.Question.{Question}
+use Rattle.aos_silent_steps.specs.declared.silent.Stop.TheVariants.{Work as AtWork}
+use Rattle.aos_silent_steps.specs.Acts.{address_in, kind_in, addr_in, question_in, operands_of, WhereStays}
+use Rattle.aos_silent_steps.specs.Known.{Knows}
+use Rattle.aos_silent_steps.specs.Steps.{IsStepOf, after}
+use Rattle.aos_silent_steps.specs.Silent.{Seen, here_at, silent_at, seen_at, seen_with}
+use Rattle.aos_silent_steps.specs.Room.{keeps_for, FitInRoom}
+use Rattle.aos_silent_steps.proofs.Walks.{acts, seen_on}
 use Rattle.aos_cpu.specs.Turns.{SeenFrames, Alike, seen_frames, counted, StandsAtStop, Shown, IsTurned, Rests, WhereLeft}
 use Rattle.aos_cpu.specs.Private.{no_memory, made_by, is_of_frame, is_own_stop, alone, IsPrivate, after_turns, begun_after, IsMadePrivately, turns_since}
 use Rattle.aos_cpu.specs.InPlace.{on_top, FitsSo, IsSet, HasSet, TurnsTo, HasTurnedTop, HasWorked, HasRunTop, StopsAsking, HasTriedTop, IsAlikeStill, HasTriedInPlace}

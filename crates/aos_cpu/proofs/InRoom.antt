@@ -14,7 +14,7 @@ use Rattle.aos_store.specs.declared.frames.Frames.{Frames as KeptFrames}
 use Rattle.aos_store.specs.Store.{frame_in, list_in, frames_in, kept_cells}
 use Rattle.aos_store.specs.Room.{AreRoomyFor}
 use Rattle.aos_store.proofs.Rooms.{set_get}
-use Rattle.aos_silent.specs.Room.{StandsInRoom, keeps_for, IsRoomy, AreRoomy}
+use Rattle.aos_silent_steps.specs.Room.{StandsInRoom, keeps_for, IsRoomy, AreRoomy}
 use Rattle.aos_cpu.proofs.Turns.{all_but_top, list_top, list_set}
 
 -- where there is a frame no body is to be opened

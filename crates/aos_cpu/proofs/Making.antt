@@ -24,7 +24,7 @@ use Rattle.aos_store.specs.Store.{list_in, frames_in}
 use Rattle.aos_cpu.specs.Answers.{Made as HasMade, IsBehind}
 use Rattle.aos_cpu.specs.declared.makes.Lengths.TheVariants.{No, Short, Long}
 use Rattle.aos_cpu.specs.Makes.{IsMade, IsMadeWith, AreLengths, HasLengths}
-use Rattle.aos_silent.proofs.Lengths.{cells_cut}
+use Rattle.aos_silent_steps.proofs.Lengths.{cells_cut}
 use Rattle.aos_cpu.proofs.Behind.{lost_made}
 
 -- Numbers, one after the other.

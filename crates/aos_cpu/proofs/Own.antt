@@ -26,9 +26,9 @@ use Rattle.aos_store.specs.declared.frames.Frames.{Frames as KeptFrames}
 use Rattle.aos_store.specs.declared.memory.Store.{Store}
 use Rattle.aos_store.specs.Store.{frames_in, memory_in, SameCounts}
 use Rattle.aos_store.specs.Objects.{object_cells, made_in as made_as}
-use Rattle.aos_silent.specs.Known.{Knows}
-use Rattle.aos_silent.specs.Silent.{Seen}
-use Rattle.aos_silent.proofs.Knowing.{IsFound, silent_more}
+use Rattle.aos_silent_steps.specs.Known.{Knows}
+use Rattle.aos_silent_steps.specs.Silent.{Seen}
+use Rattle.aos_silent_steps.proofs.Knowing.{IsFound, silent_more}
 use Rattle.aos_cpu.specs.Turns.{SeenFrames, seen, seen_all, seen_frames, Alike, Shown, IsTurned, Rests, WhereLeft, counted}
 use Rattle.aos_cpu.specs.Private.{no_memory, only_made, made_by, is_of_frame, is_own_value, copies_own, calls_own, is_own, is_own_stop, is_own_top, is_own_turn, has_gone, alone, IsPrivate, HasTurned, Holds, HasTried, after_turns, begun_after, IsMadePrivately, turns_since}
 use Rattle.aos_cpu.proofs.Turns.{some_same, none_other, itself, after_turn, turn_alike, alike_back}

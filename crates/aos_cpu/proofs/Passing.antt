@@ -8,9 +8,9 @@ use Rattle.aos_code.specs.declared.instr.Cell.TheVariants.{Num, Ref, Call as Cal
 use Rattle.aos_code.specs.declared.image.ParamKind.{ParamKind}
 use Rattle.aos_code.specs.declared.image.ParamKind.TheVariants as param
 use Rattle.aos_code.specs.Machine.{arguments_of, lengths_in}
-use Rattle.aos_silent.specs.declared.act.Way.{Way}
-use Rattle.aos_silent.specs.declared.act.Way.TheVariants.{Direct, Bound, Free}
-use Rattle.aos_silent.specs.Acts.{as_object, with_object}
+use Rattle.aos_silent_steps.specs.declared.act.Way.{Way}
+use Rattle.aos_silent_steps.specs.declared.act.Way.TheVariants.{Direct, Bound, Free}
+use Rattle.aos_silent_steps.specs.Acts.{as_object, with_object}
 use Rattle.aos_cpu.specs.Calls.{Gift, plain, open_gift, gifts, all_copied}
 use Rattle.aos_cpu.specs.Private.{is_own_value, copies_own}
 use Rattle.aos_cpu.proofs.Calling.{none_of, some_of}

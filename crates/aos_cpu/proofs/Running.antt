@@ -4,7 +4,7 @@ use Rattle.std.specs.Prelude.{Bool}
 use Rattle.aos_code.specs.declared.image.Image.{Image}
 use Rattle.aos_code.specs.Memory.{Memory}
 use Rattle.aos_code.specs.Machine.{Frame, Turned, turn, made_in}
-use Rattle.aos_silent.specs.Silent.{Seen}
+use Rattle.aos_silent_steps.specs.Silent.{Seen}
 use Rattle.aos_cpu.specs.Turns.{Alike, counted}
 use Rattle.aos_cpu.specs.InPlace.{on_top, HasTurnedTop, HasWorked}
 use Rattle.aos_cpu.specs.Many.{Reached, after_many, GoesFrom, HasRunOn}

@@ -24,17 +24,17 @@ use Rattle.aos_code.specs.Machine.{asker, fitted_in, here_of, object_of, argumen
 use Rattle.aos_store.specs.declared.frames.Frame.{Frame as KeptFrame}
 use Rattle.aos_store.specs.declared.frames.Frames.{Frames as KeptFrames}
 use Rattle.aos_store.specs.Store.{frame_in, list_in, frames_in}
-use Rattle.aos_silent.specs.declared.act.Question.{Question as KeptQuestion}
-use Rattle.aos_silent.specs.declared.act.Question.TheVariants.{Starts as AsksStart, Enters as AsksEnter, Leaves as AsksLeave, Awaits as AsksAwait}
-use Rattle.aos_silent.specs.declared.silent.Stop.{Stop as KeptStop}
-use Rattle.aos_silent.specs.declared.silent.Stop.TheVariants.{Work as AtWork, Begins as AtBegin}
-use Rattle.aos_silent.specs.Acts.{question_in, operands_of}
+use Rattle.aos_silent_steps.specs.declared.act.Question.{Question as KeptQuestion}
+use Rattle.aos_silent_steps.specs.declared.act.Question.TheVariants.{Starts as AsksStart, Enters as AsksEnter, Leaves as AsksLeave, Awaits as AsksAwait}
+use Rattle.aos_silent_steps.specs.declared.silent.Stop.{Stop as KeptStop}
+use Rattle.aos_silent_steps.specs.declared.silent.Stop.TheVariants.{Work as AtWork, Begins as AtBegin}
+use Rattle.aos_silent_steps.specs.Acts.{question_in, operands_of}
 use Rattle.aos_cpu.specs.Answers.{Made as HasMade, begun_at}
-use Rattle.aos_silent.specs.Silent.{Seen, stop_in, IsStopOf, silent_at, seen_at}
+use Rattle.aos_silent_steps.specs.Silent.{Seen, stop_in, IsStopOf, silent_at, seen_at}
 use Rattle.aos_cpu.specs.Turns.{SeenFrames, seen, seen_all, seen_frames, Alike, Shown, StandsAtStop, HasAnswered, Stands, Same, WhereLeft, IsBefore, IsBeforeAsking, StandsAsking, StandsAtWork, operands_left, open_behind, IsTurned, where_in, beginning, counted}
-use Rattle.aos_silent.specs.Known.{Knows}
+use Rattle.aos_silent_steps.specs.Known.{Knows}
 use Rattle.aos_cpu.proofs.Asking.{is_left, with_operands, asked_on_top, asked_again, asks_there}
-use Rattle.aos_silent.proofs.Topmost.{top_some, reverse-push}
+use Rattle.aos_silent_steps.proofs.Topmost.{top_some, reverse-push}
 
 -- The topmost frame, where it is kept last of so many.
 

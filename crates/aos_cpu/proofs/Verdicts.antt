@@ -20,12 +20,12 @@ use Rattle.aos_store.specs.declared.frames.Frame.{Frame as KeptFrame}
 use Rattle.aos_store.specs.Store.{frame_in, list_in}
 use Rattle.aos_store.specs.Room.{HasMoreRoom, AreRoomyFor}
 use Rattle.aos_store.proofs.Rooms.{more_room, roomy_set}
-use Rattle.aos_silent.specs.declared.act.Question.{Question as KeptQuestion}
-use Rattle.aos_silent.specs.declared.silent.Stop.{Stop as KeptStop}
-use Rattle.aos_silent.specs.declared.silent.Stop.TheVariants.{Work as AtWork}
-use Rattle.aos_silent.specs.Silent.{Seen, stop_in, silent_with, IsStopOf}
-use Rattle.aos_silent.specs.Conditions.{grows, need, HasRoomFor, AsksInRoom, HasMoved}
-use Rattle.aos_silent.proofs.Evaluating.{moved_further}
+use Rattle.aos_silent_steps.specs.declared.act.Question.{Question as KeptQuestion}
+use Rattle.aos_silent_steps.specs.declared.silent.Stop.{Stop as KeptStop}
+use Rattle.aos_silent_steps.specs.declared.silent.Stop.TheVariants.{Work as AtWork}
+use Rattle.aos_silent_steps.specs.Silent.{Seen, stop_in, silent_with, IsStopOf}
+use Rattle.aos_silent_steps.specs.Conditions.{grows, need, HasRoomFor, AsksInRoom, HasMoved}
+use Rattle.aos_silent_steps.proofs.Evaluating.{moved_further}
 use Rattle.aos_cpu.specs.Verdicts.{IsTop, with_top, TopHasMoved, TopHasRoom, HasTop, HasSwapped, HasGoneOn, HasStopped, IsJudged, verdict_here, or_later}
 use Rattle.aos_cpu.specs.Turns.{SeenFrames, seen, seen_all, seen_frames, Alike, StandsAsking}
 use Rattle.aos_cpu.proofs.Asking.{asked_again}

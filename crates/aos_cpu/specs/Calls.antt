@@ -14,9 +14,9 @@ use Rattle.aos_code.specs.Silent.{cells_of}
 use Rattle.aos_code.specs.Machine.{asker, Frame, behind, calls, first_cell, whole_at, lengths_in}
 use Rattle.aos_store.specs.declared.frames.Frames.{Frames as KeptFrames}
 use Rattle.aos_store.specs.Store.{list_in, frames_in}
-use Rattle.aos_silent.specs.declared.act.Way.{Way}
-use Rattle.aos_silent.specs.declared.act.Way.TheVariants.{Direct, Bound, Free}
-use Rattle.aos_silent.specs.Acts.{passed}
+use Rattle.aos_silent_steps.specs.declared.act.Way.{Way}
+use Rattle.aos_silent_steps.specs.declared.act.Way.TheVariants.{Direct, Bound, Free}
+use Rattle.aos_silent_steps.specs.Acts.{passed}
 use Rattle.aos_cpu.specs.Answers.{Made}
 use Rattle.aos_cpu.specs.declared.calls.Gift.{Gift as KeptGift}
 

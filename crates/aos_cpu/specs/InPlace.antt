@@ -9,10 +9,10 @@ use Rattle.aos_code.specs.Memory.{Memory}
 use Rattle.aos_code.specs.Silent.{Stack}
 use Rattle.aos_code.specs.Machine.{Frame, Frames, rooted, frames_with, memory_with, made_in, turn}
 use Rattle.aos_sound.specs.FitFrames.{IsSoundImage, FramesFit}
-use Rattle.aos_silent.specs.Known.{Knows}
-use Rattle.aos_silent.specs.declared.act.Question.{Question}
-use Rattle.aos_silent.specs.declared.silent.Stop.TheVariants.{Work as AtWork}
-use Rattle.aos_silent.specs.Silent.{silent_at, seen_at, stop_in, IsStopOf}
+use Rattle.aos_silent_steps.specs.Known.{Knows}
+use Rattle.aos_silent_steps.specs.declared.act.Question.{Question}
+use Rattle.aos_silent_steps.specs.declared.silent.Stop.TheVariants.{Work as AtWork}
+use Rattle.aos_silent_steps.specs.Silent.{silent_at, seen_at, stop_in, IsStopOf}
 use Rattle.aos_cpu.specs.declared.in_place.Done.{Done}
 use Rattle.aos_cpu.specs.declared.in_place.Done.TheVariants.{Silent, Turned, Begun, Asks, Nothing}
 use Rattle.aos_cpu.specs.declared.in_place.Tried.{Tried}

@@ -20,7 +20,7 @@ use Rattle.aos_store.specs.declared.frames.Frames.{Frames as KeptFrames}
 use Rattle.aos_store.specs.Store.{frames_in, SameCounts}
 use Rattle.aos_cpu.specs.declared.alone.PrivateStop.{PrivateStop}
 use Rattle.aos_cpu.specs.declared.alone.PrivateStop.TheVariants.{Most, Shared, Budget}
-use Rattle.aos_silent.specs.Known.{Knows}
+use Rattle.aos_silent_steps.specs.Known.{Knows}
 use Rattle.aos_cpu.specs.Turns.{Alike, counted}
 
 -- a memory without modules and objects, of which it is known what objects were made as

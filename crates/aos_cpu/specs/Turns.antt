@@ -13,12 +13,12 @@ use Rattle.aos_code.specs.Silent.{Question, Work}
 use Rattle.aos_code.specs.Machine.{asker, Frame, Frames, Turned, opened, lowest_home, made_in, stop_of, turn, answer}
 use Rattle.aos_store.specs.declared.frames.Frames.{Frames as KeptFrames}
 use Rattle.aos_store.specs.Store.{list_in, frames_in}
-use Rattle.aos_silent.specs.declared.act.Question.{Question as KeptQuestion}
-use Rattle.aos_silent.specs.declared.act.Question.TheVariants.{Starts as AsksStart}
-use Rattle.aos_silent.specs.declared.silent.Stop.{Stop as KeptStop}
-use Rattle.aos_silent.specs.Acts.{question_in, operands_of}
-use Rattle.aos_silent.specs.Known.{Knows}
-use Rattle.aos_silent.specs.Silent.{Seen, stop_in, IsStopOf, seen_at}
+use Rattle.aos_silent_steps.specs.declared.act.Question.{Question as KeptQuestion}
+use Rattle.aos_silent_steps.specs.declared.act.Question.TheVariants.{Starts as AsksStart}
+use Rattle.aos_silent_steps.specs.declared.silent.Stop.{Stop as KeptStop}
+use Rattle.aos_silent_steps.specs.Acts.{question_in, operands_of}
+use Rattle.aos_silent_steps.specs.Known.{Knows}
+use Rattle.aos_silent_steps.specs.Silent.{Seen, stop_in, IsStopOf, seen_at}
 use Rattle.aos_cpu.specs.Answers.{Made as HasMade}
 
 -- what is seen of an activity's frames: of the topmost one, what is seen of a frame; those below as they are

@@ -13,11 +13,11 @@ use Rattle.aos_code.specs.Machine.{Frame, condition_of, judged, verdict_from}
 use Rattle.aos_store.specs.declared.frames.Frame.{Frame as KeptFrame}
 use Rattle.aos_store.specs.Store.{frame_in}
 use Rattle.aos_store.specs.Room.{HasMoreRoom}
-use Rattle.aos_silent.specs.declared.act.Question.{Question as KeptQuestion}
-use Rattle.aos_silent.specs.declared.silent.Stop.{Stop as KeptStop}
-use Rattle.aos_silent.specs.Acts.{question_in, operands_of}
-use Rattle.aos_silent.specs.Silent.{stop_in, silent_with, IsStopOf}
-use Rattle.aos_silent.specs.Conditions.{need, HasRoomFor, AsksInRoom, HasMoved}
+use Rattle.aos_silent_steps.specs.declared.act.Question.{Question as KeptQuestion}
+use Rattle.aos_silent_steps.specs.declared.silent.Stop.{Stop as KeptStop}
+use Rattle.aos_silent_steps.specs.Acts.{question_in, operands_of}
+use Rattle.aos_silent_steps.specs.Silent.{stop_in, silent_with, IsStopOf}
+use Rattle.aos_silent_steps.specs.Conditions.{need, HasRoomFor, AsksInRoom, HasMoved}
 
 -- the topmost frame, and frames with another one in its place
 abbrev pub IsTop : List KeptFrame → KeptFrame → Type 0

@@ -1,8 +1,8 @@
 // Turns on an activity's own frames alone.
 ghost use Rattle.std.specs.Prelude.{◌≡◌, ◌≤◌, ◌∷◌, ◌&&◌, List, [], true, false, drop, reverse, if◌then◌else◌, IfOk, OnErr};
 ghost use Rattle.aos_store.specs.Store.{list_in, frames_in, memory_in, SameCounts};
-ghost use Rattle.aos_silent.specs.Acts.{question_in};
-ghost use Rattle.aos_silent.specs.Room.{StayFit};
+ghost use Rattle.aos_silent_steps.specs.Acts.{question_in};
+ghost use Rattle.aos_silent_steps.specs.Room.{StayFit};
 ghost use Rattle.aos_cpu.specs.Turns.{Alike, StandsAtStop};
 ghost use Rattle.aos_cpu.specs.Private.{no_memory, made_by, is_of_frame as is_of_frame_root, is_own_value as is_own_cell, copies_own as copies_own_for, is_own as is_own_question, is_own_turn, is_private, HasTried, IsMadePrivately, turns_since, stop_after, WhereShared};
 
@@ -11,7 +11,7 @@ use crate::in_place::make_in_place;
 use crate::turn::{come_to_stop, finish};
 use aos_base::{Did, NoMemory, Root};
 use aos_code::{Cell, Image, ParamKind};
-use aos_silent::{Question, Stop, numbered};
+use aos_silent_steps::{Question, Stop, numbered};
 use aos_store::{Frames, Heap, Store};
 use std::alloc::Global;
 

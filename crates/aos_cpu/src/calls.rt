@@ -8,9 +8,9 @@ ghost use Rattle.aos_code.specs.Machine.{Frame as FrameOf, if_all, whole_at, len
 ghost use Rattle.aos_sound.specs.FitFrames.{depth_of as depth_of_body};
 ghost use Rattle.aos_store.specs.Store.{frame_in, list_in, frames_in, memory_in, rooted_in, SameCounts};
 ghost use Rattle.aos_store.specs.Room.{IsRoomyFor, AreRoomyFor, HasRoom, MakesRoom};
-ghost use Rattle.aos_silent.specs.Room.{AreRoomy};
-ghost use Rattle.aos_silent.specs.declared.act.Question.TheVariants.{Calls};
-ghost use Rattle.aos_silent.specs.Acts.{behind_value as behind_value_of, first_as_object, with_object};
+ghost use Rattle.aos_silent_steps.specs.Room.{AreRoomy};
+ghost use Rattle.aos_silent_steps.specs.declared.act.Question.TheVariants.{Calls};
+ghost use Rattle.aos_silent_steps.specs.Acts.{behind_value as behind_value_of, first_as_object, with_object};
 ghost use Rattle.aos_cpu.specs.Turns.{HasAnswered, Same, WhereLeft};
 ghost use Rattle.aos_cpu.specs.Calls.{plain as plain_of, copied as copied_of, gift_in, gift_of, gifts, all_copied, gift_cells, all_cells, called_cells, called, may_pass as may_pass_of, IsCalled, IsEntered, sized, open_gift, Gift as GiftOf};
 
@@ -18,7 +18,7 @@ use crate::answers::go_behind;
 use crate::texts::{cells_below, front, length_of};
 use aos_base::{Did, NoMemory, Root};
 use aos_code::{Cell, Image, Kind, ParamKind, ProcShape};
-use aos_silent::{Way, numbered};
+use aos_silent_steps::{Way, numbered};
 use aos_store::{Frame, Frames, Store};
 use std::alloc::Global;
 

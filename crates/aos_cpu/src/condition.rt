@@ -5,13 +5,13 @@ ghost use Rattle.aos_code.specs.Machine.{verdict as verdict_of, decided as decid
 ghost use Rattle.aos_store.specs.declared.frames.Frame.{Frame as KeptFrame};
 ghost use Rattle.aos_store.specs.Store.{list_in, frames_in, memory_in, rooted_in, SameCounts};
 ghost use Rattle.aos_store.specs.Room.{KeepsRoom};
-ghost use Rattle.aos_silent.specs.Known.{known};
+ghost use Rattle.aos_silent_steps.specs.Known.{known};
 ghost use Rattle.aos_cpu.specs.Verdicts.{IsTop, TopHasMoved, TopHasRoom, HasTop, HasRoomIn, HasStopped, HasSwapped, HasGoneOn, IsJudged, verdict_here, or_later};
 
 use crate::texts::compare_at;
 use aos_base::{Verdict, related, truth};
 use aos_code::{Cell, Image, Instr};
-use aos_silent::{Question, Stop, condition_of, is_of, replace, silent_condition};
+use aos_silent_steps::{Question, Stop, condition_of, is_of, replace, silent_condition};
 use aos_store::{Frames, Heap, Store, load_at};
 use std::mem;
 

@@ -8,10 +8,10 @@ ghost use Rattle.aos_code.specs.Silent.{act, gives, keeps_in};
 ghost use Rattle.aos_code.specs.Machine.{Frame as FrameOf, rooted, made_in, code_of as code_at};
 ghost use Rattle.aos_store.specs.Store.{frame_in, frames_in, memory_in, SameCounts};
 ghost use Rattle.aos_store.specs.Room.{HasMoreRoom};
-ghost use Rattle.aos_silent.specs.Acts.{IsBeginOf, WhereStays};
-ghost use Rattle.aos_silent.specs.Silent.{here_at};
-ghost use Rattle.aos_silent.specs.Steps.{IsStepOf};
-ghost use Rattle.aos_silent.specs.Room.{StayFit};
+ghost use Rattle.aos_silent_steps.specs.Acts.{IsBeginOf, WhereStays};
+ghost use Rattle.aos_silent_steps.specs.Silent.{here_at};
+ghost use Rattle.aos_silent_steps.specs.Steps.{IsStepOf};
+ghost use Rattle.aos_silent_steps.specs.Room.{StayFit};
 ghost use Rattle.aos_cpu.specs.Turns.{counted};
 ghost use Rattle.aos_cpu.specs.Private.{no_memory, IsMadePrivately};
 ghost use Rattle.aos_cpu.specs.Many.{HasRunOn};
@@ -19,13 +19,13 @@ ghost use Rattle.aos_cpu.specs.InPlace.{IsAhead, HasSet, IsDone, HasRunTop, HasT
 
 use aos_base::{Binary, Given, Pos, Root, apply_binary};
 use aos_code::{Cell, Image, Instr, Kind};
-use aos_silent::act::Act;
-use aos_silent::instruction::do_one;
-use aos_silent::objects::tell_cell;
-use aos_silent::operands::{address, is_of, numbers, of_kind};
-use aos_silent::step::give_value;
-use aos_silent::values::{jump, jump_on_false};
-use aos_silent::{Address, Question, code_of, keeps_of, replace, take};
+use aos_silent_steps::{Address, Question, code_of, keeps_of, replace, take};
+use aos_silent_steps::act::Act;
+use aos_silent_steps::instruction::do_one;
+use aos_silent_steps::objects::tell_cell;
+use aos_silent_steps::operands::{address, is_of, numbers, of_kind};
+use aos_silent_steps::step::give_value;
+use aos_silent_steps::values::{jump, jump_on_false};
 use aos_store::{Change, Frame, Frames, Store};
 
 /// What an instruction has done to the topmost frame: silent work; a turn, in which no statement has begun, or one has; or nothing,

@@ -13,7 +13,7 @@ pub mod turn;
 
 pub use alone::{PrivateStop, private};
 pub use aos_base::{Did, LockName};
-pub use aos_silent::{code_of, home_of, numbered};
+pub use aos_silent_steps::{code_of, home_of, numbered};
 pub use condition::verdict;
 pub use runs::many;
 pub use turn::{begin_body, open, pass, position, shared};

@@ -6,7 +6,7 @@ ghost use Rattle.aos_code.specs.Silent.{cells_of};
 ghost use Rattle.aos_code.specs.Machine.{first_cell as first_cell_of, number_in, times};
 ghost use Rattle.aos_store.specs.Store.{memory_in, SameCounts};
 ghost use Rattle.aos_store.specs.Room.{KeepsRoom};
-ghost use Rattle.aos_silent.specs.declared.act.Question.TheVariants.{Makes};
+ghost use Rattle.aos_silent_steps.specs.declared.act.Question.TheVariants.{Makes};
 ghost use Rattle.aos_cpu.specs.Turns.{HasAnswered, Same, WhereLeft};
 ghost use Rattle.aos_cpu.specs.Makes.{IsMadeWith, AreLengths, HasLengths};
 
@@ -14,7 +14,7 @@ use crate::answers::put_behind;
 use crate::calls::{add_first, arguments};
 use aos_base::{Did, MOST_SCALARS, NoMemory};
 use aos_code::{Cell, Image, Kind, TypeDesc};
-use aos_silent::numbered;
+use aos_silent_steps::numbered;
 use aos_store::{Frames, Store};
 use std::alloc::Global;
 

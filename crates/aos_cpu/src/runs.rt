@@ -1,12 +1,12 @@
 // Turns in place, one behind another, over the memory as it is.
 ghost use Rattle.std.specs.Prelude.{◌≡◌, ◌≤◌};
 ghost use Rattle.aos_store.specs.Store.{memory_in};
-ghost use Rattle.aos_silent.specs.Room.{StayFit};
+ghost use Rattle.aos_silent_steps.specs.Room.{StayFit};
 ghost use Rattle.aos_cpu.specs.Many.{HasRunMany};
 
 use crate::in_place::run_top;
 use aos_code::Image;
-use aos_silent::{code_of, keeps_of};
+use aos_silent_steps::{code_of, keeps_of};
 use aos_store::{Frames, Store};
 
 /// Turns of the topmost frame that are made in place, so many at most, while fewer statements have begun than the budget: how many

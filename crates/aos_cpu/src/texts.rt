@@ -7,14 +7,14 @@ ghost use Rattle.aos_code.specs.declared.instr.Cell.TheVariants.{Num};
 ghost use Rattle.aos_code.specs.Machine.{cells_at as cells_of_place, if_all, code_in, text_in, text_at, length_in, character_cells, fitted, memory_with};
 ghost use Rattle.aos_store.specs.Store.{list_in, frames_in, memory_in, rooted_in, has_all, with_frames, SameCounts};
 ghost use Rattle.aos_store.specs.Room.{KeepsRoom};
-ghost use Rattle.aos_silent.specs.Acts.{addr_in};
+ghost use Rattle.aos_silent_steps.specs.Acts.{addr_in};
 ghost use Rattle.aos_cpu.specs.Answers.{IsAnswered, IsFitted, code_from, same_character, order_of, ordered};
 ghost use Rattle.aos_cpu.specs.Turns.{Same, WhereLeft};
 
 use crate::answers::{go_behind, put_behind};
 use aos_base::{Did, NoMemory, Relation, Root, related, truth};
 use aos_code::Cell;
-use aos_silent::Address;
+use aos_silent_steps::Address;
 use aos_store::{Frames, Object, Store, len_at, store_at};
 use std::alloc::Global;
 

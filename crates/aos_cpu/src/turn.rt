@@ -4,9 +4,9 @@ ghost use Rattle.aos_base.specs.Rooted.{Made};
 ghost use Rattle.aos_code.specs.Machine.{Frame as FrameOf, Frames as FramesOf, opened, past, is_passed, position as position_at, body_frame};
 ghost use Rattle.aos_store.specs.Store.{frame_in, list_in, frames_in, memory_in, SameCounts};
 ghost use Rattle.aos_store.specs.Room.{HasMoreRoom, KeepsRoom};
-ghost use Rattle.aos_silent.specs.Room.{AreRoomy, StayFit};
-ghost use Rattle.aos_silent.specs.Known.{known};
-ghost use Rattle.aos_silent.specs.declared.silent.Stop.TheVariants.{Work as AtWork};
+ghost use Rattle.aos_silent_steps.specs.Room.{AreRoomy, StayFit};
+ghost use Rattle.aos_silent_steps.specs.Known.{known};
+ghost use Rattle.aos_silent_steps.specs.declared.silent.Stop.TheVariants.{Work as AtWork};
 ghost use Rattle.aos_cpu.specs.Answers.{begun_at};
 ghost use Rattle.aos_cpu.specs.Turns.{where_in, counted, beginning as beginning_of, Alike, HasCome, StandsAtStop, StandsAtWork, operands_left, open_behind, IsTurned, IsBefore, Rests, WhereLeft};
 
@@ -16,7 +16,7 @@ use crate::in_place::{Tried, count, turn_in_place};
 use aos_base::{Did, NoMemory, Pos};
 use aos_code::Image;
 use aos_found::finds;
-use aos_silent::{Question, Stop, home_of, keeps_of, silent_from, take};
+use aos_silent_steps::{Question, Stop, home_of, keeps_of, silent_from, take};
 use aos_store::{Frame, Frames, Heap, Store};
 use std::alloc::Global;
 

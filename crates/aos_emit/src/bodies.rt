@@ -15,9 +15,9 @@ use aos_code::{Body, Instr};
 use aos_dispatch::{Routine, routines_of};
 use aos_emit_expr::{Scope, Within, put};
 use aos_emit_stat::emit_left;
-use aos_laid::Laid;
 use aos_layout::FrameShape;
 use aos_need::stats_need;
+use aos_program_layout::Laid;
 use aos_typed::{Program, TProcedure, TStat};
 use std::alloc::{AllocError, Global};
 

@@ -16,9 +16,9 @@ use aos_base::NoMemory;
 use aos_code::{Body, Instr};
 use aos_dispatch::{Prefix, Routine, awaits_of, routines_of};
 use aos_emit_expr::{Scope, emit_front, put};
-use aos_laid::Laid;
 use aos_layout::FrameShape;
 use aos_need::value_need;
+use aos_program_layout::Laid;
 use aos_typed::{Program, TExpr, TProcedure};
 use std::alloc::{AllocError, Global};
 

@@ -12,7 +12,7 @@ ghost use Rattle.aos_emit_expr.specs.Scope.{AreOwn, program_of, own_of, in_regio
 
 use crate::regions::Within;
 use aos_code::Kind;
-use aos_laid::Laid;
+use aos_program_layout::Laid;
 use aos_typed::{TProcedure, TType};
 use std::alloc::{AllocError, Global};
 use std::marker::Model;

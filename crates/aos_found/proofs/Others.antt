@@ -5,9 +5,9 @@ use Rattle.aos_code.specs.declared.instr.Cell.{Cell}
 use Rattle.aos_code.specs.declared.image.TypeDesc.{TypeDesc}
 use Rattle.aos_code.specs.Memory.{Memory}
 use Rattle.aos_code.specs.Machine.{Frame, finds}
-use Rattle.aos_silent.specs.declared.act.Question.{Question}
-use Rattle.aos_silent.specs.declared.act.Question.TheVariants.{Ends, Starts, Leaves, Awaits}
-use Rattle.aos_silent.specs.Acts.{question_in}
+use Rattle.aos_silent_steps.specs.declared.act.Question.{Question}
+use Rattle.aos_silent_steps.specs.declared.act.Question.TheVariants.{Ends, Starts, Leaves, Awaits}
+use Rattle.aos_silent_steps.specs.Acts.{question_in}
 
 -- any other question's work needs nothing
 pub others_find : (types : List TypeDesc) (q : Question) (f : Frame) (mem : Memory) → ((v : Option Cell) → q ≡ Ends v → ⊥) → ((o : ℕ) → q ≡ Starts o → ⊥) → (q ≡ Leaves → ⊥) → ((c : ℕ) → q ≡ Awaits c → ⊥) →

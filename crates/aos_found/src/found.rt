@@ -3,11 +3,11 @@ ghost use Rattle.std.specs.Prelude.{◌≡◌, ◌∷◌, List};
 ghost use Rattle.aos_code.specs.declared.instr.Cell.TheVariants.{Ref};
 ghost use Rattle.aos_code.specs.Numbered.{numbered as numbered_of};
 ghost use Rattle.aos_code.specs.Machine.{Frame as FrameOf, has_active_body as has_active_body_of, is_startable as is_startable_of, finds as finds_of};
-ghost use Rattle.aos_silent.specs.Acts.{question_in};
+ghost use Rattle.aos_silent_steps.specs.Acts.{question_in};
 ghost use Rattle.aos_store.specs.Store.{list_in, memory_in};
 
 use aos_code::{Image, TypeDesc};
-use aos_silent::{Question, numbered};
+use aos_silent_steps::{Question, numbered};
 use aos_store::{Frames, Store};
 
 /// Whether the type of this number has an active body.

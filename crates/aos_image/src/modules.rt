@@ -9,7 +9,7 @@ ghost use Rattle.aos_sim.specs.Shows.{text_cells};
 ghost use Rattle.aos_image.specs.Made.{AreModules};
 
 use aos_code::{Cell, Kind, ModuleDesc};
-use aos_laid::Laid;
+use aos_program_layout::Laid;
 use aos_typed::{Program, TModule};
 use std::alloc::{AllocError, Global};
 

@@ -13,8 +13,8 @@ use crate::level::stats_level;
 use aos_base::NoMemory;
 use aos_code::ProcShape;
 use aos_dispatch::{Routine, routines_of};
-use aos_laid::Laid;
 use aos_layout::FrameShape;
+use aos_program_layout::Laid;
 use aos_typed::{Program, TProcedure, TStat};
 use std::alloc::{AllocError, Global};
 

@@ -13,8 +13,8 @@ ghost use Rattle.aos_image.specs.Made.{AreKindsOf, AreTypesOf, active_at, body_a
 use aos_base::NoMemory;
 use aos_code::{Kind, TypeDesc};
 use aos_dispatch::PREDECLARED_TYPES;
-use aos_laid::Laid;
 use aos_layout::{base_number, made_kinds, made_types, object_base, object_kinds};
+use aos_program_layout::Laid;
 use aos_typed::Program;
 use aos_types::{TypeId, Types};
 use std::alloc::{AllocError, Global};

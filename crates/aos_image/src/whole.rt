@@ -9,15 +9,15 @@ ghost use Rattle.aos_typed.specs.WellTyped.{IsWellTyped};
 ghost use Rattle.aos_sim.specs.Code.{body_code, condition_code};
 ghost use Rattle.aos_sim.specs.Need.{body_need, value_need, HasDepthsOf};
 ghost use Rattle.aos_sim.specs.Shows.{IsCodeOf, Shows};
-ghost use Rattle.aos_pieces.specs.Images.{IsSoundImageOf};
+ghost use Rattle.aos_code_soundness.specs.Images.{IsSoundImageOf};
 
 use crate::modules::modules_of;
 use crate::shapes::shapes_of;
 use crate::types::types_of;
 use aos_base::NoMemory;
 use aos_code::{Body, Image};
-use aos_laid::Laid;
-use aos_pieces::law_of_images;
+use aos_code_soundness::law_of_images;
+use aos_program_layout::Laid;
 use aos_sim::image_shows_program;
 use aos_typed::Program;
 use std::alloc::Global;

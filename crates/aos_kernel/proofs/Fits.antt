@@ -9,7 +9,7 @@ use Rattle.aos_sound.proofs.FitsFrames.{first_fit, body_fits}
 use Rattle.aos_store.specs.declared.frames.Frames.{Frames as Kept}
 use Rattle.aos_store.specs.Store.{frame_in, frames_in}
 use Rattle.aos_store.proofs.Rooms.{none_roomy}
-use Rattle.aos_silent.specs.Room.{keeps_for, AreRoomy, FitInRoom}
+use Rattle.aos_silent_steps.specs.Room.{keeps_for, AreRoomy, FitInRoom}
 
 -- where no frames are shown there are none
 no_frame_roomy : (image : Image) (kept : Kept) (fs : Frames) → frames_in kept ≡ fs → fs.frames ≡ [] → AreRoomy image kept

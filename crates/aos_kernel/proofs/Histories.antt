@@ -17,8 +17,8 @@ use Rattle.aos_kernel.specs.declared.log.Stepped.{Stepped}
 use Rattle.aos_kernel.specs.declared.log.Stepped.TheVariants.{Turned, Dispatched, Idle, Over}
 use Rattle.aos_base.specs.Schedule.{choices, IsEntry}
 use Rattle.aos_kernel.specs.Run.{Run, after, state_of, without_last, state_before, stepped_with, stepped_while, comes_to, has_activity, ticks_while, ticks, if_spent}
-use Rattle.aos_line.specs.Stands.{IsStood}
-use Rattle.aos_line.proofs.Standing.{worker_on}
+use Rattle.aos_scheduler.specs.Stands.{IsStood}
+use Rattle.aos_scheduler.proofs.Standing.{worker_on}
 use Rattle.aos_kernel.specs.Shows.{Shows, HasTurn, HandsOut}
 use Rattle.aos_kernel.specs.Keeps.{Keeps}
 

@@ -15,7 +15,7 @@ use Rattle.aos_code.specs.Memory.{Memory}
 use Rattle.aos_code.specs.Machine.{Frames, machine, made_in, first_memory, first_frames, first_state}
 use Rattle.aos_store.specs.Store.{frames_in}
 use Rattle.aos_sound.specs.FitFrames.{IsSoundImage}
-use Rattle.aos_silent.specs.Room.{FitInRoom}
+use Rattle.aos_silent_steps.specs.Room.{FitInRoom}
 use Rattle.aos_cpu.specs.Turns.{Alike}
 use Rattle.aos_cpu.specs.Private.{made_by, after_turns, begun_after}
 use Rattle.aos_concurrency.specs.Orderly.{Orderly}

@@ -14,7 +14,7 @@ use Rattle.aos_base.specs.Schedule.{choices, IsEntry}
 use Rattle.aos_code.specs.declared.image.Image.{Image}
 use Rattle.aos_code.specs.Memory.{Memory}
 use Rattle.aos_code.specs.Machine.{Frames, Turned, machine, made_in, turn, first_state}
-use Rattle.aos_silent.specs.Known.{Knows}
+use Rattle.aos_silent_steps.specs.Known.{Knows}
 use Rattle.aos_cpu.specs.Turns.{counted}
 use Rattle.aos_cpu.specs.Many.{Reached, after_many, RunsOn}
 use Rattle.aos_cpu.proofs.Growing.{turn_grows}

@@ -17,14 +17,14 @@ use Rattle.aos_code.specs.declared.image.Image.{Image}
 use Rattle.aos_code.specs.Machine.{Frames}
 use Rattle.aos_store.specs.declared.frames.Frames.{Frames as Kept}
 use Rattle.aos_store.specs.Store.{frames_in}
-use Rattle.aos_silent.specs.Known.{Knows}
+use Rattle.aos_silent_steps.specs.Known.{Knows}
 use Rattle.aos_cpu.proofs.Turns.{alike_more}
 use Rattle.aos_cpu.specs.Turns.{counted as counted_on, Alike}
 use Rattle.aos_kernel.specs.declared.activity.Next.{Next}
 use Rattle.aos_kernel.specs.declared.activity.Next.TheVariants.{Runs, Lent, WillTrap, Unwinds, Gone}
 use Rattle.aos_kernel.specs.declared.activity.Activity.{Activity}
 use Rattle.aos_kernel.specs.Shows.{has_frames, ShowsFrames, ShowsActivity, IsWaiting, IsPopped}
-use Rattle.aos_line.proofs.Members.{by_case, each_at}
+use Rattle.aos_scheduler.proofs.Members.{by_case, each_at}
 
 pub put_same : {A : Type 0} (f : ℕ → A) (k : ℕ) (v : A) → put nat_eq f k v k ≡ v
 put_same f k v = by_case (λ q. (if q then v else f k) ≡ v) k k (λ e. refl) (λ ne. absurd (ne refl))

@@ -27,17 +27,17 @@ use Rattle.aos_store.specs.declared.frames.Frames.{Frames as Kept}
 use Rattle.aos_store.specs.declared.memory.Store.{Store}
 use Rattle.aos_store.specs.Store.{list_in, frames_in, memory_in}
 use Rattle.aos_sound.specs.FitFrames.{IsSoundImage, depth_of}
-use Rattle.aos_silent.specs.Known.{Knows}
-use Rattle.aos_silent.specs.Room.{keeps_for, FitInRoom, StayFit}
+use Rattle.aos_silent_steps.specs.Known.{Knows}
+use Rattle.aos_silent_steps.specs.Room.{keeps_for, FitInRoom, StayFit}
 use Rattle.aos_cpu.proofs.Turns.{alike_both, none_other, some_same}
 use Rattle.aos_cpu.proofs.Fitting.{same_stay}
 use Rattle.aos_cpu.proofs.Growing.{turn_grows}
 use Rattle.aos_cpu.specs.Turns.{where_in, Alike, Shown, Rests, IsBefore, WhereLeft}
 use Rattle.aos_ready.specs.Order.{number_of}
-use Rattle.aos_line.specs.declared.line.Line.{Line}
-use Rattle.aos_line.specs.Stands.{Stands, IsOn, started_of}
-use Rattle.aos_line.proofs.Readings.{place-moved, place-unmoved, place-gone, place-other}
-use Rattle.aos_line.proofs.Standing.{on_place, on_within, on_same}
+use Rattle.aos_scheduler.specs.declared.line.Line.{Line}
+use Rattle.aos_scheduler.specs.Stands.{Stands, IsOn, started_of}
+use Rattle.aos_scheduler.proofs.Readings.{place-moved, place-unmoved, place-gone, place-other}
+use Rattle.aos_scheduler.proofs.Standing.{on_place, on_within, on_same}
 use Rattle.aos_kernel.specs.declared.activity.Next.{Next}
 use Rattle.aos_kernel.specs.declared.activity.Next.TheVariants.{Runs, Lent, WillTrap, Unwinds, Gone}
 use Rattle.aos_kernel.specs.declared.activity.Activity.{Activity}
@@ -50,7 +50,7 @@ use Rattle.aos_kernel.proofs.Fits.{none_fit}
 use Rattle.aos_settling.specs.Settling.{IsTallied}
 use Rattle.aos_settling.proofs.Tallies.{not_less}
 use Rattle.aos_kernel.proofs.Rows.{put_same, put_other, set_here, get_below, frames_alike, each_grown, each_after, get_before, each_joined, EachShows, not_spent, begun_after, EachWaits, waits_after, no_wait, kept_others}
-use Rattle.aos_line.proofs.Members.{each_at}
+use Rattle.aos_scheduler.proofs.Members.{each_at}
 
 module _ (image : Image) (earlier : List Event) (d : KernelTables) (st : State Memory Frames) (h : Shows image earlier d st) where
   -- places, owners and events have changed

@@ -13,7 +13,7 @@ use Rattle.aos_code.specs.Machine.{Frames, made_in}
 use Rattle.aos_store.specs.declared.frames.Frames.{Frames as Kept}
 use Rattle.aos_store.specs.Store.{frames_in}
 use Rattle.aos_sound.specs.FitFrames.{IsSoundImage}
-use Rattle.aos_silent.specs.Room.{FitInRoom}
+use Rattle.aos_silent_steps.specs.Room.{FitInRoom}
 use Rattle.aos_cpu.specs.Turns.{Alike}
 use Rattle.aos_cpu.specs.Private.{is_private}
 use Rattle.aos_settling.specs.Settling.{IsTallied}

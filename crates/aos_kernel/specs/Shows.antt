@@ -19,12 +19,12 @@ use Rattle.aos_code.specs.Machine.{Frames, machine, made_in, turn, verdict}
 use Rattle.aos_store.specs.declared.frames.Frames.{Frames as Kept}
 use Rattle.aos_store.specs.Store.{frames_in, memory_in}
 use Rattle.aos_sound.specs.FitFrames.{IsSoundImage}
-use Rattle.aos_silent.specs.Room.{FitInRoom}
+use Rattle.aos_silent_steps.specs.Room.{FitInRoom}
 use Rattle.aos_cpu.specs.Turns.{Alike, StandsAtWork, IsBefore}
 use Rattle.aos_lock.specs.declared.lock.Passed.{Passed}
 use Rattle.aos_lock.specs.declared.lock.Passed.TheVariants.{Waiter, Entrant, Free}
 use Rattle.aos_ready.specs.Order.{number_of}
-use Rattle.aos_line.specs.Stands.{Stands, StandsSame, IsOn, places_of, started_of, live_of}
+use Rattle.aos_scheduler.specs.Stands.{Stands, StandsSame, IsOn, places_of, started_of, live_of}
 use Rattle.aos_kernel.specs.declared.activity.Next.{Next}
 use Rattle.aos_kernel.specs.declared.activity.Next.TheVariants.{Runs, Lent, WillTrap, Unwinds, Gone}
 use Rattle.aos_kernel.specs.declared.activity.Activity.{Activity}

@@ -6,7 +6,7 @@ ghost use Rattle.aos_base.specs.Rooted.{Made as MadeAs};
 ghost use Rattle.aos_code.specs.Machine.{Frames as FramesOf, bodies, body_frame, body_of, level, position, priority_of as priority_in, regions_of};
 ghost use Rattle.aos_store.specs.declared.frames.Frames.{Frames as KeptFrames};
 ghost use Rattle.aos_store.specs.Store.{frames_in, memory_in};
-ghost use Rattle.aos_silent.specs.Room.{AreRoomy};
+ghost use Rattle.aos_silent_steps.specs.Room.{AreRoomy};
 ghost use Rattle.aos_cpu.specs.Turns.{where_in, Alike};
 ghost use Rattle.aos_kernel.specs.Shows.{IsPopped, IsEmptied};
 

@@ -15,14 +15,14 @@ ghost use Rattle.aos_kernel.specs.Run.{among, state_of, events_of, traps_of, wai
 
 use crate::activity::{Activity, Next, next_of};
 use crate::conditions::stack_for;
-use crate::tables::KernelTables;
 use crate::loans::{is_among, take_out};
 use crate::log::{Stepped, add_step};
 use crate::runs::{add_steps, in_entry};
+use crate::tables::KernelTables;
 use aos_base::{Event, NoMemory, Outcome, Priority, Sched};
 use aos_code::{Image, TrapRec, WaitRec};
-use aos_line::Line;
 use aos_loan::Loan;
+use aos_scheduler::Line;
 use aos_store::{Frames, Store};
 use std::alloc::Global;
 use std::marker::Model;

@@ -6,13 +6,13 @@ ghost use Rattle.aos_base.specs.Machine.{State, on_book};
 ghost use Rattle.aos_code.specs.declared.image.Image.{Image};
 ghost use Rattle.aos_code.specs.Memory.{Memory};
 ghost use Rattle.aos_code.specs.Machine.{Frames as FramesOf};
-ghost use Rattle.aos_line.specs.Stands.{IsStood, running_of, started_of, HasRoomMore};
+ghost use Rattle.aos_scheduler.specs.Stands.{IsStood, running_of, started_of, HasRoomMore};
 ghost use Rattle.aos_kernel.specs.Shows.{Shows, Performs, ShowsSame, HasSame, HasTurn};
 
 use crate::activity::{Activity, drop_frames, priority_of};
 use aos_base::{Event, MOST_LIVE, MOST_STARTED, NoMemory, Outcome};
 use aos_code::{Cell, TrapRec};
-use aos_line::Line;
+use aos_scheduler::Line;
 use aos_store::Store;
 use std::alloc::Global;
 

@@ -11,8 +11,8 @@ use Rattle.aos_code.specs.Memory.{Memory}
 use Rattle.aos_code.specs.Machine.{Frames, machine, made_in, turn}
 use Rattle.aos_store.specs.Store.{frames_in}
 use Rattle.aos_sound.specs.FitFrames.{IsSoundImage}
-use Rattle.aos_silent.specs.Known.{Knows}
-use Rattle.aos_silent.specs.Room.{FitInRoom, StayFit}
+use Rattle.aos_silent_steps.specs.Known.{Knows}
+use Rattle.aos_silent_steps.specs.Room.{FitInRoom, StayFit}
 use Rattle.aos_cpu.specs.Turns.{Alike, counted}
 use Rattle.aos_cpu.specs.Private.{made_by, alone, IsPrivate, after_turns, begun_after, Privately, IsMadePrivately}
 use Rattle.aos_cpu.proofs.Own.{first_turn, first_begun}

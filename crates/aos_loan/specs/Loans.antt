@@ -9,8 +9,8 @@ use Rattle.aos_code.specs.Machine.{Frames, made_in}
 use Rattle.aos_store.specs.declared.frames.Frames.{Frames as KeptFrames}
 use Rattle.aos_store.specs.Store.{frames_in}
 use Rattle.aos_sound.specs.FitFrames.{IsSoundImage}
-use Rattle.aos_silent.specs.Known.{Knows}
-use Rattle.aos_silent.specs.Room.{FitInRoom}
+use Rattle.aos_silent_steps.specs.Known.{Knows}
+use Rattle.aos_silent_steps.specs.Room.{FitInRoom}
 use Rattle.aos_cpu.specs.Turns.{Alike}
 use Rattle.aos_cpu.specs.Private.{made_by, alone, IsPrivate, after_turns, begun_after}
 

@@ -4,7 +4,7 @@ ghost use Rattle.std.specs.Arc.{arc_value};
 ghost use Rattle.aos_base.specs.Rooted.{Made};
 ghost use Rattle.aos_code.specs.Machine.{Frames as FramesOf};
 ghost use Rattle.aos_store.specs.Store.{frames_in};
-ghost use Rattle.aos_silent.specs.Room.{StayFit};
+ghost use Rattle.aos_silent_steps.specs.Room.{StayFit};
 ghost use Rattle.aos_cpu.specs.Private.{is_private};
 ghost use Rattle.aos_loan.specs.Loans.{IsMadeOf};
 

@@ -8,8 +8,8 @@ use Rattle.aos_base.specs.Rooted.{Made, by_number}
 use Rattle.aos_types.specs.Content.{Fits}
 use Rattle.aos_types.specs.World.{World, Grows}
 use Rattle.aos_code.specs.declared.instr.Cell.{Cell}
-use Rattle.aos_places.specs.Shows.{FramesShown}
-use Rattle.aos_places.proofs.Grow.{objects_grow}
+use Rattle.aos_memory_laws.specs.Shows.{FramesShown}
+use Rattle.aos_memory_laws.proofs.Grow.{objects_grow}
 use Rattle.aos_typed.specs.declared.tree.TType.{TType}
 use Rattle.aos_typed.specs.declared.tree.TType.TheVariants.{Boolean}
 use Rattle.aos_typed.specs.Numbers.{id_of}
@@ -26,9 +26,9 @@ use Rattle.aos_sim.proofs.Does.{HasTypes, IsFrameOf, IsResult, IsSelf, Knows, sc
 use Rattle.aos_sim.proofs.Kept.{values_kept}
 use Rattle.aos_sim.proofs.States.{shapes_of, top_shape, world_of}
 use Rattle.aos_handover.specs.Kinds.{follow, so_far, IsAsking, IsNext, Stood, Followed, AnotherRound, Repeated, Behind, HasHad, Rests, Begins, GoesOn, Tested, IsLeft, AtEnd, AtResult, Nowhere, Stands}
-use Rattle.aos_naming.specs.Items.{ItemsFine}
-use Rattle.aos_naming.specs.Naming.{IsOf}
-use Rattle.aos_naming.proofs.Items.{had_fine, next_fine}
+use Rattle.aos_escape.specs.Items.{ItemsFine}
+use Rattle.aos_escape.specs.Naming.{IsOf}
+use Rattle.aos_escape.proofs.Items.{had_fine, next_fine}
 use Rattle.aos_preservation.proofs.Exprs.{value_typed}
 use Rattle.aos_preservation.proofs.Quiet.{made_shaped, noted_alone, noted_told}
 use Rattle.aos_preservation.proofs.Stats.{AfterGives, ItemsGive, item_typed}

@@ -21,7 +21,7 @@ use Rattle.aos_typed.specs.Meaning.{Question, Item, Do, Rounds, Round, Until, Re
 use Rattle.aos_typed.specs.Source as S
 use Rattle.aos_typed.specs.Source.{Frame, body_frame, done, first_store, first_value, goes_into, here_of, made_body, next_body, object_frames, opened_by, past_all, past_by, told, turn_at}
 use Rattle.aos_typed.specs.WellTyped.{IsWellTyped}
-use Rattle.aos_places.proofs.Makes.{frames_shown_grow}
+use Rattle.aos_memory_laws.proofs.Makes.{frames_shown_grow}
 use Rattle.aos_sim.specs.Cells.{cell_of}
 use Rattle.aos_sim.specs.Shows.{first_cells as module_cells}
 use Rattle.aos_sim.proofs.Does.{HasTypes, IsSelf, scheme}
@@ -36,11 +36,11 @@ use Rattle.aos_sim.proofs.States.{AreFew, IsFew, bare_frame, body_frame as plain
 use Rattle.aos_sim.proofs.Typed.{has_types}
 use Rattle.aos_handover.specs.Kinds.{IsAsking}
 use Rattle.aos_handover.proofs.Turns.{turn_kind}
-use Rattle.aos_naming.specs.Naming.{AreOf}
-use Rattle.aos_naming.proofs.Alike.{first}
-use Rattle.aos_naming.proofs.Named.{has_names}
-use Rattle.aos_naming.proofs.Names.{HasNames}
-use Rattle.aos_naming.proofs.Traced.{AsksFor, IsTraced, Traces, body_at, body_numbers, next_numbers, opened_are, opened_numbers, traced, traced_keeps, turned_numbers}
+use Rattle.aos_escape.specs.Naming.{AreOf}
+use Rattle.aos_escape.proofs.Alike.{first}
+use Rattle.aos_escape.proofs.Named.{has_names}
+use Rattle.aos_escape.proofs.Names.{HasNames}
+use Rattle.aos_escape.proofs.Traced.{AsksFor, IsTraced, Traces, body_at, body_numbers, next_numbers, opened_are, opened_numbers, traced, traced_keeps, turned_numbers}
 use Rattle.aos_preservation.proofs.Frames.{AllHold, AllTyped, AreAnswers, all_typed_grow, answer_told}
 use Rattle.aos_preservation.proofs.Stats.{ItemsGive, text_gives}
 use Rattle.aos_preservation.proofs.Steps.{body_gives, step_typed}

@@ -13,7 +13,7 @@ use Rattle.aos_types.specs.Content.{Content}
 use Rattle.aos_types.specs.Shape.{Shape}
 use Rattle.aos_types.specs.World.{World}
 use Rattle.aos_code.specs.declared.instr.Cell.{Cell}
-use Rattle.aos_places.specs.Shows.{AllShown}
+use Rattle.aos_memory_laws.specs.Shows.{AllShown}
 use Rattle.aos_typed.specs.Program.{Program}
 use Rattle.aos_typed.specs.Sort.{Sort}
 use Rattle.aos_typed.specs.Source.{Frame, Frames, first_state, first_store, made_shape, module_shape, source}
@@ -23,9 +23,9 @@ use Rattle.aos_typed.specs.Value.{Value}
 use Rattle.aos_typed.specs.WellTyped.{IsWellTyped}
 use Rattle.aos_sim.specs.Cells.{cell_of}
 use Rattle.aos_sim.proofs.States.{world_of}
-use Rattle.aos_naming.proofs.Acting.{acting_known, matched, numbers, of_traced}
-use Rattle.aos_naming.proofs.Alike.{first, start}
-use Rattle.aos_naming.proofs.Traced.{Traces, traced}
+use Rattle.aos_escape.proofs.Acting.{acting_known, matched, numbers, of_traced}
+use Rattle.aos_escape.proofs.Alike.{first, start}
+use Rattle.aos_escape.proofs.Traced.{Traces, traced}
 use Rattle.aos_preservation.specs.Preserved.{AllFit, AreTypedFrames, IsTypedStore, TypesArePreserved}
 use Rattle.aos_preservation.proofs.Frames.{AllHold, AllTyped}
 use Rattle.aos_preservation.proofs.Keeps.{Kept, first_kept, kept_regions, names as named, none_held, turned}

@@ -8,7 +8,7 @@ use Rattle.aos_types.specs.Content.{Content, Scalar, Empty, Row, Fits, found}
 use Rattle.aos_types.specs.Extension.{comes_to}
 use Rattle.aos_types.specs.Shape.{Shape, One, inside}
 use Rattle.aos_types.specs.World.{World}
-use Rattle.aos_places.proofs.Zoom.{zoomed}
+use Rattle.aos_memory_laws.proofs.Zoom.{zoomed}
 use Rattle.aos_typed.specs.Numbers.{id_of_made}
 use Rattle.aos_typed.specs.Program.{Program}
 use Rattle.aos_typed.specs.Sort.{Sort, Length}

@@ -40,7 +40,7 @@ use Rattle.aos_sim.proofs.References.{comes_same, made_reference, reference_valu
 use Rattle.aos_sim.proofs.Routines.{object_there}
 use Rattle.aos_sim.proofs.Types.{IsValueOf, is_character, is_integer}
 use Rattle.aos_sim.proofs.Variables.{value_from, value_to}
-use Rattle.aos_naming.specs.Items.{IsText}
+use Rattle.aos_escape.specs.Items.{IsText}
 use Rattle.aos_handover.specs.Items.{ItemsGive as AllGive, AfterGives as FollowGives}
 use Rattle.aos_handover.proofs.Items.{text_gives as text_give, items_give as text_items_give}
 use Rattle.aos_preservation.proofs.Exprs.{arguments_typed, basic_typed, called_typed, place_typed, rows_typed, scalar_found, value_typed}

@@ -10,7 +10,7 @@ use Rattle.aos_types.specs.Content.{Content, Fits, first_content}
 use Rattle.aos_types.specs.Shape.{leaves, row}
 use Rattle.aos_types.specs.Table.{row_of}
 use Rattle.aos_types.specs.World.{World, MadeAlike}
-use Rattle.aos_places.proofs.Makes.{made_alike}
+use Rattle.aos_memory_laws.proofs.Makes.{made_alike}
 use Rattle.aos_typed.specs.declared.tree.TType.{TType}
 use Rattle.aos_typed.specs.Numbers.{id_of, id_of_made}
 use Rattle.aos_typed.specs.Open.{open_dimensions}
@@ -31,10 +31,10 @@ use Rattle.aos_sim.proofs.Kept.{values_kept}
 use Rattle.aos_sim.proofs.Making.{made_lengths}
 use Rattle.aos_sim.proofs.States.{AreFew, IsFew, shapes_of, world_of}
 use Rattle.aos_handover.specs.Kinds.{answer_in, told_as, written_by, IsAsking, IsStored, OneScalar, OneWhole, OneText, Kind, Settled, Stopped, Left, Popped, Told, Written, Stored, Created, Called, CallsNone, MakesNone, Stands}
-use Rattle.aos_naming.specs.Naming.{AreOf, StandsOnAll}
-use Rattle.aos_naming.proofs.Building.{numbers_after, texts_with}
-use Rattle.aos_naming.proofs.Names.{HasNames}
-use Rattle.aos_naming.proofs.Steps.{given}
+use Rattle.aos_escape.specs.Naming.{AreOf, StandsOnAll}
+use Rattle.aos_escape.proofs.Building.{numbers_after, texts_with}
+use Rattle.aos_escape.proofs.Names.{HasNames}
+use Rattle.aos_escape.proofs.Steps.{given}
 use Rattle.aos_preservation.proofs.Frames.{AllTyped, FrameTyped, all_typed_grow, answered_typed, asked, left_gives, stands_typed}
 use Rattle.aos_preservation.proofs.Stats.{ItemsGive, items_give}
 use Rattle.aos_preservation.proofs.Stored.{Held, cells, hold_below, made_with, read_is, shows, stored_held, top_fits, typed_moved, variables}

@@ -9,8 +9,8 @@ use Rattle.aos_types.specs.Shape.{Shape, One}
 use Rattle.aos_types.specs.World.{World}
 use Rattle.aos_code.specs.declared.instr.Cell.{Cell}
 use Rattle.aos_code.specs.Memory.{Memory}
-use Rattle.aos_places.specs.Shows.{FramesShown, Shows}
-use Rattle.aos_places.proofs.Places.{read_alike, stored_alike}
+use Rattle.aos_memory_laws.specs.Shows.{FramesShown, Shows}
+use Rattle.aos_memory_laws.proofs.Places.{read_alike, stored_alike}
 use Rattle.aos_typed.specs.declared.tree.TType.{TType}
 use Rattle.aos_typed.specs.Numbers.{id_of}
 use Rattle.aos_typed.specs.Program.{Program}
@@ -31,7 +31,7 @@ use Rattle.aos_sim.proofs.States.{SameStore, shapes_of, world_of}
 use Rattle.aos_sim.proofs.Texts.{fitted_within, text_alike, stored_alike as text_stored_alike}
 use Rattle.aos_sim.proofs.Written.{change_kept, change_map}
 use Rattle.aos_handover.specs.Kinds.{IsStored, OneScalar, OneWhole, OneText}
-use Rattle.aos_naming.proofs.Building.{SameTexts, NoFrames, OneMore, texts_length}
+use Rattle.aos_escape.proofs.Building.{SameTexts, NoFrames, OneMore, texts_length}
 use Rattle.aos_preservation.proofs.Frames.{AllHold, AllTyped, FrameTyped}
 
 module _ (p : Program) where

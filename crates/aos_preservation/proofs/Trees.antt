@@ -7,7 +7,7 @@ use Rattle.aos_types.specs.Extension.{comes_to}
 use Rattle.aos_types.specs.Shape.{One}
 use Rattle.aos_types.specs.Table.{row_of}
 use Rattle.aos_types.specs.World.{World, Grows}
-use Rattle.aos_places.proofs.Grow.{shape_grows}
+use Rattle.aos_memory_laws.proofs.Grow.{shape_grows}
 use Rattle.aos_typed.specs.declared.tree.TType.{TType}
 use Rattle.aos_typed.specs.Numbers.{id_of, id_of_made}
 use Rattle.aos_typed.specs.Program.{Program}

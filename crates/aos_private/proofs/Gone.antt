@@ -16,7 +16,7 @@ use Rattle.aos_code.specs.Silent.{Stack, Keeps, is_of}
 use Rattle.aos_code.specs.Machine.{asker, fitted_in, object_of, arguments_of, Frame, Frames, works, rooted, cells_at, leaves, goes_on, behind, reads, writes, copies, stores_text, fitted, puts_text, compares, enters, called_frame, calls_with, calls, goes, stop_of, handed, text_in, code_in, character_then, character_cells}
 use Rattle.aos_store.specs.declared.frames.Frames.{Frames as KeptFrames}
 use Rattle.aos_store.specs.Store.{list_in, frames_in, has_all, deep}
-use Rattle.aos_silent.specs.declared.silent.Stop.{Stop as KeptStop}
+use Rattle.aos_silent_steps.specs.declared.silent.Stop.{Stop as KeptStop}
 use Rattle.aos_cpu.specs.Answers.{ordered}
 use Rattle.aos_cpu.specs.Calls.{Gift, gifts, all_copied}
 use Rattle.aos_cpu.specs.Turns.{Alike, StandsAtStop}

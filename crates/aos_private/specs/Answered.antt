@@ -10,11 +10,11 @@ use Rattle.aos_code.specs.Silent.{Stack, Keeps, is_of}
 use Rattle.aos_code.specs.Machine.{asker, Frame, calls, works, finds, goes}
 use Rattle.aos_store.specs.declared.frames.Frames.{Frames as KeptFrames}
 use Rattle.aos_store.specs.Store.{list_in, has_all}
-use Rattle.aos_silent.specs.declared.act.Question.{Question as KeptQuestion}
-use Rattle.aos_silent.specs.declared.silent.Stop.{Stop as KeptStop}
-use Rattle.aos_silent.specs.declared.act.Way.{Way}
-use Rattle.aos_silent.specs.Acts.{question_in, passed}
-use Rattle.aos_silent.specs.Silent.{stop_in}
+use Rattle.aos_silent_steps.specs.declared.act.Question.{Question as KeptQuestion}
+use Rattle.aos_silent_steps.specs.declared.silent.Stop.{Stop as KeptStop}
+use Rattle.aos_silent_steps.specs.declared.act.Way.{Way}
+use Rattle.aos_silent_steps.specs.Acts.{question_in, passed}
+use Rattle.aos_silent_steps.specs.Silent.{stop_in}
 use Rattle.aos_cpu.specs.Private.{has_gone, is_own, is_own_stop}
 
 -- there is a value, of this kind

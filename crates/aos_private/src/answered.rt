@@ -5,14 +5,14 @@ ghost use Rattle.aos_base.specs.Rooted.{at_root};
 ghost use Rattle.aos_code.specs.declared.instr.Cell.TheVariants.{Num};
 ghost use Rattle.aos_code.specs.Machine.{text_in, text_at, length_in};
 ghost use Rattle.aos_store.specs.Store.{memory_in, rooted_in, has_all};
-ghost use Rattle.aos_silent.specs.Acts.{addr_in};
+ghost use Rattle.aos_silent_steps.specs.Acts.{addr_in};
 ghost use Rattle.aos_private.specs.Answered.{holds as holds_kind, stored_len as stored_length, takes_text as takes, TellsCall, TellsOwn};
 
 use aos_code::{Cell, Image, Kind, ProcShape};
 use aos_cpu::calls::{arguments, arguments_of, behind_value, count_copied, count_with};
 use aos_cpu::texts::{array_at, code, compare_at, length_of};
 use aos_found::is_top_open;
-use aos_silent::{Address, Question, Way, is_of, numbered};
+use aos_silent_steps::{Address, Question, Way, is_of, numbered};
 use aos_store::{Frames, Store, has_cells_at, load_at};
 
 /// Whether there is a value, of this kind.

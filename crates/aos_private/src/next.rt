@@ -3,7 +3,7 @@ ghost use Rattle.std.specs.Prelude.{◌≡◌, [], IfOk};
 ghost use Rattle.aos_code.specs.Machine.{opened};
 ghost use Rattle.aos_store.specs.Store.{list_in, frames_in, memory_in, SameCounts};
 ghost use Rattle.aos_sound.specs.FitFrames.{IsSoundImage, FramesFit};
-ghost use Rattle.aos_silent.specs.Room.{AreRoomy, StayFit};
+ghost use Rattle.aos_silent_steps.specs.Room.{AreRoomy, StayFit};
 ghost use Rattle.aos_cpu.specs.Turns.{Alike, HasCome, StandsAtStop};
 ghost use Rattle.aos_cpu.specs.Private.{no_memory, made_by, is_private};
 ghost use Rattle.aos_private.specs.Answered.{TellsStop};
@@ -13,7 +13,7 @@ use aos_base::NoMemory;
 use aos_code::Image;
 use aos_cpu::alone::is_own_stop;
 use aos_cpu::turn::come_to_stop;
-use aos_silent::{Stop, silent_from};
+use aos_silent_steps::{Stop, silent_from};
 use aos_store::{Frames, Heap, Store};
 use std::alloc::Global;
 

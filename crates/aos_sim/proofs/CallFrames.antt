@@ -34,8 +34,8 @@ use Rattle.aos_code.specs.Machine as I
 use Rattle.aos_code.specs.Machine.{if_all}
 use Rattle.aos_layout.specs.Layout.{cells, kind_of}
 use Rattle.aos_layout.specs.Frame.{parameter_kind}
-use Rattle.aos_places.specs.Shows.{Shown, Shows}
-use Rattle.aos_places.proofs.Wholes.{shown_pair, shown_long, whole_alike, first_alike}
+use Rattle.aos_memory_laws.specs.Shows.{Shown, Shows}
+use Rattle.aos_memory_laws.proofs.Wholes.{shown_pair, shown_long, whole_alike, first_alike}
 use Rattle.aos_sim.specs.Cells.{cell_of}
 use Rattle.aos_sim.proofs.Kept.{values_kept}
 use Rattle.aos_sim.proofs.Parts.{nested_size, cells_size, whole_ends}

@@ -17,8 +17,8 @@ use Rattle.aos_typed.specs.Value.{Value}
 use Rattle.aos_typed.specs.Typing.{Is, IsPlain}
 use Rattle.aos_code.specs.declared.instr.Cell.{Cell}
 use Rattle.aos_code.specs.Machine.{if_all, cells_at}
-use Rattle.aos_places.specs.Shows.{Shows}
-use Rattle.aos_places.proofs.Places.{size_join, loads_alike, copy_alike}
+use Rattle.aos_memory_laws.specs.Shows.{Shows}
+use Rattle.aos_memory_laws.proofs.Places.{size_join, loads_alike, copy_alike}
 use Rattle.aos_sim.specs.Cells.{cell_of}
 use Rattle.aos_sim.proofs.Kept.{values_kept}
 use Rattle.aos_sim.proofs.Parts.{variable_size, each_join, variable_plain}

@@ -35,9 +35,9 @@ use Rattle.aos_code.specs.Machine as I
 use Rattle.aos_code.specs.Machine.{first_cell}
 use Rattle.aos_layout.specs.Layout.{kind_of, kinds}
 use Rattle.aos_layout.proofs.Frames.{flatten_shaped}
-use Rattle.aos_places.specs.Shows.{AllShown}
-use Rattle.aos_places.proofs.Zoom.{as_many}
-use Rattle.aos_places.proofs.Makes.{first_fits, first_cells}
+use Rattle.aos_memory_laws.specs.Shows.{AllShown}
+use Rattle.aos_memory_laws.proofs.Zoom.{as_many}
+use Rattle.aos_memory_laws.proofs.Makes.{first_fits, first_cells}
 use Rattle.aos_sim.specs.Cells.{cell_of}
 use Rattle.aos_sim.specs.Shows.{type_kinds}
 use Rattle.aos_sim.proofs.Types.{number_cell, integer_is}

@@ -41,7 +41,7 @@ use Rattle.aos_code.specs.declared.instr.Instr.{Instr}
 use Rattle.aos_code.specs.declared.instr.Instr.TheVariants as i
 use Rattle.aos_code.specs.Silent.{Stack, Keeps, Act, Goes, on_number, length_then, lengths_on, counted_on, length_cells, gives_place, element}
 use Rattle.aos_code.specs.Silent as silent
-use Rattle.aos_places.proofs.Grow.{shape_grows, cell_grows}
+use Rattle.aos_memory_laws.proofs.Grow.{shape_grows, cell_grows}
 use Rattle.aos_sim.specs.Cells.{place_in, cell_of}
 use Rattle.aos_sim.specs.Code.{own_cell, field_cell, cells_of, lengths_code, place_code, rows_code, operands_code}
 use Rattle.aos_sim.proofs.Runs.{Run, Onward, Tables, numbers, pushed_reverse, on_run, runs}

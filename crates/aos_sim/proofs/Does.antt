@@ -49,15 +49,15 @@ use Rattle.aos_code.specs.Numbered.{numbered}
 use Rattle.aos_code.specs.Silent.{Question, Noted as Notice, Visible, Answered, extends, method_at, noted_as}
 use Rattle.aos_layout.specs.Layout.{is_made, made_kinds}
 use Rattle.aos_layout.specs.Seen.{seen_shape}
-use Rattle.aos_places.specs.Shows.{Shown}
-use Rattle.aos_places.proofs.Grow.{grows_same, grows_twice, shape_grows, cell_grows}
-use Rattle.aos_places.proofs.Zoom.{zoomed}
-use Rattle.aos_places.proofs.Places.{get_behind}
+use Rattle.aos_memory_laws.specs.Shows.{Shown}
+use Rattle.aos_memory_laws.proofs.Grow.{grows_same, grows_twice, shape_grows, cell_grows}
+use Rattle.aos_memory_laws.proofs.Zoom.{zoomed}
+use Rattle.aos_memory_laws.proofs.Places.{get_behind}
 use Rattle.aos_sim.specs.Code.{kind_of, own_cell}
 use Rattle.aos_types.specs.Contents.{variable_scalars}
 use Rattle.aos_sim.specs.Cells.{cell_of}
 use Rattle.aos_sim.specs.Shows.{shape_of}
-use Rattle.aos_places.proofs.Makes.{shown_grows}
+use Rattle.aos_memory_laws.proofs.Makes.{shown_grows}
 use Rattle.aos_sim.proofs.Runs.{Run, Tables, answered, told_as, or_unknown, calm, calm_visible, calm_answered}
 use Rattle.aos_sim.proofs.Kept.{values_kept}
 use Rattle.aos_sim.proofs.Methods.{HasMethods}

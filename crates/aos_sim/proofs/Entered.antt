@@ -39,9 +39,9 @@ use Rattle.aos_layout.specs.Frame.{Known, open_cells, parameter_cells, parameter
 use Rattle.aos_layout.specs.Seen.{seen_shape}
 use Rattle.aos_layout.proofs.Frames.{kinds_of_append}
 use Rattle.aos_layout.proofs.Outcomes.{kinds_counted}
-use Rattle.aos_places.specs.Shows.{Shown, Shows}
-use Rattle.aos_places.proofs.Grow.{frame_grows}
-use Rattle.aos_places.proofs.Wholes.{shown_long}
+use Rattle.aos_memory_laws.specs.Shows.{Shown, Shows}
+use Rattle.aos_memory_laws.proofs.Grow.{frame_grows}
+use Rattle.aos_memory_laws.proofs.Wholes.{shown_long}
 use Rattle.aos_sim.specs.Cells.{cell_of}
 use Rattle.aos_sim.specs.Shows.{shape_of}
 use Rattle.aos_sim.proofs.Parts.{before_step, part_of_row, cells_size}

@@ -29,8 +29,8 @@ use Rattle.aos_code.specs.declared.instr.Kind.{Kind}
 use Rattle.aos_code.specs.declared.instr.Kind.TheVariants.{N}
 use Rattle.aos_code.specs.Machine.{first_cell}
 use Rattle.aos_layout.specs.Layout.{kind_in, kind_of, cells, variable_cells}
-use Rattle.aos_places.specs.Shows.{Shown, AllShown}
-use Rattle.aos_places.proofs.Makes.{first_fits, first_cells}
+use Rattle.aos_memory_laws.specs.Shows.{Shown, AllShown}
+use Rattle.aos_memory_laws.proofs.Makes.{first_fits, first_cells}
 use Rattle.aos_sim.specs.Cells.{cell_of}
 use Rattle.aos_sim.specs.Shows.{numbers_from, text_cells, first_cells as module_cells}
 use Rattle.aos_sim.proofs.Does.{HasPredeclared}

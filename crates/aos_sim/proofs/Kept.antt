@@ -16,8 +16,8 @@ use Rattle.aos_typed.specs.Value.{Value, Int, Flag, Char, Set, Object, Callable,
 use Rattle.aos_typed.specs.Open.{first_same}
 use Rattle.aos_typed.specs.Typing.{id_of_made, nested, Extends, IsBasic, Refers, IsReference, IsInstance, IsCalledBy, IsCallable, pattern_at, IsPlainly, IsPlace, OnPlace, Is, IsPlain}
 use Rattle.aos_code.specs.declared.instr.Cell.TheVariants as cell
-use Rattle.aos_places.specs.Shows.{AreKept}
-use Rattle.aos_places.proofs.Grow.{shape_grows, cell_grows}
+use Rattle.aos_memory_laws.specs.Shows.{AreKept}
+use Rattle.aos_memory_laws.proofs.Grow.{shape_grows, cell_grows}
 use Rattle.aos_sim.specs.Cells.{cell_of}
 
 module _ (program : Program) where

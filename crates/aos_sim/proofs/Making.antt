@@ -47,7 +47,7 @@ use Rattle.aos_sim.proofs.Does.{addr_of, HasTypes, HasShapes, IsObject, AreInteg
 use Rattle.aos_sim.proofs.References.{made_reference, to_target, comes_same, reference_value}
 use Rattle.aos_sim.proofs.Evaluates.{OfSort, OfType, number_in, pushed, OnTop, Brings, ComesTo, front_does, piece_does}
 use Rattle.aos_sim.proofs.Designators.{IsFound, counted_all, places_stay}
-use Rattle.aos_places.proofs.Grow.{grows_twice}
+use Rattle.aos_memory_laws.proofs.Grow.{grows_twice}
 use Rattle.aos_sim.proofs.Exprs.{scalar_found, place_does, yields_do, value_does}
 use Rattle.aos_sim.proofs.Carries.{Holds, HasStatements, Carries, Behind, StatementDoes, carries_all}
 use Rattle.aos_sim.proofs.Stats.{from_here, last_asks}

@@ -48,7 +48,7 @@ use Rattle.aos_sim.proofs.Routines.{object_there}
 use Rattle.aos_sim.proofs.Objects.{object_target}
 use Rattle.aos_sim.proofs.Evaluates.{pushed, front_does, piece_does}
 use Rattle.aos_sim.proofs.Designators.{IsFound, places_stay}
-use Rattle.aos_places.proofs.Grow.{grows_twice}
+use Rattle.aos_memory_laws.proofs.Grow.{grows_twice}
 use Rattle.aos_sim.proofs.Called.{AreOf, are_reversed, are_many, given_are, kinds_for, kinds_first, method_asks}
 use Rattle.aos_sim.proofs.Sends.{Answered, asked_does, method_given, method_on}
 use Rattle.aos_sim.proofs.Exprs.{scalar_found, dimensions_are, place_does, arguments_do}

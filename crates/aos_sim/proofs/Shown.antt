@@ -39,7 +39,7 @@ use Rattle.aos_sim.proofs.Insides.{body_inside}
 use Rattle.aos_sim.proofs.Locks.{regions_same}
 use Rattle.aos_concurrency.proofs.Matching.{execution_matches, start_matches, observation_matches, events_match}
 use Rattle.aos_sim.specs.Shows.{numbers_from, body_in, IsCodeOf, Shows}
-use Rattle.aos_places.specs.Shows.{AllShown}
+use Rattle.aos_memory_laws.specs.Shows.{AllShown}
 use Rattle.aos_sim.specs.Cells.{cell_of}
 use Rattle.aos_sim.proofs.Items.{items_do}
 use Rattle.aos_sim.proofs.First.{modules_shown}

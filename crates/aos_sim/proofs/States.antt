@@ -31,9 +31,9 @@ use Rattle.aos_code.specs.Memory.{Memory}
 use Rattle.aos_code.specs.Silent.{Keeps, Stack}
 use Rattle.aos_code.specs.Machine as I
 use Rattle.aos_code.specs.Machine.{code_of}
-use Rattle.aos_places.specs.Shows.{AllShown, FramesShown}
-use Rattle.aos_places.proofs.Grow.{grows_same, grows_twice, frame_grows, objects_grow}
-use Rattle.aos_places.proofs.Makes.{frames_shown_grow}
+use Rattle.aos_memory_laws.specs.Shows.{AllShown, FramesShown}
+use Rattle.aos_memory_laws.proofs.Grow.{grows_same, grows_twice, frame_grows, objects_grow}
+use Rattle.aos_memory_laws.proofs.Makes.{frames_shown_grow}
 use Rattle.aos_sim.specs.Cells.{cell_of}
 use Rattle.aos_sim.proofs.Kept.{values_kept}
 use Rattle.aos_sim.proofs.Runs.{Run, tables_of, run}

@@ -21,8 +21,8 @@ use Rattle.aos_typed.specs.Typing.{Is, IsPlain}
 use Rattle.aos_code.specs.declared.instr.Cell.{Cell}
 use Rattle.aos_code.specs.declared.instr.Cell.TheVariants.{Num}
 use Rattle.aos_code.specs.Machine as I
-use Rattle.aos_places.specs.Shows.{Shows}
-use Rattle.aos_places.proofs.Places.{at_place, loads_alike, first_stored}
+use Rattle.aos_memory_laws.specs.Shows.{Shows}
+use Rattle.aos_memory_laws.proofs.Places.{at_place, loads_alike, first_stored}
 use Rattle.aos_sim.specs.Cells.{cell_of}
 use Rattle.aos_sim.proofs.Kept.{values_kept}
 use Rattle.aos_sim.proofs.Results.{natural_is}

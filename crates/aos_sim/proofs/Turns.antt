@@ -49,10 +49,10 @@ use Rattle.aos_code.specs.Machine.{first_cell, code_of}
 use Rattle.aos_concurrency.specs.LocalState.{GoesPast}
 use Rattle.aos_concurrency.specs.Regions.{times, Outside}
 use Rattle.aos_concurrency.specs.Simulates.{SameTurn}
-use Rattle.aos_places.specs.Shows.{Shows}
-use Rattle.aos_places.proofs.Grow.{grows_same, objects_grow}
-use Rattle.aos_places.proofs.Places.{ReadAlike, read_alike, stored_alike}
-use Rattle.aos_places.proofs.Makes.{shown_grows, made_alike}
+use Rattle.aos_memory_laws.specs.Shows.{Shows}
+use Rattle.aos_memory_laws.proofs.Grow.{grows_same, objects_grow}
+use Rattle.aos_memory_laws.proofs.Places.{ReadAlike, read_alike, stored_alike}
+use Rattle.aos_memory_laws.proofs.Makes.{shown_grows, made_alike}
 use Rattle.aos_sim.specs.Cells.{cell_of}
 use Rattle.aos_sim.specs.Code.{kind_of}
 use Rattle.aos_sim.specs.Shows.{shape_of, type_kinds, made_kinds}

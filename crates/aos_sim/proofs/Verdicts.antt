@@ -39,9 +39,9 @@ use Rattle.aos_code.specs.declared.image.Image.{Image}
 use Rattle.aos_code.specs.Memory.{Memory}
 use Rattle.aos_code.specs.Silent.{Stack, Keeps, Question, Stop, Work, Ended, Act, Goes, Puts, Takes, Looks, Sees, Stops, lost, kept, is_of, Noted, Visible, Answered, Unknown, noted, on_noted, Told, Tells, Refuses, Invokes, Unheard, told_by, on_told, act, on_act, walk, silent}
 use Rattle.aos_code.specs.Machine as I
-use Rattle.aos_places.specs.Shows.{Shows}
-use Rattle.aos_places.proofs.Grow.{grows_same}
-use Rattle.aos_places.proofs.Places.{read_alike}
+use Rattle.aos_memory_laws.specs.Shows.{Shows}
+use Rattle.aos_memory_laws.proofs.Grow.{grows_same}
+use Rattle.aos_memory_laws.proofs.Places.{read_alike}
 use Rattle.aos_sim.specs.Cells.{cell_of}
 use Rattle.aos_sim.specs.Code.{dimensions, kind_of, literal_code, lengths_code, drops, operands_code, and_code, or_code, place_code, rows_code, value_code, condition_code}
 use Rattle.aos_sim.proofs.Kept.{values_kept}

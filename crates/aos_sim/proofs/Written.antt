@@ -18,7 +18,7 @@ use Rattle.aos_code.specs.declared.instr.Cell.{Cell}
 use Rattle.aos_code.specs.declared.image.Image.{Image}
 use Rattle.aos_code.specs.Memory.{Memory}
 use Rattle.aos_code.specs.Machine as I
-use Rattle.aos_places.specs.Shows.{FramesShown, Shows}
+use Rattle.aos_memory_laws.specs.Shows.{FramesShown, Shows}
 use Rattle.aos_sim.specs.Cells.{cell_of}
 use Rattle.aos_sim.proofs.Does.{scheme, HasShapes}
 use Rattle.aos_sim.proofs.Runs.{tables_of}

@@ -13,7 +13,7 @@ use Rattle.aos_base.specs.Rooted.{Made}
 use Rattle.aos_code.specs.declared.image.Image.{Image}
 use Rattle.aos_code.specs.Memory.{Memory}
 use Rattle.aos_code.specs.Machine.{Frames, machine}
-use Rattle.aos_silent.specs.Room.{StayFit}
+use Rattle.aos_silent_steps.specs.Room.{StayFit}
 use Rattle.aos_concurrency.specs.Private.{steps, settled}
 use Rattle.aos_concurrency.proofs.Tables.{number, put_same}
 use Rattle.aos_settling.specs.Settling.{ArePrivateAt}

@@ -4,8 +4,8 @@ use Rattle.aos_code.specs.declared.image.ProcShape.{ProcShape}
 use Rattle.aos_code.specs.declared.image.ParamKind.{ParamKind}
 use Rattle.aos_code.specs.Numbered.{numbered}
 use Rattle.aos_code.specs.Machine.{arguments_of}
-use Rattle.aos_silent.specs.Acts.{behind_value, passed, question_in}
-use Rattle.aos_silent.specs.declared.act.Question.{Question}
+use Rattle.aos_silent_steps.specs.Acts.{behind_value, passed, question_in}
+use Rattle.aos_silent_steps.specs.declared.act.Question.{Question}
 use Rattle.aos_cpu.specs.Private.{copies_own, calls_own, is_own}
 use Rattle.aos_cpu.proofs.Own.{last_ones}
 use Rattle.aos_cpu.proofs.Passing.{own_passed}

@@ -3,8 +3,8 @@ use Rattle.std.specs.Prelude.{Option}
 use Rattle.aos_code.specs.Memory.{Memory}
 use Rattle.aos_code.specs.Machine.{made_in}
 use Rattle.aos_store.specs.Store.{list_in, frames_in, memory_in}
-use Rattle.aos_silent.specs.declared.silent.Stop.{Stop}
-use Rattle.aos_silent.proofs.Oks.{ok_more}
+use Rattle.aos_silent_steps.specs.declared.silent.Stop.{Stop}
+use Rattle.aos_silent_steps.proofs.Oks.{ok_more}
 use Rattle.aos_cpu.specs.Turns.{Alike, HasCome, StandsAtStop}
 use Rattle.aos_cpu.specs.Private.{HasTried}
 use Rattle.aos_cpu.proofs.Own.{tried_behind}

@@ -1,6 +1,6 @@
 use Rattle.std.proofs.Common.{◌≡◌, ◌≤◌, ◌-◌}
 use Rattle.aos_store.specs.Store.{memory_in}
-use Rattle.aos_silent.specs.Room.{StayFit}
+use Rattle.aos_silent_steps.specs.Room.{StayFit}
 use Rattle.aos_cpu.specs.Private.{no_memory, IsMadePrivately, turns_since}
 use Rattle.aos_cpu.proofs.alone.private.Given as goal
 

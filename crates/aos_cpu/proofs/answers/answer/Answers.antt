@@ -4,13 +4,13 @@ use mir.Val.{to_z, of_z}
 use Rattle.aos_base.specs.Question.{Reads, Stores, Copies, Ends, Starts, PutsInt, PutsChar, PutsNothing, PutsLn, PutsString, PutsText, ComparesTexts}
 use Rattle.aos_code.specs.declared.instr.Cell.TheVariants.{Num, Ref}
 use Rattle.aos_store.specs.Store.{memory_in}
-use Rattle.aos_silent.specs.Acts.{addr_in, question_in, operands_of, results}
+use Rattle.aos_silent_steps.specs.Acts.{addr_in, question_in, operands_of, results}
 use Rattle.aos_sound.specs.FitFrames.{depth_of}
-use Rattle.aos_silent.specs.Room.{keeps_for}
+use Rattle.aos_silent_steps.specs.Room.{keeps_for}
 use Rattle.aos_cpu.specs.Turns.{HasAnswered, Stands}
 use Rattle.aos_cpu.specs.Answers.{IsAnswered}
 use Rattle.aos_base.specs.declared.kernel.Did.TheVariants.{Enter, Leave, Await}
-use Rattle.aos_silent.specs.declared.act.Question.TheVariants.{Enters as AsksEnter, Leaves as AsksLeave, Awaits as AsksAwait}
+use Rattle.aos_silent_steps.specs.declared.act.Question.TheVariants.{Enters as AsksEnter, Leaves as AsksLeave, Awaits as AsksAwait}
 use Rattle.aos_cpu.proofs.Answering.{has_answered, has_ok, left_in}
 use Rattle.aos_cpu.proofs.answers.answer.Goals as goal
 

@@ -1,5 +1,5 @@
 use Rattle.aos_store.specs.Store.{memory_in}
-use Rattle.aos_silent.specs.Acts.{addr_in}
+use Rattle.aos_silent_steps.specs.Acts.{addr_in}
 use Rattle.aos_cpu.proofs.Behind.{copy_made}
 use Rattle.aos_cpu.proofs.answers.copy.Goals as goal
 

@@ -2,7 +2,7 @@ use Rattle.std.proofs.Common.{◌≡◌, ◌-◌, ◌∷◌, [], drop, length, r
 use Rattle.std.specs.Prelude.{Result, Ok, Err, OnErr}
 use Rattle.aos_code.specs.Machine.{Frames, behind}
 use Rattle.aos_store.specs.Store.{frame_in}
-use Rattle.aos_silent.proofs.Oks.{ok_more}
+use Rattle.aos_silent_steps.proofs.Oks.{ok_more}
 use Rattle.aos_store.proofs.Rooms.{roomy_set}
 use Rattle.aos_cpu.proofs.Turns.{last_read, behind_put, same_put}
 use Rattle.aos_cpu.proofs.answers.put_behind.Goals as goal

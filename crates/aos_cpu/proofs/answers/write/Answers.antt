@@ -1,5 +1,5 @@
 use Rattle.aos_store.specs.Store.{memory_in}
-use Rattle.aos_silent.specs.Acts.{addr_in}
+use Rattle.aos_silent_steps.specs.Acts.{addr_in}
 use Rattle.aos_cpu.proofs.Behind.{write_made}
 use Rattle.aos_cpu.proofs.answers.write.Goals as goal
 

@@ -5,7 +5,7 @@ use Rattle.aos_code.specs.Numbered.{numbered}
 use Rattle.aos_code.specs.Silent.{keeps_in}
 use Rattle.aos_sound.specs.FitFrames.{depth_of}
 use Rattle.aos_store.specs.Store.{memory_in}
-use Rattle.aos_silent.specs.Room.{keeps_for}
+use Rattle.aos_silent_steps.specs.Room.{keeps_for}
 use Rattle.aos_cpu.specs.Calls.{IsCalled}
 use Rattle.aos_cpu.proofs.calls.call.Goals as goal
 

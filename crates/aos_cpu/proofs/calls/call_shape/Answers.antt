@@ -2,7 +2,7 @@ use Rattle.std.proofs.Common.{◌≡◌, ◌-◌, ◌^◌, List, length, min, sy
 use Rattle.std.specs.Prelude.{Option, Some, None}
 use Rattle.std.specs.Option.{option_map}
 use Rattle.aos_store.specs.Store.{list_in, frame_in, memory_in, rooted_in}
-use Rattle.aos_silent.specs.Acts.{behind_value}
+use Rattle.aos_silent_steps.specs.Acts.{behind_value}
 use Rattle.aos_cpu.specs.Calls.{Gift, gifts, all_copied, called, called_cells}
 use Rattle.aos_cpu.proofs.Calling.{none_of, some_of, deep_same, counted_all, call_lost, call_deep, call_made}
 use Rattle.aos_store.proofs.Rooms.{shallow}

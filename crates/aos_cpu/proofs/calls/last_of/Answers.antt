@@ -1,6 +1,6 @@
 use Rattle.std.proofs.Common.{◌≤◌, ◌-◌, length, drop, ap, ◌∙◌, arith, length-drop}
 use Rattle.std.proofs.lemmas.List.{take_all}
-use Rattle.aos_silent.proofs.Topmost.{last_taken}
+use Rattle.aos_silent_steps.proofs.Topmost.{last_taken}
 use Rattle.aos_cpu.proofs.calls.last_of.Goals as goal
 
 pub returns : goal.returns

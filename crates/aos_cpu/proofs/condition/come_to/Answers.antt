@@ -1,5 +1,5 @@
 use Rattle.std.proofs.Common.{◌≡◌, length, arith}
-use Rattle.aos_silent.specs.Known.{known}
+use Rattle.aos_silent_steps.specs.Known.{known}
 use Rattle.aos_cpu.proofs.Turns.{last_read}
 use Rattle.aos_cpu.proofs.Verdicts.{no_top, top_at, stopped_as}
 use Rattle.aos_cpu.proofs.condition.come_to.Goals as goal

@@ -7,8 +7,8 @@ use Rattle.aos_base.specs.Operators.{flag}
 use Rattle.aos_code.specs.declared.instr.Cell.TheVariants.{Num}
 use Rattle.aos_code.specs.Machine.{text_at}
 use Rattle.aos_store.specs.Store.{rooted_in}
-use Rattle.aos_silent.specs.declared.act.Question.{Question as KeptQuestion}
-use Rattle.aos_silent.specs.Acts.{addr_in}
+use Rattle.aos_silent_steps.specs.declared.act.Question.{Question as KeptQuestion}
+use Rattle.aos_silent_steps.specs.Acts.{addr_in}
 use Rattle.aos_cpu.specs.Answers.{ordered}
 use Rattle.aos_cpu.specs.Verdicts.{HasGoneOn, IsJudged}
 use Rattle.aos_cpu.proofs.Judging.{reads_none, reads_other, reads_on, compares_none, compares_on, asks_other}

@@ -3,8 +3,8 @@ use mir.Val.{to_z, of_z}
 use Rattle.aos_base.specs.declared.kernel.Verdict.TheVariants.{Fails, Traps}
 use Rattle.aos_code.specs.Machine.{made_in, decided}
 use Rattle.aos_store.specs.Store.{memory_in}
-use Rattle.aos_silent.specs.declared.silent.Stop.{Stop}
-use Rattle.aos_silent.specs.declared.silent.Stop.TheVariants.{Begins as AtBegin, Fails as AtFault, Decides as AtVerdict}
+use Rattle.aos_silent_steps.specs.declared.silent.Stop.{Stop}
+use Rattle.aos_silent_steps.specs.declared.silent.Stop.TheVariants.{Begins as AtBegin, Fails as AtFault, Decides as AtVerdict}
 use Rattle.aos_cpu.specs.Verdicts.{HasStopped}
 use Rattle.aos_cpu.proofs.Verdicts.{ends_so, moved_so, top_so, asks_at, asks_room, asked_verdict, asked_moved, asked_room, asked_top}
 use Rattle.aos_cpu.proofs.condition.step.Goals as goal

@@ -1,7 +1,7 @@
 use Rattle.std.proofs.Common.{◌≡◌, ◌<◌, ◌≤◌, length, reverse, sym, ap, ◌∙◌, arith}
 use Rattle.std.specs.Prelude.{vec_capacity}
 use Rattle.aos_store.specs.Store.{memory_in}
-use Rattle.aos_silent.specs.Conditions.{need}
+use Rattle.aos_silent_steps.specs.Conditions.{need}
 use Rattle.aos_cpu.proofs.Verdicts.{has_top, no_verdict, whole_top, begins_in_room, whole_verdict, as_before, room_back, room_kept}
 use Rattle.aos_cpu.proofs.condition.verdict.Goals as goal
 

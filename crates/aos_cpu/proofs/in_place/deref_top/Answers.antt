@@ -3,9 +3,9 @@ use Rattle.aos_code.specs.declared.instr.Instr.{Instr}
 use Rattle.aos_code.specs.Silent.{act}
 use Rattle.aos_code.specs.Machine.{made_in}
 use Rattle.aos_store.specs.Store.{frame_in, memory_in}
-use Rattle.aos_silent.specs.Silent.{here_at}
-use Rattle.aos_silent.specs.Steps.{IsStepOf}
-use Rattle.aos_silent.proofs.Stepped.{told_step}
+use Rattle.aos_silent_steps.specs.Silent.{here_at}
+use Rattle.aos_silent_steps.specs.Steps.{IsStepOf}
+use Rattle.aos_silent_steps.proofs.Stepped.{told_step}
 use Rattle.aos_cpu.proofs.InPlace.{stays_more}
 use Rattle.aos_cpu.proofs.in_place.deref_top.Goals as goal
 

@@ -1,12 +1,12 @@
 use Rattle.std.proofs.Common.{◌≡◌, get_or, reverse, refl, sym, ap, ◌∙◌, arith}
 use Rattle.std.specs.Prelude.{pos}
-use Rattle.aos_silent.specs.Silent.{here_at}
+use Rattle.aos_silent_steps.specs.Silent.{here_at}
 use Rattle.aos_code.specs.declared.instr.Instr.{Instr}
 use Rattle.aos_code.specs.declared.instr.Instr.TheVariants.{Num}
 use Rattle.aos_code.specs.Silent.{act}
 use Rattle.aos_code.specs.Machine.{made_in}
 use Rattle.aos_store.specs.Store.{frame_in, memory_in}
-use Rattle.aos_silent.proofs.Stepped.{stepped_of}
+use Rattle.aos_silent_steps.proofs.Stepped.{stepped_of}
 use Rattle.aos_cpu.proofs.InPlace.{stays_more}
 use Rattle.aos_cpu.proofs.in_place.do_top.Goals as goal
 

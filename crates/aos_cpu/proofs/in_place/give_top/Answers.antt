@@ -1,8 +1,8 @@
 use Rattle.std.proofs.Common.{refl, sym, ap, subst}
 use Rattle.aos_code.specs.Silent.{Act}
 use Rattle.aos_store.specs.Store.{frame_in}
-use Rattle.aos_silent.specs.Steps.{IsStep}
-use Rattle.aos_silent.proofs.Stepped.{of_any}
+use Rattle.aos_silent_steps.specs.Steps.{IsStep}
+use Rattle.aos_silent_steps.proofs.Stepped.{of_any}
 use Rattle.aos_code.specs.Machine.{Frame, made_in}
 use Rattle.aos_store.proofs.Rooms.{more_room}
 use Rattle.aos_cpu.proofs.InPlace.{worked_same}

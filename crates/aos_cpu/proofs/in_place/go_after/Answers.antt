@@ -1,7 +1,7 @@
 use Rattle.std.proofs.Common.{◌≡◌, refl, subst, arith}
 use Rattle.aos_store.specs.Store.{frame_in}
-use Rattle.aos_silent.specs.declared.act.Act.{Act}
-use Rattle.aos_silent.specs.Acts.{WhereStays}
+use Rattle.aos_silent_steps.specs.declared.act.Act.{Act}
+use Rattle.aos_silent_steps.specs.Acts.{WhereStays}
 use Rattle.aos_cpu.proofs.InPlace.{silent_top, asks_top, begun_top, worked_same}
 use Rattle.aos_cpu.proofs.in_place.go_after.Goals as goal
 

@@ -5,7 +5,7 @@ use Rattle.aos_code.specs.declared.instr.Instr.TheVariants.{Load}
 use Rattle.aos_code.specs.Silent.{Stack}
 use Rattle.aos_code.specs.Machine.{code_of}
 use Rattle.aos_store.specs.Store.{frame_in, memory_in}
-use Rattle.aos_silent.specs.Acts.{address_in}
+use Rattle.aos_silent_steps.specs.Acts.{address_in}
 use Rattle.aos_cpu.specs.InPlace.{HasTurnedTop}
 use Rattle.aos_cpu.proofs.InPlace.{read_top}
 use Rattle.aos_cpu.proofs.in_place.load_top.Goals as goal

@@ -2,7 +2,7 @@ use Rattle.std.proofs.Common.{rules, w64, ◌≡◌, ◌<◌, ◌+◌, ◌-◌, 
 use Rattle.std.specs.Prelude.{pos}
 use mir.Val.{to_z, of_z}
 use Rattle.std.proofs.lemmas.List.{length-reverse}
-use Rattle.aos_silent.specs.Silent.{here_at}
+use Rattle.aos_silent_steps.specs.Silent.{here_at}
 use Rattle.aos_base.specs.declared.operator.Given.{Given}
 use Rattle.aos_base.specs.Operators.{binary}
 use Rattle.aos_code.specs.declared.instr.Cell.{Cell}
@@ -11,9 +11,9 @@ use Rattle.aos_code.specs.declared.instr.Instr.{Instr}
 use Rattle.aos_code.specs.declared.instr.Instr.TheVariants.{Num}
 use Rattle.aos_code.specs.Silent.{Stack, Goes, act, given, on_numbers}
 use Rattle.aos_store.specs.Store.{frame_in}
-use Rattle.aos_silent.specs.declared.act.Act.TheVariants.{Goes as GoesOn}
+use Rattle.aos_silent_steps.specs.declared.act.Act.TheVariants.{Goes as GoesOn}
 use Rattle.aos_code.specs.Machine.{made_in}
-use Rattle.aos_silent.proofs.Stepped.{stepped_of}
+use Rattle.aos_silent_steps.proofs.Stepped.{stepped_of}
 use Rattle.aos_cpu.specs.InPlace.{HasWorked}
 use Rattle.aos_cpu.proofs.InPlace.{not_empty, silent_top}
 use Rattle.aos_cpu.proofs.in_place.operate_top.Goals as goal

@@ -6,8 +6,8 @@ use Rattle.aos_code.specs.declared.instr.Instr.TheVariants.{Num}
 use Rattle.aos_code.specs.Silent.{act}
 use Rattle.aos_code.specs.Machine.{Frame, made_in}
 use Rattle.aos_store.specs.Store.{frame_in, memory_in}
-use Rattle.aos_silent.specs.Silent.{here_at}
-use Rattle.aos_silent.specs.Steps.{IsStepOf}
+use Rattle.aos_silent_steps.specs.Silent.{here_at}
+use Rattle.aos_silent_steps.specs.Steps.{IsStepOf}
 use Rattle.aos_store.proofs.Rooms.{more_room}
 use Rattle.aos_cpu.proofs.Turns.{some_same}
 use Rattle.aos_cpu.proofs.InPlace.{worked_same}

@@ -2,7 +2,7 @@ use Rattle.std.proofs.Common.{refl, ap, ◌∙◌}
 use Rattle.aos_code.specs.declared.instr.Instr.{Instr}
 use Rattle.aos_code.specs.Silent.{act}
 use Rattle.aos_store.specs.Store.{frame_in}
-use Rattle.aos_silent.specs.Silent.{here_at}
+use Rattle.aos_silent_steps.specs.Silent.{here_at}
 use Rattle.aos_cpu.proofs.InPlace.{own_given}
 use Rattle.aos_cpu.proofs.in_place.self_top.Goals as goal
 

@@ -5,7 +5,7 @@ use Rattle.aos_code.specs.declared.instr.Instr.TheVariants.{Store}
 use Rattle.aos_code.specs.Silent.{Stack}
 use Rattle.aos_code.specs.Machine.{Frame, code_of}
 use Rattle.aos_store.specs.Store.{frame_in, memory_in}
-use Rattle.aos_silent.specs.Acts.{address_in, kind_in}
+use Rattle.aos_silent_steps.specs.Acts.{address_in, kind_in}
 use Rattle.aos_cpu.specs.InPlace.{HasTurnedTop}
 use Rattle.aos_cpu.proofs.InPlace.{store_top, worked_same}
 use Rattle.aos_cpu.proofs.in_place.store_top.Goals as goal

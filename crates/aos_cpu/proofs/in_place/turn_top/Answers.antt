@@ -4,7 +4,7 @@ use Rattle.aos_code.specs.Numbered.{numbered}
 use Rattle.aos_code.specs.Silent.{keeps_in}
 use Rattle.aos_code.specs.Machine.{code_of, made_in}
 use Rattle.aos_store.specs.Store.{frame_in, memory_in}
-use Rattle.aos_silent.specs.Silent.{Seen}
+use Rattle.aos_silent_steps.specs.Silent.{Seen}
 use Rattle.aos_cpu.proofs.Turns.{itself}
 use Rattle.aos_store.proofs.Rooms.{more_room}
 use Rattle.aos_cpu.proofs.InPlace.{turned_after, worked_none, worked_both, asks_behind}

@@ -4,7 +4,7 @@ use Rattle.aos_base.specs.declared.kernel.Did.TheVariants.{Trapped}
 use Rattle.aos_code.specs.declared.image.TypeDesc.{TypeDesc}
 use Rattle.aos_code.specs.Numbered.{numbered}
 use Rattle.aos_store.specs.Store.{memory_in}
-use Rattle.aos_silent.proofs.Oks.{ok_more}
+use Rattle.aos_silent_steps.proofs.Oks.{ok_more}
 use Rattle.aos_cpu.specs.Makes.{IsMade, IsMadeWith, AreLengths}
 use Rattle.aos_cpu.proofs.Making.{made_no, made_short, made_long, made_with}
 use Rattle.aos_cpu.proofs.makes.make.Goals as goal

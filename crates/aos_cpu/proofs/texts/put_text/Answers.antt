@@ -5,7 +5,7 @@ use Rattle.aos_code.specs.declared.instr.Cell.TheVariants.{Num}
 use Rattle.aos_code.specs.Machine.{text_at, length_in, character_cells, memory_with}
 use Rattle.aos_store.specs.Store.{memory_in, rooted_in, has_all, with_frames}
 use Rattle.aos_cpu.specs.Answers.{IsFitted}
-use Rattle.aos_silent.specs.Acts.{addr_in}
+use Rattle.aos_silent_steps.specs.Acts.{addr_in}
 use Rattle.aos_cpu.proofs.Behind.{text_lost, text_made}
 use Rattle.aos_cpu.proofs.texts.put_text.Goals as goal
 

@@ -3,7 +3,7 @@ use Rattle.aos_code.specs.declared.image.ProcShape.{ProcShape}
 use Rattle.aos_code.specs.Numbered.{numbered}
 use Rattle.aos_code.specs.Silent.{keeps_in}
 use Rattle.aos_sound.specs.FitFrames.{depth_of}
-use Rattle.aos_silent.specs.Room.{keeps_for}
+use Rattle.aos_silent_steps.specs.Room.{keeps_for}
 use Rattle.aos_cpu.proofs.turn.begin_body.Goals as goal
 
 pub returns-in-Ok-clause-room : goal.returns-in-Ok-clause-room

@@ -3,8 +3,8 @@ use Rattle.std.specs.Prelude.{Option}
 use Rattle.aos_base.specs.declared.kernel.Did.TheVariants.{Ended as NoFrame}
 use Rattle.aos_code.specs.Machine.{made_in}
 use Rattle.aos_store.specs.Store.{frames_in, memory_in}
-use Rattle.aos_silent.specs.declared.silent.Stop.{Stop}
-use Rattle.aos_silent.proofs.Oks.{ok_more}
+use Rattle.aos_silent_steps.specs.declared.silent.Stop.{Stop}
+use Rattle.aos_silent_steps.proofs.Oks.{ok_more}
 use Rattle.aos_cpu.specs.Turns.{HasCome, IsTurned}
 use Rattle.aos_cpu.proofs.Turns.{ended_turned}
 use Rattle.aos_cpu.proofs.InPlace.{turned_behind}

@@ -1,7 +1,7 @@
 use Rattle.std.proofs.Common.{◌≡◌, length, ap, arith}
 use Rattle.std.specs.Prelude.{IsOk}
-use Rattle.aos_silent.specs.Known.{known}
-use Rattle.aos_silent.specs.Silent.{Seen}
+use Rattle.aos_silent_steps.specs.Known.{known}
+use Rattle.aos_silent_steps.specs.Silent.{Seen}
 use Rattle.aos_cpu.proofs.Turns.{last_read, advanced, stands_there, itself}
 use Rattle.aos_cpu.proofs.Fitting.{same_stay, opened_stay, silent_stay}
 use Rattle.aos_cpu.proofs.turn.come_to_stop.Goals as goal

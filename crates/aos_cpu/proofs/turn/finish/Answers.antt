@@ -1,11 +1,11 @@
 use Rattle.std.proofs.Common.{refl, subst}
 use Rattle.aos_store.specs.Store.{list_in, memory_in}
 use Rattle.aos_base.specs.declared.kernel.Did.TheVariants.{Went, Trapped}
-use Rattle.aos_silent.specs.declared.silent.Stop.{Stop}
-use Rattle.aos_silent.specs.declared.silent.Stop.TheVariants.{Fails as AtFault, Decides as AtVerdict}
+use Rattle.aos_silent_steps.specs.declared.silent.Stop.{Stop}
+use Rattle.aos_silent_steps.specs.declared.silent.Stop.TheVariants.{Fails as AtFault, Decides as AtVerdict}
 use Rattle.aos_sound.specs.FitFrames.{depth_of}
-use Rattle.aos_silent.specs.Known.{known}
-use Rattle.aos_silent.specs.Room.{keeps_for}
+use Rattle.aos_silent_steps.specs.Known.{known}
+use Rattle.aos_silent_steps.specs.Room.{keeps_for}
 use Rattle.aos_cpu.specs.Turns.{StandsAtStop}
 use Rattle.aos_cpu.proofs.Turns.{begun_shown, failed_shown, shown_alike}
 use Rattle.aos_cpu.proofs.Fitting.{begun_stay}

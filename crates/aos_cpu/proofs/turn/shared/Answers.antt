@@ -2,8 +2,8 @@ use Rattle.std.proofs.Common.{sym, ap, ◌∙◌, subst}
 use Rattle.aos_code.specs.Memory.{Memory}
 use Rattle.aos_code.specs.Machine.{made_in}
 use Rattle.aos_store.specs.Store.{list_in, memory_in}
-use Rattle.aos_silent.specs.declared.silent.Stop.TheVariants.{Work as AtWork}
-use Rattle.aos_silent.proofs.Oks.{ok_more}
+use Rattle.aos_silent_steps.specs.declared.silent.Stop.TheVariants.{Work as AtWork}
+use Rattle.aos_silent_steps.proofs.Oks.{ok_more}
 use Rattle.aos_cpu.specs.Turns.{IsTurned, Rests, WhereLeft, StandsAtStop, counted}
 use Rattle.aos_cpu.proofs.InPlace.{went_in_place, turned_behind, rests_behind, left_more}
 use Rattle.aos_cpu.proofs.turn.shared.Goals as goal

@@ -2,11 +2,11 @@ use Rattle.std.proofs.Common.{◌≡◌, List, ◌∷◌, drop, true, sym, ap, �
 use Rattle.aos_base.specs.declared.kernel.Did.TheVariants.{Trapped}
 use Rattle.aos_code.specs.Machine.{asker, Frame, finds, works}
 use Rattle.aos_store.specs.Store.{list_in, memory_in}
-use Rattle.aos_silent.specs.declared.silent.Stop.TheVariants.{Work as AtWork}
-use Rattle.aos_silent.specs.Acts.{question_in, operands_of}
-use Rattle.aos_silent.specs.Known.{known}
+use Rattle.aos_silent_steps.specs.declared.silent.Stop.TheVariants.{Work as AtWork}
+use Rattle.aos_silent_steps.specs.Acts.{question_in, operands_of}
+use Rattle.aos_silent_steps.specs.Known.{known}
 use Rattle.aos_cpu.specs.Turns.{HasAnswered, WhereLeft, Same, IsTurned}
-use Rattle.aos_silent.proofs.Oks.{ok_more, ok_both}
+use Rattle.aos_silent_steps.proofs.Oks.{ok_more, ok_both}
 use Rattle.aos_cpu.proofs.Fitting.{answered_stay}
 use Rattle.aos_cpu.proofs.Turns.{failed_shown, shown_alike, worked, stands_at, stands_before}
 use Rattle.aos_cpu.proofs.turn.work.Goals as goal

@@ -2,7 +2,7 @@ use Rattle.std.proofs.Common.{sym, ap, ◌∙◌}
 use Rattle.std.specs.Prelude.{not}
 use Rattle.aos_code.specs.Machine.{finds}
 use Rattle.aos_store.specs.Store.{memory_in}
-use Rattle.aos_silent.specs.Acts.{question_in}
+use Rattle.aos_silent_steps.specs.Acts.{question_in}
 use Rattle.aos_found.proofs.Others.{others_find}
 use Rattle.aos_found.proofs.found.finds.Goals as goal
 

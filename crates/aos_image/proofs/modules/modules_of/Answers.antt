@@ -3,9 +3,9 @@ use Rattle.std.specs.List.{flat_map}
 use Rattle.aos_typed.specs.Seen.{seen_module, seen_program}
 use Rattle.aos_code.specs.Machine.{first_cell}
 use Rattle.aos_sim.specs.Shows.{text_cells}
-use Rattle.aos_laid.specs.Laid.{module_kinds}
+use Rattle.aos_program_layout.specs.Laid.{module_kinds}
 use Rattle.aos_image.proofs.Described.{first_cells_are, module_more}
-use Rattle.aos_laid.proofs.Found.{kinds_at}
+use Rattle.aos_program_layout.proofs.Found.{kinds_at}
 use Rattle.aos_image.proofs.modules.modules_of.Goals as goal
 
 pub loop-module-preserved : goal.loop-module-preserved

@@ -1,7 +1,7 @@
 use Rattle.std.proofs.Common.{sym, subst}
 use Rattle.aos_sound.specs.FitFrames.{depth_of}
 use Rattle.aos_store.specs.declared.frames.Frames.{Frames as KeptFrames}
-use Rattle.aos_silent.specs.Room.{keeps_for, AreRoomy}
+use Rattle.aos_silent_steps.specs.Room.{keeps_for, AreRoomy}
 use Rattle.aos_kernel.proofs.activity.frames_of_object.Goals as goal
 use Rattle.aos_kernel.proofs.activity.frames_of_object.Goals.{then-body-ne0+in_ok-begin_body, else-body-ne0}
 

@@ -2,7 +2,7 @@ use Rattle.std.proofs.Common.{◌≡◌, suc, List, [], ◌∷◌, ◌++◌, len
 use Rattle.std.specs.Prelude.{None}
 use Rattle.aos_base.specs.declared.priority.Priority.TheVariants.{Normal}
 use Rattle.aos_base.specs.Book.{move, Ready}
-use Rattle.aos_line.specs.Stands.{Stands, started_of}
+use Rattle.aos_scheduler.specs.Stands.{Stands, started_of}
 use Rattle.aos_kernel.specs.declared.activity.Activity.{Activity}
 use Rattle.aos_kernel.specs.declared.activity.Next.TheVariants.{Runs}
 use Rattle.aos_kernel.specs.declared.tables.KernelTables.{KernelTables}

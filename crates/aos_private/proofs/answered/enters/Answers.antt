@@ -4,7 +4,7 @@ use Rattle.std.specs.Option.{option_map}
 use Rattle.aos_code.specs.declared.instr.Cell.{Cell}
 use Rattle.aos_code.specs.Machine.{arguments_of, rooted}
 use Rattle.aos_store.specs.Store.{list_in, memory_in, rooted_in, deep}
-use Rattle.aos_silent.specs.Acts.{behind_value, with_object, passed}
+use Rattle.aos_silent_steps.specs.Acts.{behind_value, with_object, passed}
 use Rattle.aos_cpu.specs.Calls.{Gift, gifts, all_copied}
 use Rattle.aos_cpu.proofs.Calling.{none_of, some_of, deep_same}
 use Rattle.aos_cpu.proofs.Passing.{no_gifts, same_gifts}

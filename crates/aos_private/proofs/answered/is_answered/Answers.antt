@@ -11,8 +11,8 @@ use Rattle.aos_code.specs.Memory.{Memory}
 use Rattle.aos_code.specs.Silent.{Keeps, Stack}
 use Rattle.aos_code.specs.Machine.{asker, Frame, rooted, calls, works, finds, text_at, length_in}
 use Rattle.aos_store.specs.Store.{memory_in, has_all}
-use Rattle.aos_silent.specs.declared.act.Question.{Question}
-use Rattle.aos_silent.specs.Acts.{question_in, addr_in, passed}
+use Rattle.aos_silent_steps.specs.declared.act.Question.{Question}
+use Rattle.aos_silent_steps.specs.Acts.{question_in, addr_in, passed}
 use Rattle.aos_cpu.specs.Answers.{ordered}
 use Rattle.aos_cpu.specs.Private.{has_gone}
 use Rattle.aos_private.specs.Answered.{holds, takes_text}

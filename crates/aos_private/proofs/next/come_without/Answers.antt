@@ -3,8 +3,8 @@ use Rattle.std.specs.Prelude.{Some, slice_set}
 use Rattle.aos_sound.specs.FitFrames.{depth_of}
 use Rattle.aos_store.specs.Store.{list_in, frame_in}
 use Rattle.aos_store.specs.declared.heap.Object.{Object}
-use Rattle.aos_silent.specs.Known.{known}
-use Rattle.aos_silent.specs.Silent.{Seen, stop_in, silent_at}
+use Rattle.aos_silent_steps.specs.Known.{known}
+use Rattle.aos_silent_steps.specs.Silent.{Seen, stop_in, silent_at}
 use Rattle.aos_cpu.specs.Private.{made_by}
 use Rattle.aos_cpu.proofs.Turns.{last_read, list_top, list_set, advanced, stands_there}
 use Rattle.aos_cpu.proofs.InRoom.{opened_top, nothing_left, top_paths, top_stands, top_few, still_fit, still_roomy}

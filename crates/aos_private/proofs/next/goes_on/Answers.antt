@@ -1,6 +1,6 @@
 use Rattle.std.proofs.Common.{sym, subst}
 use Rattle.aos_store.specs.Store.{memory_in}
-use Rattle.aos_silent.specs.declared.silent.Stop.{Stop}
+use Rattle.aos_silent_steps.specs.declared.silent.Stop.{Stop}
 use Rattle.aos_private.specs.Answered.{TellsStop}
 use Rattle.aos_private.proofs.next.goes_on.Goals as goal
 

@@ -2,8 +2,8 @@ use Rattle.std.proofs.Common.{List, subst}
 use Rattle.std.specs.Prelude.{Option}
 use Rattle.aos_store.specs.declared.heap.Object.{Object}
 use Rattle.aos_store.specs.Store.{list_in, frames_in}
-use Rattle.aos_silent.specs.declared.silent.Stop.{Stop}
-use Rattle.aos_silent.specs.Known.{known}
+use Rattle.aos_silent_steps.specs.declared.silent.Stop.{Stop}
+use Rattle.aos_silent_steps.specs.Known.{known}
 use Rattle.aos_cpu.specs.Turns.{HasCome, StandsAtStop}
 use Rattle.aos_private.proofs.next.is_next_private.Goals as goal
 

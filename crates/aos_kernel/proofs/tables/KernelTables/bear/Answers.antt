@@ -10,8 +10,8 @@ use Rattle.aos_code.specs.Memory.{Memory}
 use Rattle.aos_store.specs.Store.{frames_in, memory_in}
 use Rattle.aos_cpu.specs.Turns.{seen_frames}
 use Rattle.aos_ready.specs.Order.{number_of}
-use Rattle.aos_line.specs.Stands.{Stands, started_of}
-use Rattle.aos_line.proofs.Standing.{on_within}
+use Rattle.aos_scheduler.specs.Stands.{Stands, started_of}
+use Rattle.aos_scheduler.proofs.Standing.{on_within}
 use Rattle.aos_kernel.specs.declared.activity.Activity.{Activity}
 use Rattle.aos_kernel.specs.declared.activity.Next.TheVariants.{Runs}
 use Rattle.aos_kernel.specs.declared.tables.KernelTables.{KernelTables}

@@ -1,7 +1,7 @@
 use Rattle.std.proofs.Common.{◌<◌, ◌∙◌, sym, ap, subst, length}
 use Rattle.std.proofs.lemmas.List.{length-set}
 use Rattle.std.proofs.lemmas.Result.{on_ok_weaker}
-use Rattle.aos_line.proofs.Standing.{on_within}
+use Rattle.aos_scheduler.proofs.Standing.{on_within}
 use Rattle.aos_kernel.proofs.Rows.{get_below}
 use Rattle.aos_kernel.proofs.TablesShown.{turns_no_wait, shows_awaiting, set_awaits, set_before, shows_either}
 use Rattle.aos_kernel.proofs.tables.KernelTables.begin_wait.Goals as goal

@@ -2,7 +2,7 @@ use Rattle.std.proofs.Common.{subst, refl}
 use Rattle.std.proofs.lemmas.Result.{on_ok_weaker, on_err_weaker}
 use Rattle.aos_base.specs.declared.kernel.Did.TheVariants.{Enter}
 use Rattle.aos_lock.specs.declared.lock.Entered.{Entered}
-use Rattle.aos_line.specs.Stands.{HasEntered}
+use Rattle.aos_scheduler.specs.Stands.{HasEntered}
 use Rattle.aos_kernel.proofs.Rows.{runs_live}
 use Rattle.aos_kernel.proofs.TablesShown.{shows_line, shows_same, shown_same, turn_same, turns_no_wait, before_same, on_err}
 use Rattle.aos_kernel.proofs.Handing.{shows_taken, taken_no_wait, shows_waits, owner_enters, other_enters, first_enters}

@@ -4,8 +4,8 @@ use Rattle.aos_base.specs.Lock.{is_lock}
 use Rattle.aos_base.specs.Book.{put, leave_line}
 use Rattle.aos_lock.specs.Heirs.{new_owner}
 use Rattle.aos_ready.specs.Order.{number_of}
-use Rattle.aos_line.specs.Stands.{Stands}
-use Rattle.aos_line.proofs.Passing.{left_some}
+use Rattle.aos_scheduler.specs.Stands.{Stands}
+use Rattle.aos_scheduler.proofs.Passing.{left_some}
 use Rattle.aos_kernel.specs.declared.activity.Activity.{Activity}
 use Rattle.aos_kernel.specs.declared.tables.KernelTables.{KernelTables}
 use Rattle.aos_kernel.proofs.TablesShown.{shows_known}

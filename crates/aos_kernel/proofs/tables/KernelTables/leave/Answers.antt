@@ -1,6 +1,6 @@
 use Rattle.std.proofs.Common.{refl, sym, subst, ◌∙◌}
 use Rattle.aos_base.specs.declared.kernel.Did.TheVariants.{Leave}
-use Rattle.aos_line.specs.Stands.{IsStood}
+use Rattle.aos_scheduler.specs.Stands.{IsStood}
 use Rattle.aos_kernel.specs.Conditions.{HasRooms}
 use Rattle.aos_kernel.proofs.TablesShown.{shows_same, shown_same, turn_same, turns_no_wait, before_same, on_err}
 use Rattle.aos_kernel.proofs.tables.KernelTables.leave.Goals as goal

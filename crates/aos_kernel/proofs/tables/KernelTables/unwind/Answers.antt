@@ -4,7 +4,7 @@ use Rattle.std.proofs.lemmas.List.{reverse-append, length-set}
 use Rattle.aos_base.specs.Book as book
 use Rattle.aos_kernel.specs.declared.activity.Activity.{Activity}
 use Rattle.aos_kernel.specs.declared.activity.Next.TheVariants.{Unwinds}
-use Rattle.aos_line.proofs.Standing.{on_within}
+use Rattle.aos_scheduler.proofs.Standing.{on_within}
 use Rattle.aos_kernel.specs.Conditions.{HasRooms}
 use Rattle.aos_kernel.proofs.Rows.{get_below}
 use Rattle.aos_kernel.proofs.TablesShown.{shows_same, shown_same, turn_same, here_turns, next_is_in, turns_by, turn_ended, shows_popped, shows_relocked, on_err}

@@ -1,5 +1,0 @@
-use Rattle.aos_pieces.proofs.Images.{image_sound}
-use Rattle.aos_pieces.proofs.law_of_images.Goals as goal
-
-pub returns : goal.returns
-returns c = λ p image well ok depths. image_sound p image well ok depths

@@ -1,0 +1,9 @@
+use Rattle.std.proofs.Common.{◌≡◌, ◌∙◌, subst}
+use Rattle.std.specs.Prelude.{IfOk}
+use Rattle.aos_typed.specs.Methods.{body_type}
+use Rattle.aos_typed.specs.Seen.{seen_program}
+use Rattle.aos_program_layout.proofs.laid.Laid.body_type.Goals as goal
+
+pub returns : goal.returns
+returns c =
+    subst (λ p. IfOk c.body_type.result (λ n. n ≡ body_type (seen_program p) c.args.of)) (c.self.invariant.same ∙ c.self.view_is) c.body_type.ensures
