@@ -205,11 +205,12 @@ fn begun(alloc: Global, t: TypeId) -> Result<Work, AllocError>
 }
 
 /// What is to be done for a type's own fields, behind the kinds of its base.
-fn begun_behind(alloc: Global, above: &[Kind], t: TypeId) -> Result<Work, AllocError>
+fn begun_behind(alloc: Global, types: &Types, above: &[Kind], t: TypeId) -> Result<Work, AllocError>
     ensures kinds { IfOk result (λ w. w.kinds.items ≡ above.now) }
     ensures tasks { IfOk result (λ w. w.tasks.items ≡ Task.Fields t 0 ∷ []) }
 {
-    let mut kinds = Vec::new(alloc);
+    let count = above.len().saturating_add(fields_of(types, t).len());
+    let mut kinds = Vec::with_capacity(alloc, count)?;
     kinds.extend_from_slice(above)?;
     let mut tasks = Vec::new(alloc);
     tasks.push(Task::Fields(t, 0))?;
@@ -274,7 +275,7 @@ pub fn object_kinds(
     requires kinds { above.now ≡ layout.made_kinds types.now base }
     ensures { IfOk result (λ kinds. kinds.items ≡ layout.made_kinds types.now t) }
 {
-    let first = begun_behind(alloc, above, t)?;
+    let first = begun_behind(alloc, types, above, t)?;
     let kinds = finished(types, first)?;
     Ok(kinds)
 }
