@@ -240,7 +240,7 @@ impl<'a> Home<'a> {
     }
 
     /// An object type, where it is as far behind the first one as its number is.
-    fn object_in_turn(&self, of: TypeId) -> Option<ObjectScope>
+    pub(crate) fn object_in_turn(&self, of: TypeId) -> Option<ObjectScope>
         ensures { IfSome result (λ object. home.object_of self.now of ≡ Some object) }
     {
         let (first, _) = self.objects.get_index(0)?;

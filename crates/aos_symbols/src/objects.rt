@@ -97,11 +97,16 @@ impl<'a> Env<'a> {
         Ok(all)
     }
 
-    /// Puts the scope of an object type behind others.
+    /// Puts the scope of an object type behind others. It is looked for where its number is in turn first, so that a walk over many
+    /// types calls nothing that hashes.
     fn put_place(&self, path: &mut Vec<Open>, of: TypeId) -> Result<(), AllocError>
         ensures { OnOk result (path.new.items ≡
             path.old.items ++ env.opened self.now (env.object self.now of)) }
     {
+        if let Some(object) = self.here.object_in_turn(of) {
+            path.push(object_place(object))?;
+            return Ok(());
+        }
         match self.object(of) {
             Some(object) => {
                 path.push(object_place(object))?;
