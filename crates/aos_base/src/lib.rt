@@ -6,8 +6,8 @@ pub mod kernel;
 pub mod limits;
 pub mod number;
 pub mod operator;
-pub mod root;
 pub mod priority;
+pub mod root;
 pub mod set;
 pub mod text;
 
@@ -15,7 +15,7 @@ pub use kernel::{Did, Event, LockName, MAX_STEPS, Outcome, Sched, Verdict};
 pub use limits::{MOST_FRAME_SCALARS, MOST_FRAMES, MOST_LIVE, MOST_SCALARS, MOST_STARTED};
 pub use number::{Relation, Width, abs, add, ash, div, fits, modulo, mul, neg, related, sub};
 pub use operator::{Binary, Given, Unary, apply_binary, apply_unary, natural, truth};
-pub use root::Root;
 pub use priority::Priority;
+pub use root::Root;
 pub use set::{set_has, set_span};
 pub use text::{NoMemory, Pos, Refusal};

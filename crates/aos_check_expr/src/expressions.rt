@@ -18,8 +18,8 @@ use aos_arguments::{
 };
 use aos_base::Pos;
 use aos_designators::{
-    Bound, Head, Heading, Part, bound_part, element as element_of, followed_part, guarded,
-    is_module, is_of_module, named, plain, pointed, read, selected, entity_of_part,
+    Bound, Head, Heading, Part, bound_part, element as element_of, entity_of_part, followed_part,
+    guarded, is_module, is_of_module, named, plain, pointed, read, selected,
 };
 use aos_known::{Answer, Entity, constant_answer, entity_of, is_integer, refused, refused_value};
 use aos_made::MadeCallee;

@@ -205,7 +205,13 @@ pub fn put_ln(frames: &mut Frames, output: &mut Vec<u8>, at: usize) -> Result<Di
 }
 
 /// A value is stored.
-pub fn write(frames: &mut Frames, store: &mut Store, address: Address, value: Cell, at: usize) -> Did
+pub fn write(
+    frames: &mut Frames,
+    store: &mut Store,
+    address: Address,
+    value: Cell,
+    at: usize,
+) -> Did
     requires { at + 1 < 2 ^ 64 }
     ensures answered { (out : List ℕ) →
         IsAnswered (Stores (addr_in address) value) at 2 frames.old frames.new (memory_in store.old)

@@ -92,7 +92,12 @@ fn judge(store: &Store, question: Question, at: usize, frames: &mut Frames) -> O
     ensures counts { SameCounts frames.old frames.new }
 {
     match question {
-        Question::Reads(kind, address) => match load_at(frames, store, address.root, address.cell as usize) {
+        Question::Reads(kind, address) => match load_at(
+            frames,
+            store,
+            address.root,
+            address.cell as usize,
+        ) {
             None => Some(Verdict::Traps(16)),
             Some(value) => {
                 if !is_of(kind, value) {

@@ -19,13 +19,13 @@ ghost use Rattle.aos_cpu.specs.InPlace.{IsAhead, HasSet, IsDone, HasRunTop, HasT
 
 use aos_base::{Binary, Given, Pos, Root, apply_binary};
 use aos_code::{Cell, Image, Instr, Kind};
-use aos_silent_steps::{Address, Question, code_of, keeps_of, replace, take};
 use aos_silent_steps::act::Act;
 use aos_silent_steps::instruction::do_one;
 use aos_silent_steps::objects::tell_cell;
 use aos_silent_steps::operands::{address, is_of, numbers, of_kind};
 use aos_silent_steps::step::give_value;
 use aos_silent_steps::values::{jump, jump_on_false};
+use aos_silent_steps::{Address, Question, code_of, keeps_of, replace, take};
 use aos_store::{Change, Frame, Frames, Store};
 
 /// What an instruction has done to the topmost frame: silent work; a turn, in which no statement has begun, or one has; or nothing,

@@ -285,7 +285,14 @@ fn compare_arrays(first: &[Cell], second: &[Cell]) -> Option<i64>
 }
 
 /// How the texts at two places compare, where there are both.
-pub fn compare_at(frames: &Frames, store: &Store, a: Address, n: i64, b: Address, m: i64) -> Option<i64>
+pub fn compare_at(
+    frames: &Frames,
+    store: &Store,
+    a: Address,
+    n: i64,
+    b: Address,
+    m: i64,
+) -> Option<i64>
     ensures { result ≡ ordered (text_at [] (addr_in a) (Num n) (rooted_in frames.now store.now))
         (text_at [] (addr_in b) (Num m) (rooted_in frames.now store.now)) }
 {

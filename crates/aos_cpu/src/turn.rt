@@ -30,8 +30,11 @@ pub fn begin_body(
 ) -> Result<(), NoMemory>
     requires { frames.old.list.items ≡ [] }
     ensures ok { OnOk result (frames_in frames.new ≡
-        record { following = reverse frames.old.following.items; frames = body_frame object
-        procedure ∷ [] }) }
+        record {
+          following = reverse frames.old.following.items;
+          frames = body_frame object
+              procedure ∷ [];
+        }) }
     ensures err { OnErr result (frames_in frames.new ≡ frames_in frames.old) }
     ensures following { frames.new.following ≡ frames.old.following }
     ensures counts { SameCounts frames.old frames.new }

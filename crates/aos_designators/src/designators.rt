@@ -11,8 +11,8 @@ use crate::references::guarded_entity;
 use crate::variables::{is_of_module, place_of_variable};
 use aos_base::Pos;
 use aos_known::{
-    Answer, Class, Held, Known, Entity, answered, constant_answer, is_built, known_as, nothing,
-    read_from, refused, refused_value, refused_variable, entity_of, unknown,
+    Answer, Class, Entity, Held, Known, answered, constant_answer, entity_of, is_built, known_as,
+    nothing, read_from, refused, refused_value, refused_variable, unknown,
 };
 use aos_made::Typed;
 use aos_symbols::{

@@ -12,7 +12,7 @@ pub use designators::{
     refuse_written, refused_at,
 };
 pub use methods::{
-    Bound, Heading, Part, bound_part, followed_part, pointed, selected, entity_of_part,
+    Bound, Heading, Part, bound_part, entity_of_part, followed_part, pointed, selected,
 };
 pub use references::{guard, guarded};
 pub use selectors::element;

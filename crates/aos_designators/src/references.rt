@@ -11,7 +11,7 @@ ghost use Rattle.aos_designators.specs.Designators as judge;
 use crate::designators::{refused_at, refused_variable_at};
 use aos_base::Pos;
 use aos_known::{
-    Class, Held, Entity, holds_passed, is_opened, is_record_type, known_as, made_number, may_test,
+    Class, Entity, Held, holds_passed, is_opened, is_record_type, known_as, made_number, may_test,
     object_number, open_dimensions, read_from, target_of, type_as, value_class,
 };
 use aos_made::{MadePlace, MadeRows, Typed};
@@ -90,7 +90,12 @@ pub fn unknown_part(at: Pos, whole: Entity) -> Entity
 }
 
 /// An object that is guarded with a type; it is no variable.
-fn guarded_object(alloc: Global, env: &Env<'_>, t: TypeId, whole: Entity) -> Result<Entity, AllocError>
+fn guarded_object(
+    alloc: Global,
+    env: &Env<'_>,
+    t: TypeId,
+    whole: Entity,
+) -> Result<Entity, AllocError>
     ensures { IfOk result (λ r.
         seen_entity r ≡ judge.guarded_object env.now t (seen_entity whole)) }
 {

@@ -13,7 +13,7 @@ use crate::designators::refused_variable_at;
 use crate::references::{followed_class, followed_entity, through, unknown_part};
 use aos_base::Pos;
 use aos_known::{
-    Answer, Class, Held, Entity, is_basic, is_built, is_number, is_object_type, is_record_type,
+    Answer, Class, Entity, Held, is_basic, is_built, is_number, is_object_type, is_record_type,
     known_as, read_from, rows_of, target_of, type_as,
 };
 use aos_made::{MadePlace, MadeRows, Typed};

@@ -5,11 +5,11 @@
 pub mod awaits;
 mod chains;
 mod dispatch;
-mod prefixes;
 mod lengths;
 mod methods;
 mod nearest;
 mod numbers;
+mod prefixes;
 pub mod routines;
 mod shared;
 mod types;
@@ -17,8 +17,8 @@ mod upward;
 
 pub use awaits::{Await, awaits_of};
 pub use dispatch::Dispatch;
-pub use prefixes::Prefix;
 pub use lengths::{dimensions, operands};
 pub use numbers::{after, next};
+pub use prefixes::Prefix;
 pub use routines::{Routine, routines_of};
 pub use types::{PREDECLARED_TYPES, type_in};

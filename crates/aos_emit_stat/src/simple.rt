@@ -92,7 +92,14 @@ pub fn emit_copy(
         (Copy at of (seen_place to.now) (seen_place from.now))) }
 {
     let last = Instr::Copy(scope.cells_of(of));
-    emit_two(scope, code, at, Prefix::Place(to), Prefix::Place(from), last)
+    emit_two(
+        scope,
+        code,
+        at,
+        Prefix::Place(to),
+        Prefix::Place(from),
+        last,
+    )
 }
 
 /// A call of a procedure.

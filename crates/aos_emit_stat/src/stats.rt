@@ -465,7 +465,13 @@ fn emit_stat(
         TStat::Block(at, exclusive, body) => emit_block(scope, code, *at, *exclusive, body, level),
         TStat::Await(at, number, _) => emit_alone(code, *at, Instr::Await(*number)),
         TStat::Assert(at, test, number) => {
-            emit_one(scope, code, *at, Prefix::Value(test), Instr::Assert(*number))
+            emit_one(
+                scope,
+                code,
+                *at,
+                Prefix::Value(test),
+                Instr::Assert(*number),
+            )
         }
         TStat::Halt(at, number) => emit_alone(code, *at, Instr::Halt(*number)),
         TStat::Change(at, change, place, value) => {

@@ -4,7 +4,6 @@
 mod activity;
 mod births;
 mod conditions;
-mod tables;
 pub mod kernel;
 mod laws;
 mod loans;
@@ -12,6 +11,7 @@ mod locks;
 pub mod log;
 mod runs;
 mod steps;
+mod tables;
 mod traps;
 mod turns;
 mod waits;

@@ -10,10 +10,10 @@ pub use kinds::{
     is_reference, is_value, made_number, may_be_value, may_test, open_dimensions, target_of,
 };
 pub use known::{
-    Answer, Class, Held, Known, Entity, answered, as_procedure, constant_answer, fits, fits_type,
-    greatest_of, is_basic, is_boolean, is_char, is_integer, is_long_text, is_number, is_of_any,
-    is_set, is_unknown, known_as, least_of, lost, next, nothing, object_number, previous,
-    read_from, refused, refused_value, refused_variable, entity_of, type_as, type_of,
+    Answer, Class, Entity, Held, Known, answered, as_procedure, constant_answer, entity_of, fits,
+    fits_type, greatest_of, is_basic, is_boolean, is_char, is_integer, is_long_text, is_number,
+    is_of_any, is_set, is_unknown, known_as, least_of, lost, next, nothing, object_number,
+    previous, read_from, refused, refused_value, refused_variable, type_as, type_of,
     type_of_literal, unknown, value_class, width_of, width_of_type,
 };
 pub use places::{holds_passed, made_place_in, place_in, place_of, reads_passed, rows_of};

@@ -39,7 +39,11 @@ fn place_end<'b>(place: &'b TPlace) -> Result<(u32, Option<Prefix<'b>>), AllocEr
         TPlace::Typed(whole, _) => Ok((0, Some(Prefix::Place(whole)))),
         TPlace::Guarded(whole, _) => Ok((0, Some(Prefix::Place(whole)))),
         TPlace::Field(whole, _, _) => Ok((0, Some(Prefix::Place(whole)))),
-        TPlace::Index(whole, _, _, index) => both_end(Prefix::Place(whole), 1, Prefix::Value(index)),
+        TPlace::Index(whole, _, _, index) => both_end(
+            Prefix::Place(whole),
+            1,
+            Prefix::Value(index),
+        ),
     }
 }
 

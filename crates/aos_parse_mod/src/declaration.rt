@@ -12,9 +12,9 @@ ghost use Rattle.aos_parse_expr.specs.Machine.{Moves};
 ghost use Rattle.aos_parse_mod.specs.Parts.{IsFieldList};
 ghost use Rattle.aos_parse_mod.specs.Symbols as m;
 
-use crate::phrases::{body, lengths, then_expr};
 use crate::heading::{base, flag, formals};
 use crate::names::{def, defs, qualident};
+use crate::phrases::{body, lengths, then_expr};
 use crate::token::{ident, option, split, starts_decl, word};
 use aos_parse_expr::ParseErr;
 use aos_scan::{Token, TokenKind};

@@ -5,11 +5,11 @@
 //! ends at 200.
 #![tactic(auto)]
 
-mod phrases;
 mod declaration;
 mod heading;
 pub mod laws;
 mod names;
+mod phrases;
 mod text;
 mod token;
 

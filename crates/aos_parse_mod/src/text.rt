@@ -8,8 +8,8 @@ ghost use Rattle.aos_tree.specs.ModuleGrammar as grammar;
 ghost use Rattle.aos_parse_expr.specs.Machine.{Moves};
 ghost use Rattle.aos_parse_mod.specs.Symbols as m;
 
-use crate::phrases::body;
 use crate::declaration::decls;
+use crate::phrases::body;
 use crate::token::{end, ident, split, then_name, word};
 use aos_parse_expr::ParseErr;
 use aos_scan::{Token, TokenKind};

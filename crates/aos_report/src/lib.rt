@@ -199,8 +199,13 @@ pub fn wait_line(alloc: Global, w: &WaitRec, names: &[&str]) -> Result<Vec<u8>, 
     ensures { IfOk result
         (λ line. line.items ≡
         wait_text (map (λ n. n.now) names.now)
-        (record { activity = w.now.activity; lock = w.now.lock; awaits = w.now.awaits; at = record
-        { module_ = w.now.module; pos = w.now.pos } })) }
+        (record {
+          activity = w.now.activity;
+          lock = w.now.lock;
+          awaits = w.now.awaits;
+          at = record
+              { module_ = w.now.module; pos = w.now.pos };
+        })) }
 {
     let mut line = Vec::new(alloc);
     put(&mut line, "waiting ")?;

@@ -140,7 +140,13 @@ pub fn assigned_stat(
     let of = type_of(to);
     if let Some(known) = to {
         if has_parts(env, known) {
-            return MadeStat::copy(alloc, first, of, place_of(entity.held), place_in(value.typed));
+            return MadeStat::copy(
+                alloc,
+                first,
+                of,
+                place_of(entity.held),
+                place_in(value.typed),
+            );
         }
     }
     let value = typed_for(env, to, value);
