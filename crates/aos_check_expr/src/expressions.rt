@@ -650,7 +650,7 @@ pub fn arguments_for(
 
 /// As many arguments as there are parameters, one after another.
 #[cycle(exprs)]
-#[tactic(auto, using(aos_symbols::proofs::Keeping::after_more, crate::proofs::Handed::handed_noted, crate::proofs::Handed::handed_answer, crate::proofs::Handed::at_end, crate::proofs::Handed::no_more))]
+#[tactic(auto, using(aos_symbols::proofs::Keeping::after_more, crate::proofs::ArgumentLists::handed_noted, crate::proofs::ArgumentLists::handed_answer, crate::proofs::ArgumentLists::at_end, crate::proofs::ArgumentLists::no_more))]
 fn handed(
     alloc: Global,
     found: &mut Option<Breach>,

@@ -203,7 +203,7 @@ fn argument_uses(
 
 /// What is handed over to what runs under a number.
 #[cycle(value_uses)]
-#[tactic(auto, using(aos_dispatch::proofs::Sizes::argument_less, crate::proofs::Handed::arguments_next))]
+#[tactic(auto, using(aos_dispatch::proofs::Sizes::argument_less, crate::proofs::UsedArguments::arguments_next))]
 pub fn arguments_uses(
     dispatch: &Dispatch<'_>,
     uses: &mut Vec<Use>,
