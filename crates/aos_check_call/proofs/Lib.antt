@@ -1,1 +1,1 @@
-mod Brackets
+pub mod WithBrackets

@@ -164,7 +164,7 @@ fn called_before(
 }
 
 /// A call of what a designator is: of a method, of what a value of a procedure type stands for, or of what is no procedure.
-#[tactic(auto, using(crate::proofs::Brackets::called_bracket))]
+#[tactic(auto, using(crate::proofs::WithBrackets::called_bracket))]
 pub fn called_value(
     alloc: Global,
     found: &mut Option<Breach>,
