@@ -285,7 +285,7 @@ module _ (p : Program) (names : HasNames p) (n : ℕ) (r : Routine) where
         by _ _ at had (Rests js next) = absurd (let no : None ≡ Some come.answers = sym had ∙ come.begun in cc no)
         by _ _ at had (Begins i js next) =
             let none : [] ≡ come.answers = some_same p g.answers [] come.answers had come.begun in
-            let begins = begins_says p names n r Any (any_plainly p) here come.item come.rest (inl tt) (subst (ItemsFine p n r) come.items fine') (any_items (come.item ∷ come.rest)) in
+            let begins = begins_says p names n r Any (any_plainly p) here come.item come.rest (inl tt) (subst (ItemsFine p n r) come.items fine') (all_give (ResultIs Any) any_result (come.item ∷ come.rest)) in
             absurd (none_initial p n here (made_in s) f.variables (item_of p here come.item) _ _ _ begins (ap (λ vs. feed vs (item_of p here come.item)) none ∙ come.is))
         by _ _ at had (Tested line b e js next) =
             let i = first_same p g.items come.item (Until line b e) come.rest js come.items at in
@@ -307,7 +307,7 @@ module _ (p : Program) (names : HasNames p) (n : ℕ) (r : Routine) where
             let calmed : calm p.types (made_in s) f.variables before ≡ Asks (Calls Initially h.number (h.value ∷ h.arguments)) h.asks.0 =
             sym (feed_noted p.types (made_in s) f.variables before) ∙ sym (feed-append vs (noted p.types (made_in s) f.variables before) (item_of p (here_of f fs) i))
             ∙ (λ k. feed (sym ws k) (item_of p (same_here k) (sym j k))) ∙ come.is in
-            let said = come_says p names n r Any (any_plainly p) (here_of f fs) i js vs before refl (inl tt) (subst (ItemsFine p n r) e fine) (any_items (i ∷ js)) (any_all vs) in
+            let said = come_says p names n r Any (any_plainly p) (here_of f fs) i js vs before refl (inl tt) (subst (ItemsFine p n r) e fine) (all_give (ResultIs Any) any_result (i ∷ js)) (any_all vs) in
             let is = calm_pends p n (here_of f fs) (made_in s) f.variables said.0.0 before h.number (h.value ∷ h.arguments) h.asks.0 said.0.1 calmed in (
               record {
                 number = h.number;
@@ -332,7 +332,7 @@ module _ (p : Program) (names : HasNames p) (n : ℕ) (r : Routine) where
         by (inr begins) =
             let here = here_of g fs in
             let none : [] ≡ come.answers = some_same p g.answers [] come.answers begins come.begun in
-            let said = begins_says p names n r Any (any_plainly p) here come.item come.rest (inl tt) (subst (ItemsFine p n r) come.items fine') (any_items (come.item ∷ come.rest)) in
+            let said = begins_says p names n r Any (any_plainly p) here come.item come.rest (inl tt) (subst (ItemsFine p n r) come.items fine') (all_give (ResultIs Any) any_result (come.item ∷ come.rest)) in
             none_initial p n here (made_in s) f.variables (item_of p here come.item) _ _ _ said (ap (λ vs. feed vs (item_of p here come.item)) none ∙ come.is)
 
 -- How many objects there are.
