@@ -17,7 +17,7 @@ use Rattle.aos_silent_steps.specs.Room.{StayFit}
 use Rattle.aos_concurrency.specs.Private.{steps, settled}
 use Rattle.aos_concurrency.proofs.Tables.{number, put_same}
 use Rattle.aos_settling.specs.Settling.{ArePrivateAt}
-use Rattle.aos_settling.proofs.Settling.{settle_one_at}
+use Rattle.aos_concurrency.proofs.Settles.{settle_at}
 use Rattle.aos_loan.specs.Loans.{Lending, begun_in, IsMadeOf, IsLoanOf}
 use Rattle.aos_loan.proofs.Turning.{are_private, loan_stays, loan_runs}
 use Rattle.aos_kernel.specs.declared.log.Stepped.{Stepped}
@@ -90,7 +90,7 @@ module _ (image : Image) (w a : ℕ) where
     | inl going ↦
         let h = private.0 in
         let next = settled a h (x ∷ []) st in
-        counts_more (steps w xs) (length xs) k st next on (settle_one_at (machine image) w a f h x st going on runs is private.1.0) le
+        counts_more (steps w xs) (length xs) k st next on (settle_at (machine image) w a f h (x ∷ []) st (going, tt) on runs is (h, (private.1.0, refl))) le
         (private_counts h g xs (suc k) next (still_on x h st on) (still_runs x h st runs) (put_same number st.frames a h) private.1.1 (omega (arith, le)))
     | inr over ↦ over_counts (x ∷ xs) k st over on le
   ]
