@@ -22,6 +22,7 @@ use Rattle.aos_tree.specs.declared.decl.TypeDef.{TypeDef}
 use Rattle.aos_symbols.specs.Home.{Home, object_of}
 use Rattle.aos_symbols.specs.Declarations.{Procedure, procedures, inner_decls, methods_in, all_procedures, type_defs, single_variables, formal_names}
 use Rattle.aos_symbols.specs.Scope.{Scope}
+use Rattle.aos_members.specs.Members as members
 use Rattle.aos_symbols.specs.Env as env
 use Rattle.aos_symbols.proofs.Each.{Each, joined, implied}
 use Rattle.aos_symbols.proofs.Holds.{Holds, holds_bind, none_left, none_right, test_is}
@@ -449,39 +450,39 @@ module _ (c : Telling) (path : List Open) (searched : Each (IsSearched c) path) 
 -- Methods: the scopes of object types are searched, of this module and of others.
 
 module _ (c : Telling) (path : List Open) (searched : Each (IsSearched c) path) where
-  among_is : (hs : List Home) (t : TypeId) (o : ObjectScope) → env.object_among hs t ≡ Some o →
+  among_is : (hs : List Home) (t : TypeId) (o : ObjectScope) → members.object_among hs t ≡ Some o →
       (j : ℕ) × (h : Home) × (slice_get hs j ≡ Some h) × (object_of h t ≡ Some o)
   among_is [] t o is = absurd (none-some o is)
   among_is (h ∷ hs) t o is = by (object_of h t) refl is (among_is hs t o)
     where
-      by : (x : Option ObjectScope) → object_of h t ≡ x → option_or x (env.object_among hs t) ≡ Some o →
-          (env.object_among hs t ≡ Some o → (j : ℕ) × (g : Home) × (slice_get hs j ≡ Some g) × (object_of g t ≡ Some o)) →
+      by : (x : Option ObjectScope) → object_of h t ≡ x → option_or x (members.object_among hs t) ≡ Some o →
+          (members.object_among hs t ≡ Some o → (j : ℕ) × (g : Home) × (slice_get hs j ≡ Some g) × (object_of g t ≡ Some o)) →
           (j : ℕ) × (g : Home) × (slice_get (h ∷ hs) j ≡ Some g) × (object_of g t ≡ Some o)
       by None here is more = let r = more is in (suc r.0, r.1, r.2, r.3)
       by (Some x) here is more = (0, h, refl, here ∙ is)
 
-  object_place : (e : Env) → IsFit c path e → (t : TypeId) (o : ObjectScope) → env.object e t ≡ Some o → IsSearched c (env.object_place o)
+  object_place : (e : Env) → IsFit c path e → (t : TypeId) (o : ObjectScope) → members.object e t ≡ Some o → IsSearched c (members.object_place o)
   object_place e fit t o is = by (object_of e.here t) refl is
     where
-      others : env.object_among e.before t ≡ Some o → IsSearched c (env.object_place o)
+      others : members.object_among e.before t ≡ Some o → IsSearched c (members.object_place o)
       others found =
           let r = among_is e.before t o found in
           let there : slice_get c.before r.0 ≡ Some r.1 = ap (λ hs. slice_get hs r.0) (sym fit.before_is) ∙ r.2 in
           let p = c.others_objects r.0 r.1 t o there r.3 in
           inr (inr (λ h at. subst (λ (h : Home). o.scope < h.first) (same_Some r.1 h (sym there ∙ ap (slice_get c.before) (sym p.0) ∙ at)) p.1))
 
-      by : (x : Option ObjectScope) → object_of e.here t ≡ x → option_or x (env.object_among e.before t) ≡ Some o → IsSearched c (env.object_place o)
+      by : (x : Option ObjectScope) → object_of e.here t ≡ x → option_or x (members.object_among e.before t) ≡ Some o → IsSearched c (members.object_place o)
       by None here is = others is
       by (Some x) here is =
           let same = same_Some x o is in
           inr (inl (c.homes t o (ap (lookup (λ k. nat_eq t.0 k)) (sym fit.objects_is) ∙ here ∙ ap (λ z. Some z) same)))
 
-  object_path_searched : (e : Env) → IsFit c path e → (ts : List TypeId) → Each (IsSearched c) (env.object_path e ts)
+  object_path_searched : (e : Env) → IsFit c path e → (ts : List TypeId) → Each (IsSearched c) (members.object_path e ts)
   object_path_searched e fit [] = tt
   object_path_searched e fit (t ∷ ts) =
-      joined (IsSearched c) (env.opened e (env.object e t)) (env.object_path e ts) (one (env.object e t) refl) (object_path_searched e fit ts)
+      joined (IsSearched c) (members.opened e (members.object e t)) (members.object_path e ts) (one (members.object e t) refl) (object_path_searched e fit ts)
     where
-      one : (x : Option ObjectScope) → env.object e t ≡ x → Each (IsSearched c) (env.opened e x)
+      one : (x : Option ObjectScope) → members.object e t ≡ x → Each (IsSearched c) (members.opened e x)
       one None is = tt
       one (Some o) is = (object_place e fit t o is, tt)
 
@@ -495,7 +496,7 @@ module _ (c : Telling) (path : List Open) (searched : Each (IsSearched c) path) 
   type_methods_sound e fit d k own slots = by (judge.defined_type e d)
     where
       back : (path' : List Open) (searched' : Each (IsSearched c) path') (e' f : Env) → e'.here ≡ e.here → e'.types ≡ e.types → e'.places ≡ e.places →
-          AreMade c path' searched' k (methods_in d) e' f → AreMade c path searched k (methods_in d) e (env.outside e.path f)
+          AreMade c path' searched' k (methods_in d) e' f → AreMade c path searched k (methods_in d) e (members.outside e.path f)
       back path' searched' e' f here types places are = record {
         made = λ j p is. (let x = are.made j p is in record {
           signature = x.signature;
@@ -534,13 +535,13 @@ module _ (c : Telling) (path : List Open) (searched : Each (IsSearched c) path) 
       }
 
       at : (path' : List Open) (searched' : Each (IsSearched c) path') (e' : Env) → IsFit c path' e' → e'.here ≡ e.here → e'.types ≡ e.types → e'.places ≡ e.places →
-          Holds (AreMade c path searched k (methods_in d) e) (bind (judge.procedures_from true e' k (methods_in d)) (λ f. kept (env.outside e.path f)))
+          Holds (AreMade c path searched k (methods_in d) e) (bind (judge.procedures_from true e' k (methods_in d)) (λ f. kept (members.outside e.path f)))
       at path' searched' e' fit' here types places =
-          holds_bind (AreMade c path' searched' k (methods_in d) e') (AreMade c path searched k (methods_in d) e) (judge.procedures_from true e' k (methods_in d)) (λ f. kept (env.outside e.path f))
+          holds_bind (AreMade c path' searched' k (methods_in d) e') (AreMade c path searched k (methods_in d) e) (judge.procedures_from true e' k (methods_in d)) (λ f. kept (members.outside e.path f))
           (procedures_sound c path' searched' true (methods_in d) k own (slots path' searched') e' fit')
           (λ f are h. back path' searched' e' f here types places are)
 
-      within : (t : TypeId) → IsFit c (env.object_path e (env.chain e.types t) ++ path) (env.within_object e t)
+      within : (t : TypeId) → IsFit c (members.object_path e (members.chain e.types t) ++ path) (members.within_object e t)
       within t = record {
         number_is = fit.number_is;
         before_is = fit.before_is;
@@ -548,7 +549,7 @@ module _ (c : Telling) (path : List Open) (searched : Each (IsSearched c) path) 
         text_is = fit.text_is;
         first_is = fit.first_is;
         names_are = fit.names_are;
-        path_is = ap (λ os. env.object_path e (env.chain e.types t) ++ os) fit.path_is;
+        path_is = ap (λ os. members.object_path e (members.chain e.types t) ++ os) fit.path_is;
         narrowed_is = fit.narrowed_is;
         good = fit.good;
         table = fit.table;
@@ -557,12 +558,12 @@ module _ (c : Telling) (path : List Open) (searched : Each (IsSearched c) path) 
         filled = fit.filled;
       }
 
-      by : (o : Option TypeId) → Holds (AreMade c path searched k (methods_in d) e) (bind (judge.procedures_from true (judge.within_type e o) k (methods_in d)) (λ f. kept (env.outside e.path f)))
+      by : (o : Option TypeId) → Holds (AreMade c path searched k (methods_in d) e) (bind (judge.procedures_from true (judge.within_type e o) k (methods_in d)) (λ f. kept (members.outside e.path f)))
       by None = at path searched e fit refl refl refl
       by (Some t) =
-          at (env.object_path e (env.chain e.types t) ++ path)
-          (joined (IsSearched c) (env.object_path e (env.chain e.types t)) path (object_path_searched e fit (env.chain e.types t)) searched)
-          (env.within_object e t) (within t) refl refl refl
+          at (members.object_path e (members.chain e.types t) ++ path)
+          (joined (IsSearched c) (members.object_path e (members.chain e.types t)) path (object_path_searched e fit (members.chain e.types t)) searched)
+          (members.within_object e t) (within t) refl refl refl
 
   -- and of types in turn
   slots_front : (k : ℕ) (ps qs : List Procedure) → AreSlottedAll k (ps ++ qs) → AreSlottedAll k ps

@@ -20,6 +20,7 @@ use Rattle.aos_symbols.specs.Breaches.{breach_unless}
 use Rattle.aos_symbols.specs.Judged.{Judged, judged, kept, bind, walk}
 use Rattle.aos_symbols.specs.Declarations.{Procedure, procedures, inner_decls, methods_in, type_defs}
 use Rattle.aos_symbols.specs.Home.{add_signature}
+use Rattle.aos_members.specs.Members as members
 use Rattle.aos_symbols.specs.Env as env
 pub use Rattle.aos_check_decl.specs.Variables.{with_constant, constant_def, with_variable, with_variables}
 use Rattle.aos_check_decl.specs.Types.{Met, named_type, type_in}
@@ -116,11 +117,11 @@ procedures_from may_stand e k (p ∷ ps) =
 
 abbrev pub within_type : Env → Option TypeId → Env
 within_type e None = e
-within_type e (Some t) = env.within_object e t
+within_type e (Some t) = members.within_object e t
 
 abbrev pub type_methods : Env → ℕ → TypeDef → Judged Env
 type_methods e k d =
-    bind (procedures_from true (within_type e (defined_type e d)) k (methods_in d)) (λ f. kept (env.outside e.path f))
+    bind (procedures_from true (within_type e (defined_type e d)) k (methods_in d)) (λ f. kept (members.outside e.path f))
 
 -- of types in turn
 abbrev pub methods_from : Env → ℕ → List TypeDef → Judged Env

@@ -12,6 +12,7 @@ use aos_base::{NoMemory, Pos};
 use aos_check_types::{defined_type, next, overriding};
 use aos_entries::{inner_decls, type_definitions};
 use aos_made_types::{formals_in, result_in};
+use aos_members::{enter_object, leave_object};
 use aos_symbols::{Breach, Env, Open, WRONG_INITIALIZER, note};
 use aos_tree::{Decl, Formals, Items, TypeDef};
 use aos_types::{Parameter, Signature, TypeId};
@@ -220,7 +221,7 @@ fn enter_type(
     ensures path { IfOk result (λ path. path ≡ env.old.path) }
 {
     match of {
-        Some(of) => env.enter_object(alloc, of),
+        Some(of) => enter_object(env, alloc, of),
         None => path_of(alloc, env),
     }
 }
@@ -253,7 +254,7 @@ fn type_methods(
     }
     let outer = enter_type(alloc, env, defined_type(env, def))?;
     procedures_in(alloc, found, env, true, scope, decls)?;
-    env.leave_object(outer);
+    leave_object(env, outer);
     Ok(())
 }
 

@@ -13,9 +13,9 @@ use Rattle.aos_typed.specs.Numbers.{id_of}
 use Rattle.aos_typed.specs.Formals.{pattern_of}
 use Rattle.aos_typed.specs.Program.{Callee, Dispatched, Upper, Through, Expr, SelfRef, Procedure}
 use Rattle.aos_types.specs.declared.signature.Signature.{Signature}
-use Rattle.aos_symbols.specs.declared.env.Method.{Method}
+use Rattle.aos_members.specs.declared.objects.Method.{Method}
 use Rattle.aos_symbols.specs.declared.env.Env.{Env}
-use Rattle.aos_symbols.specs.Env as env
+use Rattle.aos_members.specs.Members as members
 use Rattle.aos_known.proofs.Inside.{Inside, IsOf, IsCalled}
 use Rattle.aos_known.specs.Known.{object_number, type_as}
 use Rattle.aos_known.proofs.Types.{not_both, id_above}
@@ -59,7 +59,7 @@ comes_base (suc n) rows t b some is = right (t.0 == b.0) _ (ap (on_base (λ c. c
     right false y h = h
 
 module _ (p : Inside) (e : Env) (whole : IsWhole p e) where
-  pub dispatched_calling : (t : TypeId) (x : Expr) (m : Method) (n : Name) → IsOf p x (type_as t) → is_object (row_of e.types t) ≡ true → env.method e t n ≡ Some m →
+  pub dispatched_calling : (t : TypeId) (x : Expr) (m : Method) (n : Name) → IsOf p x (type_as t) → is_object (row_of e.types t) ≡ true → members.method e t n ≡ Some m →
       IsCalling p e (Dispatched x (object_number t) m.slot) (heading.Declared m.home m.number)
   dispatched_calling t x m n typed object found s is =
       let q = whole.methods t n m found object s is in
@@ -87,7 +87,7 @@ module _ (p : Inside) (e : Env) (whole : IsWhole p e) where
       by (Some (row.Object None fs)) there kind is = absurd (none-some b is)
       by o there kind is = absurd (not_both (sym kind))
 
-  upper_calling : (t b : TypeId) (m : Method) (n : Name) → e.self_type ≡ Some t → base_of (row_of e.types t) ≡ Some b → env.method e b n ≡ Some m →
+  upper_calling : (t b : TypeId) (m : Method) (n : Name) → e.self_type ≡ Some t → base_of (row_of e.types t) ≡ Some b → members.method e b n ≡ Some m →
       IsCalling p e (Upper (object_number b) m.slot) (heading.Declared m.home m.number)
   upper_calling t b m n itself above found s is =
       let two = whole.itself t itself in
@@ -122,7 +122,7 @@ module _ (p : Inside) (e : Env) (whole : IsWhole p e) where
   own_calling h b found =
       let one = if_some (judge.is_method h.found) (option_and_then (λ t. judge.method_on e t h) e.self_type) b found in
       let two = and_then_some (λ t. judge.method_on e t h) e.self_type b one.1 in
-      let m = map_some (judge.dispatched h.first SelfRef two.0) (env.method e two.0 h.name) b two.2 in
+      let m = map_some (judge.dispatched h.first SelfRef two.0) (members.method e two.0 h.name) b two.2 in
       subst (λ (c : Bound). IsCalling p e c.callee c.heading) m.2
       (dispatched_calling two.0 SelfRef m.0 h.name (self_typed p e whole two.0 two.1) (whole.itself two.0 two.1).1 m.1)
 
@@ -131,8 +131,8 @@ module _ (p : Inside) (e : Env) (whole : IsWhole p e) where
   raised_calling h b found =
       let one = and_then_some (λ t. judge.upper_of e h t) e.self_type b found in
       let t = one.0 in
-      let above = λ (c : TypeId). option_map (judge.upper_method h.first c) (env.method e c h.name) in
-      let two = if_some (judge.declares t (env.method e t h.name)) (option_and_then above (base_of (row_of e.types t))) b one.2 in
+      let above = λ (c : TypeId). option_map (judge.upper_method h.first c) (members.method e c h.name) in
+      let two = if_some (judge.declares t (members.method e t h.name)) (option_and_then above (base_of (row_of e.types t))) b one.2 in
       let up = and_then_some above (base_of (row_of e.types t)) b two.1 in
-      let m = map_some (judge.upper_method h.first up.0) (env.method e up.0 h.name) b up.2 in
+      let m = map_some (judge.upper_method h.first up.0) (members.method e up.0 h.name) b up.2 in
       subst (λ (c : Bound). IsCalling p e c.callee c.heading) m.2 (upper_calling t up.0 m.0 h.name one.1 up.1 m.1)

@@ -26,7 +26,7 @@ use Rattle.aos_symbols.specs.declared.scope.Meaning.{Meaning}
 use Rattle.aos_symbols.specs.declared.scope.Meaning.TheVariants as means
 use Rattle.aos_symbols.specs.declared.env.Open.{Open}
 use Rattle.aos_symbols.specs.declared.env.Symbol.{Symbol}
-use Rattle.aos_symbols.specs.declared.env.Field.{Field}
+use Rattle.aos_members.specs.declared.fields.Field.{Field}
 use Rattle.aos_symbols.specs.declared.env.Narrowed.{Narrowed}
 use Rattle.aos_symbols.specs.declared.env.Lookup.{Lookup}
 use Rattle.aos_symbols.specs.declared.env.Lookup.TheVariants.{Unknown as NoName, NotExported, Found}
@@ -34,6 +34,7 @@ use Rattle.aos_symbols.specs.declared.env.Env.{Env}
 use Rattle.aos_symbols.specs.Judged.{Judged, kept}
 use Rattle.aos_symbols.specs.Spelling.{word, is_among, procedures_of_out}
 use Rattle.aos_symbols.specs.Scope.{Scope, find}
+use Rattle.aos_members.specs.Members as members
 use Rattle.aos_symbols.specs.Env as env
 use Rattle.aos_symbols.specs.Env.{nil, text}
 use Rattle.aos_types.specs.declared.signature.Signature.{Signature}
@@ -752,7 +753,7 @@ module _ (p : Inside) (e : Env) where
   variable_stored true = tt
   variable_stored false = tt
 
-  object_field_fine : (t : TypeId) (f : Field) (n : Name) (at : Pos) (a : Entity) → Denoted a → a.known.of ≡ Some t → env.field e t n ≡ Some f → desig.is_object_type e t ≡ true →
+  object_field_fine : (t : TypeId) (f : Field) (n : Name) (at : Pos) (a : Entity) → Denoted a → a.known.of ≡ Some t → members.field e t n ≡ Some f → desig.is_object_type e t ≡ true →
       Denoted (desig.object_field t f at a)
   object_field_fine t f n at a x known found object =
       subst
@@ -773,7 +774,7 @@ module _ (p : Inside) (e : Env) where
   record_fields o i = absurd (not_both (sym i))
 
   -- a field of a record
-  field_typed : IsWhole p e → (t : TypeId) (n : Name) (f : Field) → env.field e t n ≡ Some f → is_record (row_of e.types t) ≡ true →
+  field_typed : IsWhole p e → (t : TypeId) (n : Name) (f : Field) → members.field e t n ≡ Some f → is_record (row_of e.types t) ≡ true →
       IsPartOf (Some t) f.of (λ place. FieldOf place (type_as t) f.number)
   field_typed whole t n f is r place (closed typed known) =
       let g = whole.fields t n f is (record_fields (row_of e.types t) r) in
@@ -799,7 +800,7 @@ module _ (p : Inside) (e : Env) where
       by o is r = absurd (not_both (sym r))
 
   field_in : (t : TypeId) (a : Entity) → Denoted a → a.known.of ≡ Some t → (q : Pos) (n : Name) →
-      Holds Denoted (if desig.has_fields e t then desig.field_found e a q n t (env.field e t n) else desig.lacking e t q)
+      Holds Denoted (if desig.has_fields e t then desig.field_found e a q n t (members.field e t n) else desig.lacking e t q)
   field_in t a x known q n = by (desig.has_fields e t) refl
     where
       seen : (f : Field) (b : Bool) → Denoted (desig.field_entity e t f n.pos a) →
@@ -815,7 +816,7 @@ module _ (p : Inside) (e : Env) where
       left true c none is = refl
       left false c none is = absurd (not_both (sym is ∙ none))
 
-      entity_fine : desig.has_fields e t ≡ true → (f : Field) → env.field e t n ≡ Some f → (b : Bool) → desig.is_object_type e t ≡ b →
+      entity_fine : desig.has_fields e t ≡ true → (f : Field) → members.field e t n ≡ Some f → (b : Bool) → desig.is_object_type e t ≡ b →
           Denoted (if b then desig.object_field t f n.pos a else desig.part_entity (desig.may_write f) f.of (λ place. FieldOf place (type_as t) f.number) n.pos a)
       entity_fine has f is true object = object_field_fine t f n n.pos a x known is object
       entity_fine has f is false other =
@@ -823,12 +824,12 @@ module _ (p : Inside) (e : Env) where
           part_fine (desig.may_write f) f.of (λ place. FieldOf place (type_as t) f.number) n.pos a x t known (low (is_basic t) two.0, λ whole. record_parts t two.1)
           (λ whole. subst (λ of. IsPartOf of f.of (λ place. FieldOf place (type_as t) f.number)) (sym known) (field_typed whole t n f is two.1))
 
-      there : desig.has_fields e t ≡ true → (o : Option Field) → env.field e t n ≡ o → Holds Denoted (desig.field_found e a q n t o)
+      there : desig.has_fields e t ≡ true → (o : Option Field) → members.field e t n ≡ o → Holds Denoted (desig.field_found e a q n t o)
       there has None is = lacking_fine t q
       there has (Some f) is = seen f (f.is_own || is_some f.mark) (entity_fine has f is (desig.is_object_type e t) refl)
 
-      by : (b : Bool) → desig.has_fields e t ≡ b → Holds Denoted (if b then desig.field_found e a q n t (env.field e t n) else desig.lacking e t q)
-      by true has = there has (env.field e t n) refl
+      by : (b : Bool) → desig.has_fields e t ≡ b → Holds Denoted (if b then desig.field_found e a q n t (members.field e t n) else desig.lacking e t q)
+      by true has = there has (members.field e t n) refl
       by false other = lacking_fine t q
 
   field_of : (of : Option TypeId) (c : Class) (h : Held) (at : Pos) → Denoted (entity of c h at) → (q : Pos) (n : Name) → Holds Denoted (desig.field_of e (entity of c h at) q n)

@@ -16,6 +16,7 @@ use Rattle.aos_symbols.specs.declared.scope.Meaning.TheVariants as means
 use Rattle.aos_symbols.specs.declared.env.Open.{Open}
 use Rattle.aos_symbols.specs.declared.env.Env.{Env}
 use Rattle.aos_symbols.specs.Scope.{Scope, find}
+use Rattle.aos_members.specs.Members as members
 use Rattle.aos_symbols.specs.Env as env
 use Rattle.aos_symbols.specs.Env.{nil}
 use Rattle.aos_symbols.proofs.Told.{IsTold}
@@ -87,7 +88,7 @@ module _ (p : Inside) (e : Env) (whole : IsWhole p e) where
       let place = ap₂ (λ u v. desig.declared_place e u v k) f.2 f.4 in
       subst (λ of. IsTyped p e (desig.inner_place e o k) of) (sym g.1)
       (subst (λ place. IsTyped p e place (Some g.0)) (sym place)
-      (object_field_typed f.0 SelfRef (self_typed f.0 f.2) (whole.itself f.0 f.2).1 (env.field_number e f.1 k) g.0 g.2 g.3))
+      (object_field_typed f.0 SelfRef (self_typed f.0 f.2) (whole.itself f.0 f.2).1 (members.field_number e f.1 k) g.0 g.2 g.3))
 
   -- the types of objects are references
   pub object_refers : (t : TypeId) → desig.is_object_type e t ≡ true → desig.is_reference e t ≡ true

@@ -22,11 +22,11 @@ use Rattle.aos_typed.specs.Program.{Callee, Expr as TypedExpr}
 use Rattle.aos_typed.specs.declared.tree.Literal.TheVariants as literal
 use Rattle.aos_typed.specs.declared.tree.TType.TheVariants as type
 use Rattle.aos_typed.specs.Numbers.{predeclared_rows}
-use Rattle.aos_symbols.specs.declared.env.Method.{Method}
+use Rattle.aos_members.specs.declared.objects.Method.{Method}
 use Rattle.aos_symbols.specs.declared.env.Env.{Env}
 use Rattle.aos_symbols.specs.Breaches.{breach_unless}
 use Rattle.aos_symbols.specs.Judged.{Judged, judged, kept, bind, walk}
-use Rattle.aos_symbols.specs.Env as env
+use Rattle.aos_members.specs.Members as members
 use Rattle.aos_symbols.specs.Env.{text_constant}
 use Rattle.aos_symbols.proofs.Holds.{Holds, holds_bind, holds_walk, broken, test_is}
 use Rattle.aos_base.specs.Number.{if_within}
@@ -127,7 +127,7 @@ module _ (p : Inside) (e : Env) (good : GoodConstants e) where
 
       calling : (t : TypeId) (m : Method) → a.known.of ≡ Some t → judge.method_in e t n ≡ Some m → IsBound p e (judge.dispatched first (read_from a.known.of a.held) t m)
       calling t m known found whole =
-          let two = if_some (desig.is_object_type e t) (env.method e t n) m found in
+          let two = if_some (desig.is_object_type e t) (members.method e t n) m found in
           dispatched_calling p e whole t (read_from a.known.of a.held) m n (object_held p e whole a x t known two.0) (object_type_row p e whole t two.0).1 two.1
 
       seen : (t : TypeId) (m : Method) → IsBound p e (judge.dispatched first (read_from a.known.of a.held) t m) → (b : Bool) →

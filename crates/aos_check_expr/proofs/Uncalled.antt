@@ -41,13 +41,14 @@ use Rattle.aos_symbols.specs.declared.scope.Function.{Function}
 use Rattle.aos_symbols.specs.declared.scope.Function.TheVariants as function
 use Rattle.aos_symbols.specs.declared.env.Open.{Open}
 use Rattle.aos_symbols.specs.declared.env.Symbol.{Symbol}
-use Rattle.aos_symbols.specs.declared.env.Field.{Field}
-use Rattle.aos_symbols.specs.declared.env.Method.{Method}
+use Rattle.aos_members.specs.declared.fields.Field.{Field}
+use Rattle.aos_members.specs.declared.objects.Method.{Method}
 use Rattle.aos_symbols.specs.declared.env.Narrowed.{Narrowed}
 use Rattle.aos_symbols.specs.declared.env.Lookup.{Lookup}
 use Rattle.aos_symbols.specs.declared.env.Lookup.TheVariants.{Unknown as NoName, NotExported, Found}
 use Rattle.aos_symbols.specs.declared.env.Env.{Env}
 use Rattle.aos_symbols.specs.Judged.{Judged, bind}
+use Rattle.aos_members.specs.Members as members
 use Rattle.aos_symbols.specs.Env as env
 use Rattle.aos_symbols.proofs.Each.{Each}
 use Rattle.aos_known.specs.declared.known.Class.{Class}
@@ -259,7 +260,7 @@ module _ (e : Env) where
   variable_calm : (x : Symbol) (k : ℕ) (at : Pos) → IsCalm (desig.variable e x k at)
   variable_calm x k at =
       either HasNoCallsInPlace (desig.is_of_module x) _ _ tt
-      (either HasNoCallsInPlace (desig.is_own_scope e x.at) _ _ (own_calm k) (declared_calm e.self_type (env.object_at e x.at) k))
+      (either HasNoCallsInPlace (desig.is_own_scope e x.at) _ _ (own_calm k) (declared_calm e.self_type (members.object_at e x.at) k))
 
   narrowed_calm : (x : Symbol) (k : ℕ) (vs : List Narrowed) (a : Entity) → IsCalm a → IsCalm (fold (desig.narrowed_by e x k) a vs)
   narrowed_calm x k [] a calm = calm
@@ -317,7 +318,7 @@ module _ (e : Env) where
   field_of_calm : (of : Option TypeId) (c : Class) (h : Held) (at p : Pos) (n : Name) → IsCalmHeld h → IsCalm (desig.field_of e (entity of c h at) p n).answer
   field_of_calm None c h at p n calm = calm
   field_of_calm (Some t) c h at p n calm =
-      either IsCalmEntity (desig.has_fields e t) _ _ (field_found_calm (entity (Some t) c h at) p n t (env.field e t n) calm) tt
+      either IsCalmEntity (desig.has_fields e t) _ _ (field_found_calm (entity (Some t) c h at) p n t (members.field e t n) calm) tt
 
   field_calm : (a : Entity) (p : Pos) (n : Name) → IsCalm a → IsCalm (desig.field e a p n).answer
   field_calm a p n calm =
@@ -511,7 +512,7 @@ module _ (e : Env) (within : e.is_condition ≡ true) where
 
       of_self : (o : Option TypeId) → MayBeCalm (option_and_then (λ t. judge.method_on e t h) o)
       of_self None = tt
-      of_self (Some t) = of_method t (env.method e t h.name)
+      of_self (Some t) = of_method t (members.method e t h.name)
 
   raised_calm : (h : Head) (p : Pos) → IsCalmPart (judge.raised e h p).answer
   raised_calm h p = raised (judge.upper_here e h) (of_self e.self_type)
@@ -520,13 +521,13 @@ module _ (e : Env) (within : e.is_condition ≡ true) where
       of_method b None = tt
       of_method b (Some m) = tt
 
-      of_base : (o : Option TypeId) → MayBeCalm (option_and_then (λ b. option_map (judge.upper_method h.first b) (env.method e b h.name)) o)
+      of_base : (o : Option TypeId) → MayBeCalm (option_and_then (λ b. option_map (judge.upper_method h.first b) (members.method e b h.name)) o)
       of_base None = tt
-      of_base (Some b) = of_method b (env.method e b h.name)
+      of_base (Some b) = of_method b (members.method e b h.name)
 
       of_self : (o : Option TypeId) → MayBeCalm (option_and_then (λ t. judge.upper_of e h t) o)
       of_self None = tt
-      of_self (Some t) = either MayBeCalm (judge.declares t (env.method e t h.name)) _ _ (of_base (base_of (row_of e.types t))) tt
+      of_self (Some t) = either MayBeCalm (judge.declares t (members.method e t h.name)) _ _ (of_base (base_of (row_of e.types t))) tt
 
       raised : (o : Option judge.Bound) → MayBeCalm o → IsCalmPart (judge.raised_to o h.first p).answer
       raised None calm = tt

@@ -29,12 +29,13 @@ use Rattle.aos_symbols.specs.declared.scope.Constant.{Constant as Declared}
 use Rattle.aos_symbols.specs.declared.scope.Meaning.TheVariants as means
 use Rattle.aos_symbols.specs.declared.env.Open.{Open}
 use Rattle.aos_symbols.specs.declared.env.Symbol.{Symbol}
-use Rattle.aos_symbols.specs.declared.env.Field.{Field}
-use Rattle.aos_symbols.specs.declared.env.Method.{Method}
+use Rattle.aos_members.specs.declared.fields.Field.{Field}
+use Rattle.aos_members.specs.declared.objects.Method.{Method}
 use Rattle.aos_symbols.specs.declared.env.Narrowed.{Narrowed}
 use Rattle.aos_symbols.specs.declared.env.Env.{Env}
 use Rattle.aos_symbols.specs.Scope.{Scope, find}
 use Rattle.aos_symbols.specs.Home.{Home, texts_of}
+use Rattle.aos_members.specs.Members as members
 use Rattle.aos_symbols.specs.Env as env
 use Rattle.aos_symbols.specs.Env.{nil, text}
 use Rattle.aos_symbols.proofs.Each.{Each}
@@ -88,7 +89,7 @@ pub record IsSigned (e : Env) (s : Signature) (q : Procedure) : Type 0 where
 -- a scope is that of SELF's type, or of one of its bases
 abbrev pub IsFieldScope : Env → Open → Type 0
 IsFieldScope e o =
-    (t b : TypeId) × (e.self_type ≡ Some t) × (comes_to e.types t b ≡ true) × (env.object_at e o ≡ Some b) × (desig.is_own_scope e o ≡ false)
+    (t b : TypeId) × (e.self_type ≡ Some t) × (comes_to e.types t b ≡ true) × (members.object_at e o ≡ Some b) × (desig.is_own_scope e o ≡ false)
     × ((o.scope == 0) ≡ false)
 
 -- a scope that is searched is a module's own, that of the procedure, or one of SELF's fields
@@ -162,7 +163,7 @@ pub record IsWhole (p : Inside) (e : Env) : Type 0 where
       x.means ≡ means.Variable k → IsTyped p e (ModuleVar o.home k) (env.variable_type e o k)
   pub constants : GoodConstants e
   pub parts : PartsAreTold e.types
-  pub fields : (t : TypeId) (n : Name) (f : Field) → env.field e t n ≡ Some f → has_fields (row_of e.types t) ≡ true →
+  pub fields : (t : TypeId) (n : Name) (f : Field) → members.field e t n ≡ Some f → has_fields (row_of e.types t) ≡ true →
       (u : TypeId) × (f.of ≡ Some u) × (field_type e.types t f.number ≡ Some u) × IsTold e.types u
   pub rows : p.program.types ≡ e.types
   pub objects : length e.types ≡ 10 + length p.program.objects
@@ -177,13 +178,13 @@ pub record IsWhole (p : Inside) (e : Env) : Type 0 where
   pub own : (s : Signature) → env.own_signature e ≡ Some s → (q : Procedure) × (p.own ≡ Some q) × IsSigned e s q
   pub own_body : env.own_signature e ≡ None → result_of p.own ≡ None
   pub itself : (t : TypeId) → e.self_type ≡ Some t → (self_type p.own ≡ Some (object_number t)) × (is_object (row_of e.types t) ≡ true)
-  pub own_fields : (t b : TypeId) (o : Open) (s : Scope) (w : List ℕ) (x : Entry) (k : ℕ) → e.self_type ≡ Some t → comes_to e.types t b ≡ true → env.object_at e o ≡ Some b →
+  pub own_fields : (t b : TypeId) (o : Open) (s : Scope) (w : List ℕ) (x : Entry) (k : ℕ) → e.self_type ≡ Some t → comes_to e.types t b ≡ true → members.object_at e o ≡ Some b →
       env.scope e o ≡ Some s → find s w ≡ Some x → x.means ≡ means.Variable k →
-      (u : TypeId) × (env.variable_type e o k ≡ Some u) × (field_type e.types t (env.field_number e b k) ≡ Some u) × IsTold e.types u
-  pub methods : (t : TypeId) (n : Name) (m : Method) → env.method e t n ≡ Some m → is_object (row_of e.types t) ≡ true →
+      (u : TypeId) × (env.variable_type e o k ≡ Some u) × (field_type e.types t (members.field_number e b k) ≡ Some u) × IsTold e.types u
+  pub methods : (t : TypeId) (n : Name) (m : Method) → members.method e t n ≡ Some m → is_object (row_of e.types t) ≡ true →
       (s : Signature) → env.signature e m.home m.number ≡ Some s → (q : Procedure) × (method_in p.program (object_number t) m.slot ≡ Some q) × IsSigned e s q
-  pub initials : (t : TypeId) → is_object (row_of e.types t) ≡ true → initializer p.program (object_number t) ≡ option_map (λ (m : Method). m.slot) (env.initializer e t)
-  pub initial : (t : TypeId) (m : Method) → env.initializer e t ≡ Some m → is_object (row_of e.types t) ≡ true →
+  pub initials : (t : TypeId) → is_object (row_of e.types t) ≡ true → initializer p.program (object_number t) ≡ option_map (λ (m : Method). m.slot) (members.initializer e t)
+  pub initial : (t : TypeId) (m : Method) → members.initializer e t ≡ Some m → is_object (row_of e.types t) ≡ true →
       (s : Signature) → env.signature e m.home m.number ≡ Some s → (q : Procedure) × (method_in p.program (object_number t) m.slot ≡ Some q) × (q.result ≡ None) × IsSigned e s q
   pub patterns : (t : TypeId) (formals : List (Bool × TypeId)) (r : Option TypeId) → row_of e.types t ≡ Some (row.Procedure formals r) →
       (q : Procedure) × (pattern_of p.program (type.Named (object_number t)) ≡ Some q) × IsPattern q formals r

@@ -13,11 +13,12 @@ use aos_check_expr::{arguments_for, desig_alone, designator, expr};
 use aos_known::{Class, Entity, place_of};
 use aos_made::MadeArguments;
 use aos_made_stat::{MadeExprs, MadeStat};
+use aos_members::Method;
 use aos_stat_rules::{
     initializer_of, is_no_variable, made_type, makes_object, may_be_length, refuse_count,
     refuse_new, refused,
 };
-use aos_symbols::{ARGUMENT_COUNT, Breach, Env, Method, NOT_BUILT, WRONG_NEW, note};
+use aos_symbols::{ARGUMENT_COUNT, Breach, Env, NOT_BUILT, WRONG_NEW, note};
 use aos_tree::{Desig, Expr};
 use aos_types::{Signature, TypeId};
 use std::alloc::{AllocError, Global};

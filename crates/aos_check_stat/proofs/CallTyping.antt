@@ -23,7 +23,7 @@ use Rattle.aos_types.specs.declared.signature.Gives.TheVariants as gives
 use Rattle.aos_types.specs.declared.signature.Signature.{Signature}
 use Rattle.aos_tree.specs.declared.decl.Export.{Export}
 use Rattle.aos_symbols.specs.declared.env.Open.{Open}
-use Rattle.aos_symbols.specs.declared.env.Method.{Method}
+use Rattle.aos_members.specs.declared.objects.Method.{Method}
 use Rattle.aos_symbols.specs.declared.env.Symbol.{Symbol}
 use Rattle.aos_symbols.specs.declared.env.Lookup.{Lookup}
 use Rattle.aos_symbols.specs.declared.env.Lookup.TheVariants.{Unknown as NoName, NotExported, Found}
@@ -31,6 +31,7 @@ use Rattle.aos_symbols.specs.declared.env.Env.{Env}
 use Rattle.aos_symbols.specs.Breaches.{breach, breach_unless}
 use Rattle.aos_symbols.specs.Judged.{Judged, judged, kept, bind, walk}
 use Rattle.aos_symbols.specs.Spelling.{is_word}
+use Rattle.aos_members.specs.Members as members
 use Rattle.aos_symbols.specs.Env as env
 use Rattle.aos_symbols.proofs.Each.{Each}
 use Rattle.aos_symbols.proofs.Holds.{Holds, holds_bind, holds_walk, test_is, broken}
@@ -183,7 +184,7 @@ module _ (p : Inside) (e : Env) (whole : IsWhole p e) where
   abbrev IsInitializedBy : TypeId → Arguments → Type 0
   IsInitializedBy t more = IsInitialized p (initializer p.program (object_number t)) (object_number t) more
 
-  initialized_by_sound : (at : Pos) (t : TypeId) → is_object (row_of e.types t) ≡ true → (m : Method) → env.initializer e t ≡ Some m → (xs : List TreeExpr) →
+  initialized_by_sound : (at : Pos) (t : TypeId) → is_object (row_of e.types t) ≡ true → (m : Method) → members.initializer e t ≡ Some m → (xs : List TreeExpr) →
       Holds (IsInitializedBy t) (judge.initialized_by e at (env.signature e m.home m.number) xs)
   initialized_by_sound at t object m found xs = by (env.signature e m.home m.number) refl
     where
@@ -194,7 +195,7 @@ module _ (p : Inside) (e : Env) (whole : IsWhole p e) where
           (arguments_part p e at sig.parameters (signature_covered e m.home m.number sig is) (map (expr e) xs) (parts_of xs) xs (length-map xs (expr e)))
           (λ g handed h. initialized p e whole t object m found sig is (listed_arguments g.given) (handed.1 whole))
 
-  initialized_sound : (at : Pos) (t : TypeId) → is_object (row_of e.types t) ≡ true → (o : Option Method) → env.initializer e t ≡ o → (xs : List TreeExpr) →
+  initialized_sound : (at : Pos) (t : TypeId) → is_object (row_of e.types t) ≡ true → (o : Option Method) → members.initializer e t ≡ o → (xs : List TreeExpr) →
       Holds (IsInitializedBy t) (judge.initialized e at o xs)
   initialized_sound at t object None found xs = λ h. none_initialized p e whole t object found
   initialized_sound at t object (Some m) found xs = initialized_by_sound at t object m found xs
@@ -204,8 +205,8 @@ module _ (p : Inside) (e : Env) (whole : IsWhole p e) where
   object_sound at a t known is held xs =
       let own = object_itself p e whole t is in
       rw known
-      (holds_bind (IsInitializedBy t) MayBe (judge.initialized e at (env.initializer e t) xs) (λ more. kept (Some (New at (place_of a.held) (judge.made_type e (Some t)) more)))
-      (initialized_sound at t own.0 (env.initializer e t) refl xs)
+      (holds_bind (IsInitializedBy t) MayBe (judge.initialized e at (members.initializer e t) xs) (λ more. kept (Some (New at (place_of a.held) (judge.made_type e (Some t)) more)))
+      (initialized_sound at t own.0 (members.initializer e t) refl xs)
       (λ more handed h. let made = object_made p e whole t (place_of a.held) is held in
       (made.0, made.1, subst (λ k. IsInitialized p (initializer p.program k) k more) (sym own.1) handed)))
 

@@ -19,10 +19,11 @@ use Rattle.aos_symbols.specs.declared.scope.Meaning.{Meaning}
 use Rattle.aos_symbols.specs.declared.scope.Meaning.TheVariants as means
 use Rattle.aos_symbols.specs.declared.env.Open.{Open}
 use Rattle.aos_symbols.specs.declared.env.Symbol.{Symbol}
-use Rattle.aos_symbols.specs.declared.env.Method.{Method}
+use Rattle.aos_members.specs.declared.objects.Method.{Method}
 use Rattle.aos_symbols.specs.declared.env.Narrowed.{Narrowed}
 use Rattle.aos_symbols.specs.declared.env.Env.{Env}
 use Rattle.aos_symbols.specs.Spelling.{word}
+use Rattle.aos_members.specs.Members as members
 use Rattle.aos_symbols.specs.Env as env
 use Rattle.aos_known.specs.declared.known.Class.{Class}
 use Rattle.aos_known.specs.declared.known.Class.TheVariants.{Unknown, Constant, Variable, ReadOnly, Computed, Procedure as ClassOf}
@@ -61,56 +62,56 @@ module _ (e : Env) (ns : List Narrowed) (exclusive condition : Bool) where
   signed_within s q is = record { parameters = parameters_within s.parameters q.parameters is.parameters; result = is.result }
 
   -- fields
-  field_within : (k : ℕ) (t : TypeId) (n : Name) → env.field_by k within t n ≡ env.field_by k e t n
+  field_within : (k : ℕ) (t : TypeId) (n : Name) → members.field_by k within t n ≡ members.field_by k e t n
   field_within zero t n = refl
   field_within (suc k) t n =
-      ap (λ o. option_or (option_map (env.counted_on e.types t) (env.own_field e t n)) o) (on_base (base_of (row_of e.types t)) (λ b. field_within k b n))
+      ap (λ o. option_or (option_map (members.counted_on e.types t) (members.own_field e t n)) o) (on_base (base_of (row_of e.types t)) (λ b. field_within k b n))
     where
-      on_base : (o : Option TypeId) → ((b : TypeId) → env.field_by k within b n ≡ env.field_by k e b n) →
-          option_and_then (λ b. env.field_by k within b n) o ≡ option_and_then (λ b. env.field_by k e b n) o
+      on_base : (o : Option TypeId) → ((b : TypeId) → members.field_by k within b n ≡ members.field_by k e b n) →
+          option_and_then (λ b. members.field_by k within b n) o ≡ option_and_then (λ b. members.field_by k e b n) o
       on_base None same = refl
       on_base (Some b) same = same b
 
   -- methods
   meant_within : (t : TypeId) (o : ObjectScope) (at : Open) (mark : Option Export) (m : Meaning) →
-      env.method_meant within t o (record { at = at; mark = mark; means = m }) ≡ env.method_meant e t o (record { at = at; mark = mark; means = m })
+      members.method_meant within t o (record { at = at; mark = mark; means = m }) ≡ members.method_meant e t o (record { at = at; mark = mark; means = m })
   meant_within t o at mark (means.Procedure k) = refl
   meant_within t o at mark m = refl
 
-  own_method_within : (t : TypeId) (w : List ℕ) → env.own_method within t w ≡ env.own_method e t w
-  own_method_within t w = by (env.object e t)
+  own_method_within : (t : TypeId) (w : List ℕ) → members.own_method within t w ≡ members.own_method e t w
+  own_method_within t w = by (members.object e t)
     where
-      found : (o : ObjectScope) (s : Option Symbol) → option_and_then (env.method_meant within t o) s ≡ option_and_then (env.method_meant e t o) s
+      found : (o : ObjectScope) (s : Option Symbol) → option_and_then (members.method_meant within t o) s ≡ option_and_then (members.method_meant e t o) s
       found o None = refl
       found o (Some x) = meant_within t o x.at x.mark x.means
 
       by : (o : Option ObjectScope) →
-          option_and_then (λ o. option_and_then (env.method_meant within t o) (env.in_scope e (env.object_place o) w)) o
-          ≡ option_and_then (λ o. option_and_then (env.method_meant e t o) (env.in_scope e (env.object_place o) w)) o
+          option_and_then (λ o. option_and_then (members.method_meant within t o) (env.in_scope e (members.object_place o) w)) o
+          ≡ option_and_then (λ o. option_and_then (members.method_meant e t o) (env.in_scope e (members.object_place o) w)) o
       by None = refl
-      by (Some o) = found o (env.in_scope e (env.object_place o) w)
+      by (Some o) = found o (env.in_scope e (members.object_place o) w)
 
-  along_within : (w : List ℕ) (ts : List TypeId) → env.method_along within w ts ≡ env.method_along e w ts
+  along_within : (w : List ℕ) (ts : List TypeId) → members.method_along within w ts ≡ members.method_along e w ts
   along_within w [] = refl
   along_within w (t ∷ ts) = ap₂ option_or (own_method_within t w) (along_within w ts)
 
-  method_within : (t : TypeId) (n : Name) → env.method within t n ≡ env.method e t n
-  method_within t n = along_within (word e.here.text n) (env.chain e.types t)
+  method_within : (t : TypeId) (n : Name) → members.method within t n ≡ members.method e t n
+  method_within t n = along_within (word e.here.text n) (members.chain e.types t)
 
   -- initializers
-  own_initializer_within : (t : TypeId) → env.own_initializer within t ≡ env.own_initializer e t
-  own_initializer_within t = by (env.object e t)
+  own_initializer_within : (t : TypeId) → members.own_initializer within t ≡ members.own_initializer e t
+  own_initializer_within t = by (members.object e t)
     where
-      by : (o : Option ObjectScope) → env.initial_at within t o ≡ env.initial_at e t o
+      by : (o : Option ObjectScope) → members.initial_at within t o ≡ members.initial_at e t o
       by None = refl
       by (Some o) = refl
 
-  initial_along_within : (ts : List TypeId) → env.initializer_along within ts ≡ env.initializer_along e ts
+  initial_along_within : (ts : List TypeId) → members.initializer_along within ts ≡ members.initializer_along e ts
   initial_along_within [] = refl
   initial_along_within (t ∷ ts) = ap₂ option_or (own_initializer_within t) (initial_along_within ts)
 
-  initializer_within : (t : TypeId) → env.initializer within t ≡ env.initializer e t
-  initializer_within t = initial_along_within (env.chain e.types t)
+  initializer_within : (t : TypeId) → members.initializer within t ≡ members.initializer e t
+  initializer_within t = initial_along_within (members.chain e.types t)
 
   -- places
   parameter_within : (k : ℕ) (b : Bool) (of : Option TypeId) →
@@ -132,7 +133,7 @@ module _ (e : Env) (ns : List Narrowed) (exclusive condition : Bool) where
   declared_within None None k = refl
 
   place_within : (o : Open) (k : ℕ) → desig.place_in_scope within o k ≡ desig.place_in_scope e o k
-  place_within o k = ap₂ (λ a b. if desig.is_own_scope e o then a else b) (own_within k) (declared_within e.self_type (env.object_at e o) k)
+  place_within o k = ap₂ (λ a b. if desig.is_own_scope e o then a else b) (own_within k) (declared_within e.self_type (members.object_at e o) k)
 
   variable_within : (x : Symbol) (k : ℕ) (at : Pos) → desig.variable within x k at ≡ desig.variable e x k at
   variable_within x k at =

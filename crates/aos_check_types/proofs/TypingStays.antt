@@ -9,6 +9,7 @@ use Rattle.aos_symbols.specs.declared.home.ObjectScope.{ObjectScope}
 use Rattle.aos_symbols.specs.Spelling.{word}
 use Rattle.aos_symbols.specs.Scope.{find, with_names, places_in}
 use Rattle.aos_symbols.specs.Home.{Home, with_slots}
+use Rattle.aos_members.specs.Members as members
 use Rattle.aos_symbols.specs.Env as env
 use Rattle.aos_check_types.specs.Methods.{slot_in, defined_type, type_slots, definition_slots}
 
@@ -33,22 +34,22 @@ module _ (e : Env) (ks : List (List ℕ)) where
   type_same : (d : TypeDef) → defined_type slotted d ≡ defined_type e d
   type_same d = let w = word e.here.text d.def.name in ap (λ x. slot_in (env.looked_up e w x)) (path_same e.path w)
 
-  object_same : (t : TypeId) → env.object_scope slotted t ≡ env.object_scope e t
-  object_same t = by (env.object e t)
+  object_same : (t : TypeId) → members.object_scope slotted t ≡ members.object_scope e t
+  object_same t = by (members.object e t)
     where
-      by : (o : Option ObjectScope) → option_and_then (λ o. env.scope slotted (env.object_place o)) o ≡ option_and_then (λ o. env.scope e (env.object_place o)) o
+      by : (o : Option ObjectScope) → option_and_then (λ o. env.scope slotted (members.object_place o)) o ≡ option_and_then (λ o. env.scope e (members.object_place o)) o
       by None = refl
-      by (Some o) = scope_same (env.object_place o)
+      by (Some o) = scope_same (members.object_place o)
 
-  methods_same : (ts : List TypeId) → env.methods_along slotted ts ≡ env.methods_along e ts
+  methods_same : (ts : List TypeId) → members.methods_along slotted ts ≡ members.methods_along e ts
   methods_same [] = refl
   methods_same (t ∷ ts) =
-      ap (λ o. with_names (env.methods_along slotted ts) (env.scope_methods o)) (object_same t) ∙ ap (λ s. with_names s (env.own_methods e t)) (methods_same ts)
+      ap (λ o. with_names (members.methods_along slotted ts) (members.scope_methods o)) (object_same t) ∙ ap (λ s. with_names s (members.own_methods e t)) (methods_same ts)
 
-  slots_same : (t : TypeId) → env.own_slots slotted t ≡ env.own_slots e t
+  slots_same : (t : TypeId) → members.own_slots slotted t ≡ members.own_slots e t
   slots_same t =
-      ap (λ o. places_in (env.all_methods slotted t) (env.scope_methods o)) (object_same t)
-      ∙ ap (λ s. places_in s (env.own_methods e t)) (methods_same (env.chain e.types t))
+      ap (λ o. places_in (members.all_methods slotted t) (members.scope_methods o)) (object_same t)
+      ∙ ap (λ s. places_in s (members.own_methods e t)) (methods_same (members.chain e.types t))
 
   one_same : (d : TypeDef) → definition_slots slotted d ≡ definition_slots e d
   one_same d = ap (type_slots slotted) (type_same d) ∙ by (defined_type e d)

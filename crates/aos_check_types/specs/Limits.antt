@@ -31,7 +31,7 @@ use Rattle.aos_symbols.specs.Judged.{Judged, judged, bind}
 use Rattle.aos_symbols.specs.Declarations.{Procedure, all_procedures, all_type_defs, single_variables}
 use Rattle.aos_symbols.specs.Scope.{Scope}
 use Rattle.aos_symbols.specs.Home.{Home}
-use Rattle.aos_symbols.specs.Env as env
+use Rattle.aos_members.specs.Members as members
 use Rattle.aos_check_types.specs.Places.{type_place}
 use Rattle.aos_symbols.specs.Env.{nil}
 
@@ -66,8 +66,8 @@ claim_breaches e (claim.Target at t) = breach_unless (may_be_target (row_of e.ty
 claim_breaches e (claim.Result at t) = []
 claim_breaches e (claim.Base at b t) = breach_unless (may_be_base (row_of e.types b)) 17 at
 claim_breaches e (claim.ObjectBase at b t) = breach_unless (may_be_object_base (row_of e.types b)) 17 at
-claim_breaches e (claim.Field n b) = breach_unless (is_none (env.field e b n) && is_none (env.method e b n)) 23 n.pos
-claim_breaches e (claim.Method n b) = breach_unless (is_none (env.field e b n)) 23 n.pos
+claim_breaches e (claim.Field n b) = breach_unless (is_none (members.field e b n) && is_none (members.method e b n)) 23 n.pos
+claim_breaches e (claim.Method n b) = breach_unless (is_none (members.field e b n)) 23 n.pos
 
 -- a record whose base is no record stands like a definition that breaks a rule, and an object type whose base is none has no contents
 abbrev pub without_base : List TypeRow → Claim → List TypeRow

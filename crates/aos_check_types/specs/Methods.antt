@@ -11,12 +11,13 @@ use Rattle.aos_symbols.specs.declared.scope.Meaning.TheVariants as means
 use Rattle.aos_types.specs.declared.signature.Signature.{Signature}
 use Rattle.aos_symbols.specs.declared.env.Lookup.{Lookup}
 use Rattle.aos_symbols.specs.declared.env.Lookup.TheVariants.{Unknown, NotExported, Found}
-use Rattle.aos_symbols.specs.declared.env.Method.{Method}
+use Rattle.aos_members.specs.declared.objects.Method.{Method}
 use Rattle.aos_symbols.specs.declared.env.Env.{Env}
 use Rattle.aos_symbols.specs.Breaches.{breach_unless}
 use Rattle.aos_symbols.specs.Judged.{Judged, judged}
 use Rattle.aos_symbols.specs.Declarations.{Procedure, methods_in}
 use Rattle.aos_symbols.specs.Home.{with_slots}
+use Rattle.aos_members.specs.Members as members
 use Rattle.aos_symbols.specs.Env as env
 pub use Rattle.aos_types.specs.Signature.{same_type, same_kind, same_parameter, same_parameters, same_result, same_signature, may_stand}
 
@@ -49,7 +50,7 @@ override_breaches e n (Some m) (Some u) = breach_unless (may_override e.types (s
 override_breaches e n _ _ = []
 
 abbrev pub named_breaches : Env → TypeId → Name → List Breach
-named_breaches e t n = override_breaches e n (env.method e t n) (env.upper e t n)
+named_breaches e t n = override_breaches e n (members.method e t n) (members.upper e t n)
 
 abbrev pub method_breaches : Env → TypeId → Procedure → List Breach
 method_breaches e t p = named_breaches e t p.name
@@ -64,7 +65,7 @@ definition_breaches e d = type_breaches e (defined_type e d) (methods_in d)
 -- the slots of the methods that a type declares; all stands at a place of the module then
 abbrev pub type_slots : Env → Option TypeId → List ℕ
 type_slots e None = []
-type_slots e (Some t) = env.own_slots e t
+type_slots e (Some t) = members.own_slots e t
 
 abbrev pub definition_slots : Env → TypeDef → List ℕ
 definition_slots e d = type_slots e (defined_type e d)

@@ -4,11 +4,12 @@ ghost use Rattle.std.specs.Prelude.{◌≡◌, fold, slice_set, OnOk};
 ghost use Rattle.std.specs.List.{flat_map};
 ghost use Rattle.aos_types.specs.Table as table;
 ghost use Rattle.aos_symbols.specs.Breaches.{first_after};
-ghost use Rattle.aos_symbols.specs.Members.{AreMembers};
+ghost use Rattle.aos_members.specs.Members.{AreMembers};
 ghost use Rattle.aos_check_types.specs.Limits as judge;
 
 use aos_base::{NoMemory, Pos};
-use aos_symbols::{Breach, Claim, Env, IN_BASE, Members, NIL, WRONG_BASE, WRONG_TYPE, note};
+use aos_members::{Members, field_among, members_of, method_among};
+use aos_symbols::{Breach, Claim, Env, IN_BASE, NIL, WRONG_BASE, WRONG_TYPE, note};
 use aos_tree::Name;
 use aos_types::{Items, TypeId, TypeRow, Types};
 use std::alloc::{AllocError, Global};
@@ -81,7 +82,9 @@ fn note_field(
     ensures { OnOk result (found.new ≡ first_after found.old
         (judge.claim_breaches env.now (Claim.Field name base))) }
 {
-    if env.field_among(all, base, name)?.is_some() || env.method_among(all, base, name)?.is_some() {
+    if field_among(env, all, base, name)?.is_some()
+        || method_among(env, all, base, name)?.is_some()
+    {
         note(found, IN_BASE, name.pos);
     }
     Ok(())
@@ -98,7 +101,7 @@ fn note_method(
     ensures { OnOk result (found.new ≡ first_after found.old
         (judge.claim_breaches env.now (Claim.Method name base))) }
 {
-    if env.field_among(all, base, name)?.is_some() {
+    if field_among(env, all, base, name)?.is_some() {
         note(found, IN_BASE, name.pos);
     }
     Ok(())
@@ -135,7 +138,7 @@ pub(crate) fn note_claims(
     ensures { OnOk result (found.new ≡ first_after found.old
         (flat_map (judge.claim_breaches env.now) env.now.claims)) }
 {
-    let all = env.members(alloc)?;
+    let all = members_of(env, alloc)?;
     for claim in env.claims.as_slice() {
         note_claim(found, env, &all, *claim)?;
     }

@@ -6,14 +6,17 @@ ghost use Rattle.aos_types.specs.declared.row.TypeId.{TypeId};
 ghost use Rattle.std.specs.Option.{option_copied};
 ghost use Rattle.aos_symbols.specs.Breaches.{first_after};
 ghost use Rattle.aos_symbols.specs.Declarations.{procedures, seen_types};
-ghost use Rattle.aos_symbols.specs.Env.{IsSoFar};
-ghost use Rattle.aos_symbols.specs.Members.{AreMembers};
+ghost use Rattle.aos_members.specs.Members.{IsSoFar};
+ghost use Rattle.aos_members.specs.Members.{AreMembers};
 ghost use Rattle.aos_check_types.specs.Told.{Tells};
 ghost use Rattle.aos_check_types.specs.Methods as judge;
 
 use aos_base::NoMemory;
 use aos_entries::inner_decls;
-use aos_symbols::{ANY, Breach, Env, Lookup, Meaning, Members, SoFar, WRONG_OVERRIDE, note};
+use aos_members::{
+    Members, SoFar, members_of, method_among, methods_so_far, own_slots, upper_among,
+};
+use aos_symbols::{ANY, Breach, Env, Lookup, Meaning, WRONG_OVERRIDE, note};
 use aos_tree::{Decl, Items, Name, TypeDef};
 use aos_types::{Signature, TypeId, Types, may_stand};
 use std::alloc::{AllocError, Global};
@@ -62,8 +65,8 @@ fn note_method(
         (judge.named_breaches env.now of name)) }
 {
     let (Some(method), Some(upper)) = (
-        env.method_among(all, of, name)?,
-        env.upper_among(all, of, name)?,
+        method_among(env, all, of, name)?,
+        upper_among(env, all, of, name)?,
     ) else {
         return Ok(());
     };
@@ -126,7 +129,7 @@ fn note_definitions(
     ensures { OnOk result (found.new ≡ first_after found.old
         (flat_map (judge.definition_breaches env.now) (seen_types defs.now))) }
 {
-    let all = env.members(alloc)?;
+    let all = members_of(env, alloc)?;
     for def in defs {
         note_definition(found, env, &all, def)?;
     }
@@ -145,7 +148,7 @@ fn definition_slots<'a>(
     ensures so_far { OnOk result (IsSoFar env.now so_far.new) }
 {
     match defined_type(env, def) {
-        Some(of) => env.own_slots(alloc, so_far, of),
+        Some(of) => own_slots(env, alloc, so_far, of),
         None => Ok(Items::new(alloc)),
     }
 }
@@ -156,7 +159,7 @@ fn slots_of(alloc: Global, env: &Env<'_>, defs: &[&TypeDef]) -> Result<Vec<Items
         map (judge.definition_slots env.now) (seen_types defs.now)) }
 {
     let mut slots = Vec::new(alloc);
-    let mut so_far = env.methods_so_far(alloc, ANY)?;
+    let mut so_far = methods_so_far(env, alloc, ANY)?;
     for def in defs {
         slots.push(definition_slots(alloc, env, &mut so_far, def)?)?;
     }

@@ -23,6 +23,7 @@ use Rattle.aos_symbols.specs.Declarations.{Procedure, procedures, methods_in, ty
 use Rattle.aos_symbols.specs.Home.{Home, slot_at}
 use Rattle.aos_symbols.specs.Judged.{walk}
 use Rattle.aos_symbols.specs.Scope.{Scope}
+use Rattle.aos_members.specs.Members as members
 use Rattle.aos_symbols.specs.Env as env
 use Rattle.aos_symbols.proofs.Each.{Each, all_of, joined, implied}
 use Rattle.aos_symbols.proofs.Holds.{Holds, holds_bind, none_left, none_right}
@@ -203,7 +204,7 @@ module _ (e : Env) (first : ℕ) where
   beside_kept : (d : TypeDef) → AreOnce true (methods_in d) → (o : Option (TypeId × ObjectScope)) → Holds BesideKeeps (beside_in e first d o)
   beside_kept d once None none = local_keeps e d
   beside_kept d once (Some x) none =
-      let f = env.within_object e x.0 in
+      let f = members.within_object e x.0 in
       let k = first + x.1.methods in
       let own = body_of f true (object_body d.value) in
       let all = bodies_from f k [] (methods_in d) in

@@ -16,6 +16,7 @@ use Rattle.aos_symbols.specs.declared.env.Symbol.{Symbol}
 use Rattle.aos_symbols.specs.declared.env.Env.{Env}
 use Rattle.aos_symbols.specs.Home.{Home}
 use Rattle.aos_symbols.specs.Scope.{Named, Scope, find, methods_of}
+use Rattle.aos_members.specs.Members as members
 use Rattle.aos_symbols.specs.Env as env
 use Rattle.aos_known.specs.Known.{object_number}
 use Rattle.aos_check_expr.proofs.Opens.{OpensFall}
@@ -62,31 +63,31 @@ module _ (e : Env) where
   abbrev pub in_home : ObjectScope → Word → Option Home → Option Meant
   in_home o w h =
       option_and_then (λ (x : Symbol). meant_at h o x.means)
-      (option_map (env.declared_at (env.object_place o)) (option_and_then (λ s. find s w) (option_and_then (λ (h : Home). slice_get h.scopes o.scope) h)))
+      (option_map (env.declared_at (members.object_place o)) (option_and_then (λ s. find s w) (option_and_then (λ (h : Home). slice_get h.scopes o.scope) h)))
 
-  pub own_meant_is : (t : TypeId) (w : Word) → own_meant e t w ≡ option_and_then (λ o. in_home o w (env.home e o.home)) (env.object e t)
-  own_meant_is t w = by (env.object e t)
+  pub own_meant_is : (t : TypeId) (w : Word) → own_meant e t w ≡ option_and_then (λ o. in_home o w (env.home e o.home)) (members.object e t)
+  own_meant_is t w = by (members.object e t)
     where
-      found : (o : ObjectScope) (x : Option Symbol) → option_map bare (option_and_then (env.method_meant e t o) x) ≡ option_and_then (λ (x : Symbol). meant_at (env.home e o.home) o x.means) x
+      found : (o : ObjectScope) (x : Option Symbol) → option_map bare (option_and_then (members.method_meant e t o) x) ≡ option_and_then (λ (x : Symbol). meant_at (env.home e o.home) o x.means) x
       found o None = refl
       found o (Some x) = bare_meant e t o x x.means refl
 
-      by : (o : Option ObjectScope) → option_map bare (option_and_then (λ o. option_and_then (env.method_meant e t o) (env.in_scope e (env.object_place o) w)) o)
+      by : (o : Option ObjectScope) → option_map bare (option_and_then (λ o. option_and_then (members.method_meant e t o) (env.in_scope e (members.object_place o) w)) o)
           ≡ option_and_then (λ o. in_home o w (env.home e o.home)) o
       by None = refl
-      by (Some o) = found o (env.in_scope e (env.object_place o) w)
+      by (Some o) = found o (env.in_scope e (members.object_place o) w)
 
   abbrev pub start_in : ObjectScope → Option Home → Option Meant
-  start_in o h = option_map (λ k. record { home = o.home; number = o.methods + k; slot = env.slot_of h o k }) o.initial
+  start_in o h = option_map (λ k. record { home = o.home; number = o.methods + k; slot = members.slot_of h o k }) o.initial
 
-  pub own_start_is : (t : TypeId) → own_start e t ≡ option_and_then (λ o. start_in o (env.home e o.home)) (env.object e t)
-  own_start_is t = by (env.object e t)
+  pub own_start_is : (t : TypeId) → own_start e t ≡ option_and_then (λ o. start_in o (env.home e o.home)) (members.object e t)
+  own_start_is t = by (members.object e t)
     where
-      found : (o : ObjectScope) (k : Option ℕ) → option_map bare (option_map (env.method_at e t o None) k) ≡ option_map (λ k. record { home = o.home; number = o.methods + k; slot = env.slot_of (env.home e o.home) o k }) k
+      found : (o : ObjectScope) (k : Option ℕ) → option_map bare (option_map (members.method_at e t o None) k) ≡ option_map (λ k. record { home = o.home; number = o.methods + k; slot = members.slot_of (env.home e o.home) o k }) k
       found o None = refl
       found o (Some k) = refl
 
-      by : (o : Option ObjectScope) → option_map bare (env.initial_at e t o) ≡ option_and_then (λ o. start_in o (env.home e o.home)) o
+      by : (o : Option ObjectScope) → option_map bare (members.initial_at e t o) ≡ option_and_then (λ o. start_in o (env.home e o.home)) o
       by None = refl
       by (Some o) = found o o.initial
 
@@ -94,21 +95,21 @@ module _ (e : Env) where
   named_in None = []
   named_in (Some s) = methods_of s
 
-  pub own_methods_are : (t : TypeId) → env.own_methods e t ≡ named_in (env.object_scope e t)
-  own_methods_are t = by (env.object_scope e t) refl
+  pub own_methods_are : (t : TypeId) → members.own_methods e t ≡ named_in (members.object_scope e t)
+  own_methods_are t = by (members.object_scope e t) refl
     where
-      by : (o : Option Scope) → env.object_scope e t ≡ o → env.own_methods e t ≡ named_in o
+      by : (o : Option Scope) → members.object_scope e t ≡ o → members.own_methods e t ≡ named_in o
       by None is = rw is refl
       by (Some s) is = rw is refl
 
 module _ (e f : Env) (ready : AreReady e.types) (ready_on : AreReady f.types) (stay : RowsStay e.types f.types)
-    (objects_same : (t : TypeId) → t.0 < length e.types → env.object f t ≡ env.object e t)
-    (homes_same : (t : TypeId) (o : ObjectScope) → t.0 < length e.types → env.object e t ≡ Some o → env.home f o.home ≡ env.home e o.home) where
+    (objects_same : (t : TypeId) → t.0 < length e.types → members.object f t ≡ members.object e t)
+    (homes_same : (t : TypeId) (o : ObjectScope) → t.0 < length e.types → members.object e t ≡ Some o → env.home f o.home ≡ env.home e o.home) where
   by_object : {A : Type 0} (g : ObjectScope → Option Home → Option A) (t : TypeId) → t.0 < length e.types →
-      option_and_then (λ o. g o (env.home f o.home)) (env.object f t) ≡ option_and_then (λ o. g o (env.home e o.home)) (env.object e t)
-  by_object g t there = ap (option_and_then (λ o. g o (env.home f o.home))) (objects_same t there) ∙ by (env.object e t) refl
+      option_and_then (λ o. g o (env.home f o.home)) (members.object f t) ≡ option_and_then (λ o. g o (env.home e o.home)) (members.object e t)
+  by_object g t there = ap (option_and_then (λ o. g o (env.home f o.home))) (objects_same t there) ∙ by (members.object e t) refl
     where
-      by : (o : Option ObjectScope) → env.object e t ≡ o → option_and_then (λ o. g o (env.home f o.home)) o ≡ option_and_then (λ o. g o (env.home e o.home)) o
+      by : (o : Option ObjectScope) → members.object e t ≡ o → option_and_then (λ o. g o (env.home f o.home)) o ≡ option_and_then (λ o. g o (env.home e o.home)) o
       by None is = refl
       by (Some o) is = ap (g o) (homes_same t o there is)
 

@@ -20,13 +20,14 @@ use Rattle.aos_entries.specs.declared.entries.Sort.TheVariants as sort
 use Rattle.aos_symbols.specs.declared.home.ObjectScope.{ObjectScope}
 use Rattle.aos_types.specs.declared.signature.Signature.{Signature}
 use Rattle.aos_symbols.specs.declared.env.Symbol.{Symbol}
-use Rattle.aos_symbols.specs.declared.env.Method.{Method}
+use Rattle.aos_members.specs.declared.objects.Method.{Method}
 use Rattle.aos_symbols.specs.declared.env.Env.{Env}
 use Rattle.aos_symbols.specs.Spelling.{word}
 use Rattle.aos_symbols.specs.Declarations.{Procedure, whole_procedures_in, procedures_in, procedures, procedure_defs, methods_in, all_procedures, type_defs, inner_decls}
 use Rattle.aos_entries.specs.Entries.{numbered, initial_from}
 use Rattle.aos_symbols.specs.Home.{Home, slot_at}
 use Rattle.aos_symbols.specs.Scope.{Named, Scope, find, is_procedure, place_of, places_in}
+use Rattle.aos_members.specs.Members as members
 use Rattle.aos_symbols.specs.Env as env
 use Rattle.aos_symbols.proofs.Holds.{test_is}
 use Rattle.aos_check_types.specs.Methods.{may_override, signature_of, override_breaches, method_breaches}
@@ -118,23 +119,23 @@ module _ (e : Env) (m : Tree) (j : ℕ) (d : TypeDef) (t : TypeId) where
   -- the object type of a definition, in the module's environment
   pub record IsFound : Type 0 where
     pub there : slice_get (type_defs m.decls) j ≡ Some d
-    pub found : env.object e t ≡ Some object
+    pub found : members.object e t ≡ Some object
     pub scope : Scope
     pub scope_is : slice_get e.here.scopes (suc j) ≡ Some scope
     pub inner : IsInner text (inner_decls d.value) scope
-    pub slots_is : slice_get e.here.slots j ≡ Some (env.own_slots e t)
+    pub slots_is : slice_get e.here.slots j ≡ Some (members.own_slots e t)
 
   module _ (is : IsFound) (ready : AreReady e.types) (below : t.0 < length e.types)
       (headings : (i : ℕ) (p : Procedure) → slice_get (all_procedures m.decls) i ≡ Some p → HasHeading m e i p) where
     here : env.home e e.number ≡ Some e.here
     here = ap (λ b. if b then Some e.here else slice_get e.before e.number) (eq-eqb e.number e.number refl)
 
-    scope_found : env.object_scope e t ≡ Some is.scope
+    scope_found : members.object_scope e t ≡ Some is.scope
     scope_found =
-        ap (option_and_then (λ o. env.scope e (env.object_place o))) is.found
+        ap (option_and_then (λ o. env.scope e (members.object_place o))) is.found
         ∙ ap (option_and_then (λ (h : Home). slice_get h.scopes (suc j))) here ∙ is.scope_is
 
-    methods_are : env.own_methods e t ≡ numbered text sort.Procedure 0 defs
+    methods_are : members.own_methods e t ≡ numbered text sort.Procedure 0 defs
     methods_are = own_methods_are e t ∙ ap (named_in e) scope_found ∙ is.inner.methods
 
     numbered_words : (k : ℕ) (ds : List Def) → words (numbered text sort.Procedure k ds) ≡ map (λ (x : Def). word text x.name) ds
@@ -152,8 +153,8 @@ module _ (e : Env) (m : Tree) (j : ℕ) (d : TypeDef) (t : TypeId) where
         own_meant_is e t (word text x.name)
         ∙ ap (option_and_then (λ o. in_home e o (word text x.name) (env.home e o.home))) is.found
         ∙ ap (in_home e object (word text x.name)) here
-        ∙ ap (λ s. option_and_then (λ (y : Symbol). meant_at (Some e.here) object y.means) (option_map (env.declared_at (env.object_place object)) (option_and_then (λ s. find s (word text x.name)) s))) is.scope_is
-        ∙ ap (λ s. option_and_then (λ (y : Symbol). meant_at (Some e.here) object y.means) (option_map (env.declared_at (env.object_place object)) s)) (is.inner.found i x at)
+        ∙ ap (λ s. option_and_then (λ (y : Symbol). meant_at (Some e.here) object y.means) (option_map (env.declared_at (members.object_place object)) (option_and_then (λ s. find s (word text x.name)) s))) is.scope_is
+        ∙ ap (λ s. option_and_then (λ (y : Symbol). meant_at (Some e.here) object y.means) (option_map (env.declared_at (members.object_place object)) s)) (is.inner.found i x at)
 
     -- its slot is the place of its name
     indexed : (i : ℕ) (x : Def) → slice_get defs i ≡ Some x → (k : ℕ) × (index_in (slot_words e t) (word text x.name) ≡ Some k)
@@ -163,9 +164,9 @@ module _ (e : Env) (m : Tree) (j : ℕ) (d : TypeDef) (t : TypeId) where
         let k = fold_placed (own_words e t) (words_behind e (base_of (row_of e.types t))) (word text x.name) i word_at in
         (k.0, ap (λ ws. index_in ws (word text x.name)) (words_are e ready t below) ∙ k.1)
 
-    placed_at : (ns : List Named) (i : ℕ) (w : Word) → slice_get (words ns) i ≡ Some w → slice_get (places_in (env.all_methods e t) ns) i ≡ Some (place_of (env.all_methods e t) w)
+    placed_at : (ns : List Named) (i : ℕ) (w : Word) → slice_get (words ns) i ≡ Some w → slice_get (places_in (members.all_methods e t) ns) i ≡ Some (place_of (members.all_methods e t) w)
     placed_at [] i w at = absurd (none-some w at)
-    placed_at (n ∷ ns) zero w at = ap (λ v. Some (place_of (env.all_methods e t) v)) (same_Some n.0 w at)
+    placed_at (n ∷ ns) zero w at = ap (λ v. Some (place_of (members.all_methods e t) v)) (same_Some n.0 w at)
     placed_at (n ∷ ns) (suc i) w at = placed_at ns i w at
 
     slot_is : (i : ℕ) (x : Def) → slice_get defs i ≡ Some x → index_in (slot_words e t) (word text x.name) ≡ Some (slot_at e.here object i)
@@ -174,12 +175,12 @@ module _ (e : Env) (m : Tree) (j : ℕ) (d : TypeDef) (t : TypeId) where
         let k = indexed i x at in
         let word_at : slice_get (own_words e t) i ≡ Some w =
         ap (λ l. slice_get l i) words_of ∙ slice_get-map (λ (x : Def). word text x.name) defs i ∙ ap (option_map (λ (x : Def). word text x.name)) at in
-        let place : place_of (env.all_methods e t) w ≡ k.0 = ap (λ o. unwrap_or o 0) (index_is w (slot_words e t) ∙ k.1) in
+        let place : place_of (members.all_methods e t) w ≡ k.0 = ap (λ o. unwrap_or o 0) (index_is w (slot_words e t) ∙ k.1) in
         let number : suc j - 1 ≡ j = omega arith in
-        let slot : slot_at e.here object i ≡ place_of (env.all_methods e t) w =
+        let slot : slot_at e.here object i ≡ place_of (members.all_methods e t) w =
         ap (λ n. unwrap_or (option_and_then (λ ks. slice_get ks i) (slice_get e.here.slots n)) 0) number
         ∙ ap (λ ks. unwrap_or (option_and_then (λ ks. slice_get ks i) ks) 0) is.slots_is
-        ∙ ap (λ o. unwrap_or o 0) (placed_at (env.own_methods e t) i w word_at) in
+        ∙ ap (λ o. unwrap_or o 0) (placed_at (members.own_methods e t) i w word_at) in
         k.1 ∙ ap (λ n. Some n) (sym place ∙ sym slot)
 
     -- the heading of a method
@@ -215,9 +216,9 @@ module _ (e : Env) (m : Tree) (j : ℕ) (d : TypeDef) (t : TypeId) where
     pub only : (w : Word) (u : Meant) → own_meant e t w ≡ Some u → is_in (own_words e t) w ≡ true
     only w u found =
         let there = sym (own_meant_is e t w ∙ ap (option_and_then (λ o. in_home e o w (env.home e o.home))) is.found ∙ ap (in_home e object w) here
-        ∙ ap (λ s. option_and_then (λ (y : Symbol). meant_at (Some e.here) object y.means) (option_map (env.declared_at (env.object_place object)) (option_and_then (λ s. find s w) s))) is.scope_is) ∙ found in
-        let one = some_of (λ (y : Symbol). meant_at (Some e.here) object y.means) (option_map (env.declared_at (env.object_place object)) (find is.scope w)) u there in
-        let two = some_map (env.declared_at (env.object_place object)) (find is.scope w) one.0 one.1 in
+        ∙ ap (λ s. option_and_then (λ (y : Symbol). meant_at (Some e.here) object y.means) (option_map (env.declared_at (members.object_place object)) (option_and_then (λ s. find s w) s))) is.scope_is) ∙ found in
+        let one = some_of (λ (y : Symbol). meant_at (Some e.here) object y.means) (option_map (env.declared_at (members.object_place object)) (find is.scope w)) u there in
+        let two = some_map (env.declared_at (members.object_place object)) (find is.scope w) one.0 one.1 in
         let procedure : is_procedure two.0.means ≡ true = ap (λ (y : Symbol). is_procedure y.means) two.2 ∙ procedure_meant (Some e.here) object one.0.means u one.2 in
         ap (λ l. is_in (words l) w) (own_methods_are e t ∙ ap (named_in e) scope_found) ∙ is.inner.only w two.0 two.1 procedure
 
@@ -283,22 +284,22 @@ module _ (e : Env) (m : Tree) (j : ℕ) (d : TypeDef) (t : TypeId) where
           (r : Signature) × (env.signature e u.home u.number ≡ Some r) × (may_stand e.types s r ≡ true)
       overriding i x at p there name s here_signed u found = by (base_of (row_of e.types t)) refl found
         where
-          own : (y : Method) × (env.method_named e t (word text x.name) ≡ Some y) × (bare y ≡ meaning i)
+          own : (y : Method) × (members.method_named e t (word text x.name) ≡ Some y) × (bare y ≡ meaning i)
           own =
-              some_map bare (env.method_named e t (word text x.name)) (meaning i)
+              some_map bare (members.method_named e t (word text x.name)) (meaning i)
               (meant_is e ready t below (word text x.name) ∙ ap (λ o. option_or o (meant_behind e (base_of (row_of e.types t)) (word text x.name))) (found_as i x at))
 
           by : (b : Option TypeId) → base_of (row_of e.types t) ≡ b → meant_behind e b (word text x.name) ≡ Some u →
               (r : Signature) × (env.signature e u.home u.number ≡ Some r) × (may_stand e.types s r ≡ true)
           by None base found = absurd (none-some u found)
           by (Some b) base found =
-              let up = some_map bare (env.method_named e b (word text x.name)) u found in
+              let up = some_map bare (members.method_named e b (word text x.name)) u found in
               let r = signed b base (word text x.name) u found in
-              let m_is : env.method e t p.name ≡ Some own.0 = ap (λ n. env.method e t n) name ∙ own.1 in
-              let u_is : env.upper e t p.name ≡ Some up.0 = ap (option_and_then (λ b. env.method e b p.name)) base ∙ ap (λ n. env.method e b n) name ∙ up.1 in
+              let m_is : members.method e t p.name ≡ Some own.0 = ap (λ n. members.method e t n) name ∙ own.1 in
+              let u_is : members.upper e t p.name ≡ Some up.0 = ap (option_and_then (λ b. members.method e b p.name)) base ∙ ap (λ n. members.method e b n) name ∙ up.1 in
               let one : env.signature e own.0.home own.0.number ≡ Some s = ap (λ (z : Meant). env.signature e z.home z.number) own.2 ∙ here_signed in
               let two : env.signature e up.0.home up.0.number ≡ Some r.0 = ap (λ (z : Meant). env.signature e z.home z.number) up.2 ∙ r.1 in
-              (r.0, r.1, may p.name (env.method e t p.name) (env.upper e t p.name) (kept i p there) own.0 up.0 m_is u_is s r.0 one two)
+              (r.0, r.1, may p.name (members.method e t p.name) (members.upper e t p.name) (kept i p there) own.0 up.0 m_is u_is s r.0 one two)
 
       -- The methods beside the type, one for each.
 

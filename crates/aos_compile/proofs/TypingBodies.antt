@@ -18,6 +18,7 @@ use Rattle.aos_symbols.specs.declared.env.Env.{Env}
 use Rattle.aos_symbols.specs.Declarations.{Procedure, all_procedures}
 use Rattle.aos_symbols.specs.Scope.{Scope, find}
 use Rattle.aos_symbols.specs.Home.{Home, signature_in}
+use Rattle.aos_members.specs.Members as members
 use Rattle.aos_symbols.specs.Env as env
 use Rattle.aos_symbols.proofs.Each.{Each, joined}
 use Rattle.aos_symbols.proofs.Holds.{Holds, holds_bind}
@@ -46,7 +47,7 @@ module _ (program : Program) (e : Env) (m : Tree) (begins : RowsStay env.basic_r
     (headings : (j : ℕ) (q : Procedure) → slice_get (all_procedures m.decls) j ≡ Some q → HasHeading m e j q)
     (below : (j : ℕ) (q : Procedure) → slice_get (all_procedures m.decls) j ≡ Some q → (s : Scope) → slice_get e.here.scopes (first_scope m + j) ≡ Some s →
     (w : List ℕ) (x : Entry) (k : ℕ) → find s w ≡ Some x → x.means ≡ means.Variable k → k < length s.variables)
-    (objects : (t : TypeId) (o : ObjectScope) → env.object e t ≡ Some o → (0 < o.scope) × (o.home ≡ e.number → o.scope < first_scope m) × (is_object (row_of e.types t) ≡ true)) where
+    (objects : (t : TypeId) (o : ObjectScope) → members.object e t ≡ Some o → (0 < o.scope) × (o.home ≡ e.number → o.scope < first_scope m) × (is_object (row_of e.types t) ≡ true)) where
   abbrev inside : Option TypedProcedure → Inside
   inside own = record { program = program; own = own; basic = begins }
 
@@ -92,16 +93,16 @@ module _ (program : Program) (e : Env) (m : Tree) (begins : RowsStay env.basic_r
 
   -- Within an object type.
 
-  module _ (t : TypeId) (o : ObjectScope) (found : env.object e t ≡ Some o) where
+  module _ (t : TypeId) (o : ObjectScope) (found : members.object e t ≡ Some o) where
     abbrev object_path : List Open
-    object_path = env.object_path e (env.chain e.types t)
+    object_path = members.object_path e (members.chain e.types t)
 
     abbrev within : Env
-    within = env.within_object e t
+    within = members.within_object e t
 
     -- the scopes of object types are no procedure's
-    not_own : (path : List Open) (k : ℕ) → env.innermost path ≡ k → (first_scope m ≤ k) ⊎ (k < first_scope m) → (u : TypeId) (q : ObjectScope) → env.object e u ≡ Some q →
-        desig.is_own_scope (place_at path (Some t)) (env.object_place q) ≡ false
+    not_own : (path : List Open) (k : ℕ) → env.innermost path ≡ k → (first_scope m ≤ k) ⊎ (k < first_scope m) → (u : TypeId) (q : ObjectScope) → members.object e u ≡ Some q →
+        desig.is_own_scope (place_at path (Some t)) (members.object_place q) ≡ false
     not_own path k inner kind u q object = by ((q.home == e.number) && (q.scope == env.innermost path)) refl kind
       where
         by : (b : Bool) → ((q.home == e.number) && (q.scope == env.innermost path)) ≡ b → (first_scope m ≤ k) ⊎ (k < first_scope m) → (b && is_some (signature_in e.here (env.innermost path))) ≡ false
@@ -132,9 +133,9 @@ module _ (program : Program) (e : Env) (m : Tree) (begins : RowsStay env.basic_r
       innermost_is : env.innermost (object_path ++ e.path) ≡ o.scope
       innermost_is = by (length e.types)
         where
-          by : (n : ℕ) → env.innermost (env.object_path e (env.chain_by n e.types t) ++ e.path) ≡ o.scope
-          by zero = ap (λ z. env.innermost ((env.opened e z ++ []) ++ e.path)) found
-          by (suc n) = ap (λ z. env.innermost ((env.opened e z ++ env.object_path e (env.chain_behind (λ b. env.chain_by n e.types b) (base_of (row_of e.types t)))) ++ e.path)) found
+          by : (n : ℕ) → env.innermost (members.object_path e (members.chain_by n e.types t) ++ e.path) ≡ o.scope
+          by zero = ap (λ z. env.innermost ((members.opened e z ++ []) ++ e.path)) found
+          by (suc n) = ap (λ z. env.innermost ((members.opened e z ++ members.object_path e (members.chain_behind (λ b. members.chain_by n e.types b) (base_of (row_of e.types t)))) ++ e.path)) found
 
       pub body_within : (b : Option Block) → Holds (λ ss. AreStatements program (Some (object_procedure k (body_with e.here.text b (listed ss)))) (listed ss)) (body_of within true b)
       body_within b none =

@@ -17,12 +17,12 @@ use Rattle.aos_symbols.specs.declared.home.ObjectScope.{ObjectScope}
 use Rattle.aos_symbols.specs.declared.scope.Entry.{Entry}
 use Rattle.aos_symbols.specs.declared.scope.Meaning.{Meaning}
 use Rattle.aos_symbols.specs.declared.scope.Meaning.TheVariants as means
-use Rattle.aos_symbols.specs.declared.env.Field.{Field}
+use Rattle.aos_members.specs.declared.fields.Field.{Field}
 use Rattle.aos_symbols.specs.declared.env.Env.{Env}
 use Rattle.aos_symbols.specs.Scope.{Scope, find}
 use Rattle.aos_symbols.specs.Home.{Home, object_of, scope_of, fields_of}
 use Rattle.aos_symbols.specs.Spelling.{word}
-use Rattle.aos_symbols.specs.Env as env
+use Rattle.aos_members.specs.Members as members
 use Rattle.aos_symbols.proofs.Each.{Each, each_at}
 use Rattle.aos_symbols.proofs.Told.{IsTold, AreToldParts, PartsAreTold, HasFields, FieldsAgree, get_front}
 use Rattle.aos_operators.proofs.Sound.{not_both}
@@ -58,7 +58,7 @@ module _ (ts us : List TypeRow) (stay : RowsStay ts us) (ranked : IsRanked ts) (
       ∙ ap (fields_in (λ c. fields_by m us c)) (sym (stay t.0 there))
 
 -- a field has the number of a variable of its scope, and its type
-field_numbered : (own : Bool) (s : Scope) (w : List ℕ) (f : Field) → env.field_in own s w ≡ Some f → slice_get s.variables f.number ≡ Some f.of
+field_numbered : (own : Bool) (s : Scope) (w : List ℕ) (f : Field) → members.field_in own s w ≡ Some f → slice_get s.variables f.number ≡ Some f.of
 field_numbered own s w f h = by (find s w) refl
   where
     numbered : (x : Entry) (k : ℕ) (of : Option (Option TypeId)) → slice_get s.variables k ≡ of →
@@ -127,7 +127,7 @@ base_row : (kind : Bool) (base : Option TypeId) (ts : List TypeId) → base_of (
 base_row true base ts = refl
 base_row false base ts = refl
 
-count_row : (kind : Bool) (base : Option TypeId) (ts : List TypeId) → env.field_count (Some (with_row kind base ts)) ≡ length ts
+count_row : (kind : Bool) (base : Option TypeId) (ts : List TypeId) → members.field_count (Some (with_row kind base ts)) ≡ length ts
 count_row true base ts = refl
 count_row false base ts = refl
 
@@ -151,22 +151,22 @@ has_row rows t true base ts there = inr there
 has_row rows t false base ts there = inl there
 
 module _ (types : List TypeRow) (t : TypeId) (base : Option TypeId) (ts : List TypeId) (there : HasFields types t base ts) (w : List ℕ) (f : Field) where
-  known_field : (own : Bool) (s : Scope) → s.variables ≡ map (λ t. Some t) ts → env.field_in own s w ≡ Some f → InRow ts f
+  known_field : (own : Bool) (s : Scope) → s.variables ≡ map (λ t. Some t) ts → members.field_in own s w ≡ Some f → InRow ts f
   known_field own s is h = in_row ts f (ap (λ vs. slice_get vs f.number) (sym is) ∙ field_numbered own s w f h)
 
   abbrev kind : Bool
   kind = is_object (row_of types t)
 
-  home_field : (own : Bool) (other : Option Field) (h : Home) → FieldsAgree types h → (other ≡ Some f → InRow ts f) → env.field_or own w other (fields_of kind h t) ≡ Some f → InRow ts f
+  home_field : (own : Bool) (other : Option Field) (h : Home) → FieldsAgree types h → (other ≡ Some f → InRow ts f) → members.field_or own w other (fields_of kind h t) ≡ Some f → InRow ts f
   home_field own other h agree more = by (fields_of kind h t) refl
     where
-      by : (o : Option Scope) → fields_of kind h t ≡ o → env.field_or own w other o ≡ Some f → InRow ts f
+      by : (o : Option Scope) → fields_of kind h t ≡ o → members.field_or own w other o ≡ Some f → InRow ts f
       by None at e = more e
       by (Some s) at e = known_field own s ((agree t s at).1 base ts there) e
 
-  homes_field : (hs : List Home) → ((k : ℕ) (h : Home) → slice_get hs k ≡ Some h → FieldsAgree types h) → env.field_among kind hs t w ≡ Some f → InRow ts f
+  homes_field : (hs : List Home) → ((k : ℕ) (h : Home) → slice_get hs k ≡ Some h → FieldsAgree types h) → members.field_among kind hs t w ≡ Some f → InRow ts f
   homes_field [] agree e = absurd (none-some f e)
-  homes_field (h ∷ hs) agree e = home_field false (env.field_among kind hs t w) h (agree zero h refl) (homes_field hs (λ k g at. agree (suc k) g at)) e
+  homes_field (h ∷ hs) agree e = home_field false (members.field_among kind hs t w) h (agree zero h refl) (homes_field hs (λ k g at. agree (suc k) g at)) e
 
 module _ (rows : List TypeRow) (ranked : IsRanked rows) (parts : PartsAreTold rows) (bases : (t b : TypeId) → base_of (row_of rows t) ≡ Some b → b.0 < length rows) where
   pub parts_of : (t : TypeId) (r : IsRow (row_of rows t)) → ((c : TypeId) → r.base ≡ Some c → has_fields (row_of rows c) ≡ true) × Each (IsTold rows) r.own
@@ -179,11 +179,11 @@ module _ (rows : List TypeRow) (ranked : IsRanked rows) (parts : PartsAreTold ro
   fields_are n t r = ap (fields_in (λ c. fields_by n rows c)) r.is ∙ fields_row (λ c. fields_by n rows c) r.kind r.base r.own
 
   -- bases have as many fields as are counted
-  count_before : (n : ℕ) (b : TypeId) → has_fields (row_of rows b) ≡ true → length (fields_by n rows b) ≡ env.fields_before n rows b + env.field_count (row_of rows b)
+  count_before : (n : ℕ) (b : TypeId) → has_fields (row_of rows b) ≡ true → length (fields_by n rows b) ≡ members.fields_before n rows b + members.field_count (row_of rows b)
   count_before zero b is =
       let r = row_with (row_of rows b) is in
       let fields = ap (λ o. length (fields_in (λ c. []) o)) r.is ∙ ap length (fields_row (λ c. []) r.kind r.base r.own) ∙ none r.base r.own in
-      let count = ap env.field_count r.is ∙ count_row r.kind r.base r.own in
+      let count = ap members.field_count r.is ∙ count_row r.kind r.base r.own in
       omega (arith, fields, count)
     where
       none : (base : Option TypeId) (ts : List TypeId) → length (behind_base (λ c. []) base ++ ts) ≡ length ts
@@ -192,14 +192,14 @@ module _ (rows : List TypeRow) (ranked : IsRanked rows) (parts : PartsAreTold ro
   count_before (suc n) b is =
       let r = row_with (row_of rows b) is in
       let fields = ap length (fields_are n b r) ∙ length-append (behind_base (λ c. fields_by n rows c) r.base) r.own in
-      let count = ap env.field_count r.is ∙ count_row r.kind r.base r.own in
+      let count = ap members.field_count r.is ∙ count_row r.kind r.base r.own in
       let behind = by r.base refl (parts_of b r).0 (count_before n) in
-      let before = ap (env.of_base (λ c. env.fields_before n rows c + env.field_count (row_of rows c))) (base_is b r) in
+      let before = ap (members.of_base (λ c. members.fields_before n rows c + members.field_count (row_of rows c))) (base_is b r) in
       omega (arith, fields, count, behind, before)
     where
       by : (base : Option TypeId) → base ≡ base → ((c : TypeId) → base ≡ Some c → has_fields (row_of rows c) ≡ true) →
-          ((c : TypeId) → has_fields (row_of rows c) ≡ true → length (fields_by n rows c) ≡ env.fields_before n rows c + env.field_count (row_of rows c)) →
-          length (behind_base (λ c. fields_by n rows c) base) ≡ env.of_base (λ c. env.fields_before n rows c + env.field_count (row_of rows c)) base
+          ((c : TypeId) → has_fields (row_of rows c) ≡ true → length (fields_by n rows c) ≡ members.fields_before n rows c + members.field_count (row_of rows c)) →
+          length (behind_base (λ c. fields_by n rows c) base) ≡ members.of_base (λ c. members.fields_before n rows c + members.field_count (row_of rows c)) base
       by None same fielded rest = refl
       by (Some c) same fielded rest = rest c (fielded c refl)
 
@@ -213,20 +213,20 @@ module _ (rows : List TypeRow) (ranked : IsRanked rows) (parts : PartsAreTold ro
 
   -- a type's own fields are counted on from those of its base
   pub own_behind : (t : TypeId) (r : IsRow (row_of rows t)) (k : ℕ) (u : TypeId) → slice_get r.own k ≡ Some u →
-      field_type rows t (env.fields_before (length rows) rows t + k) ≡ Some u
+      field_type rows t (members.fields_before (length rows) rows t + k) ≡ Some u
   own_behind t r k u is =
       let many = has_rows t r in
       let n = many.0 in
       let behind = behind_base (λ c. fields_by n rows c) r.base in
-      let number : env.fields_before (length rows) rows t ≡ length behind =
-      ap (λ m. env.fields_before m rows t) many.1 ∙ ap (env.of_base (λ c. env.fields_before n rows c + env.field_count (row_of rows c))) (base_is t r) ∙ by n r.base (parts_of t r).0 in
-      ap (λ m. slice_get (fields_by m rows t) (env.fields_before (length rows) rows t + k)) many.1
+      let number : members.fields_before (length rows) rows t ≡ length behind =
+      ap (λ m. members.fields_before m rows t) many.1 ∙ ap (members.of_base (λ c. members.fields_before n rows c + members.field_count (row_of rows c))) (base_is t r) ∙ by n r.base (parts_of t r).0 in
+      ap (λ m. slice_get (fields_by m rows t) (members.fields_before (length rows) rows t + k)) many.1
       ∙ ap (λ m. slice_get (fields_by (suc n) rows t) (m + k)) number
       ∙ ap (λ fs. slice_get fs (length behind + k)) (fields_are n t r)
       ∙ get_behind behind r.own k ∙ is
     where
       by : (n : ℕ) (base : Option TypeId) → ((c : TypeId) → base ≡ Some c → has_fields (row_of rows c) ≡ true) →
-          env.of_base (λ c. env.fields_before n rows c + env.field_count (row_of rows c)) base ≡ length (behind_base (λ c. fields_by n rows c) base)
+          members.of_base (λ c. members.fields_before n rows c + members.field_count (row_of rows c)) base ≡ length (behind_base (λ c. fields_by n rows c) base)
       by n None fielded = refl
       by n (Some c) fielded = sym (count_before n c (fielded c refl))
 
@@ -275,43 +275,43 @@ module _ (e : Env) (here : FieldsAgree e.types e.here) (before : (k : ℕ) (h : 
   abbrev IsField : TypeId → Field → Type 0
   IsField t f = (u : TypeId) × (f.of ≡ Some u) × (field_type e.types t f.number ≡ Some u) × IsTold e.types u
 
-  own_field : (t : TypeId) (n : Name) (f : Field) → has_fields (row_of e.types t) ≡ true → option_map (env.counted_on e.types t) (env.own_field e t n) ≡ Some f → IsField t f
-  own_field t n f fielded h = by (env.own_field e t n) refl h
+  own_field : (t : TypeId) (n : Name) (f : Field) → has_fields (row_of e.types t) ≡ true → option_map (members.counted_on e.types t) (members.own_field e t n) ≡ Some f → IsField t f
+  own_field t n f fielded h = by (members.own_field e t n) refl h
     where
       w : List ℕ
       w = word e.here.text n
 
-      told : (g : Field) → env.own_field e t n ≡ Some g → IsField t (env.counted_on e.types t g)
+      told : (g : Field) → members.own_field e t n ≡ Some g → IsField t (members.counted_on e.types t g)
       told g is =
           let row = row_with (row_of e.types t) fielded in
           let there = has_row e.types t row.kind row.base row.own row.is in
           let kind = is_object (row_of e.types t) in
-          let r = home_field e.types t row.base row.own there w g true (env.field_among kind e.before t w) e.here here (homes_field e.types t row.base row.own there w g e.before before) is in
+          let r = home_field e.types t row.base row.own there w g true (members.field_among kind e.before t w) e.here here (homes_field e.types t row.base row.own there w g e.before before) is in
           (r.0, r.1, own_behind e.types ranked parts bases t row g.number r.0 r.2, each_at (IsTold e.types) row.own g.number r.0 (parts_of e.types ranked parts bases t row).1 r.2)
 
-      by : (o : Option Field) → env.own_field e t n ≡ o → option_map (env.counted_on e.types t) o ≡ Some f → IsField t f
+      by : (o : Option Field) → members.own_field e t n ≡ o → option_map (members.counted_on e.types t) o ≡ Some f → IsField t f
       by None is h = absurd (none-some f h)
-      by (Some g) is h = subst (IsField t) (same_Some (env.counted_on e.types t g) f h) (told g is)
+      by (Some g) is h = subst (IsField t) (same_Some (members.counted_on e.types t g) f h) (told g is)
 
-  told_by : (k : ℕ) (t : TypeId) (n : Name) (f : Field) → has_fields (row_of e.types t) ≡ true → env.field_by k e t n ≡ Some f → IsField t f
+  told_by : (k : ℕ) (t : TypeId) (n : Name) (f : Field) → has_fields (row_of e.types t) ≡ true → members.field_by k e t n ≡ Some f → IsField t f
   told_by zero t n f fielded h = own_field t n f fielded h
-  told_by (suc k) t n f fielded h = by (option_map (env.counted_on e.types t) (env.own_field e t n)) refl h (told_by k)
+  told_by (suc k) t n f fielded h = by (option_map (members.counted_on e.types t) (members.own_field e t n)) refl h (told_by k)
     where
-      up : (o : Option TypeId) → base_of (row_of e.types t) ≡ o → option_and_then (λ b. env.field_by k e b n) o ≡ Some f →
-          ((b : TypeId) (n : Name) (f : Field) → has_fields (row_of e.types b) ≡ true → env.field_by k e b n ≡ Some f → IsField b f) → IsField t f
+      up : (o : Option TypeId) → base_of (row_of e.types t) ≡ o → option_and_then (λ b. members.field_by k e b n) o ≡ Some f →
+          ((b : TypeId) (n : Name) (f : Field) → has_fields (row_of e.types b) ≡ true → members.field_by k e b n ≡ Some f → IsField b f) → IsField t f
       up (Some b) base h rest =
           let row = row_with (row_of e.types t) fielded in
           let r = rest b n f ((parts_of e.types ranked parts bases t row).0 b (sym (base_is e.types ranked parts bases t row) ∙ base)) h in
           (r.0, r.1, base_first e.types ranked parts bases t b fielded base f.number r.0 r.2, r.3)
       up None base h rest = absurd (none-some f h)
 
-      by : (o : Option Field) → option_map (env.counted_on e.types t) (env.own_field e t n) ≡ o →
-          option_or o (option_and_then (λ b. env.field_by k e b n) (base_of (row_of e.types t))) ≡ Some f →
-          ((b : TypeId) (n : Name) (f : Field) → has_fields (row_of e.types b) ≡ true → env.field_by k e b n ≡ Some f → IsField b f) → IsField t f
+      by : (o : Option Field) → option_map (members.counted_on e.types t) (members.own_field e t n) ≡ o →
+          option_or o (option_and_then (λ b. members.field_by k e b n) (base_of (row_of e.types t))) ≡ Some f →
+          ((b : TypeId) (n : Name) (f : Field) → has_fields (row_of e.types b) ≡ true → members.field_by k e b n ≡ Some f → IsField b f) → IsField t f
       by (Some g) is h rest = own_field t n f fielded (is ∙ h)
       by None is h rest = up (base_of (row_of e.types t)) refl h rest
 
-  pub fields_told : (t : TypeId) (n : Name) (f : Field) → env.field e t n ≡ Some f → has_fields (row_of e.types t) ≡ true → IsField t f
+  pub fields_told : (t : TypeId) (n : Name) (f : Field) → members.field e t n ≡ Some f → has_fields (row_of e.types t) ≡ true → IsField t f
   fields_told t n f is fielded = told_by (length e.types) t n f fielded is
 
 -- where the table goes on

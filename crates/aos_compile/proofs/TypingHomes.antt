@@ -14,7 +14,7 @@ use Rattle.aos_symbols.specs.declared.home.ObjectScope.{ObjectScope}
 use Rattle.aos_types.specs.declared.signature.Signature.{Signature}
 use Rattle.aos_symbols.specs.Scope.{Scope, find}
 use Rattle.aos_symbols.specs.Home.{Home, texts_of, object_of}
-use Rattle.aos_symbols.specs.Env.{object_among}
+use Rattle.aos_members.specs.Members.{object_among}
 use Rattle.aos_symbols.proofs.Each.{Each, implied}
 use Rattle.aos_symbols.proofs.Told.{IsKnown, GoOn, known_on, FieldsAgree}
 use Rattle.aos_known.specs.Known.{type_of}

@@ -22,11 +22,12 @@ use Rattle.aos_symbols.specs.declared.scope.Meaning.TheVariants as means
 use Rattle.aos_symbols.specs.declared.home.ObjectScope.{ObjectScope}
 use Rattle.aos_types.specs.declared.signature.Signature.{Signature}
 use Rattle.aos_symbols.specs.declared.env.Symbol.{Symbol}
-use Rattle.aos_symbols.specs.declared.env.Method.{Method}
+use Rattle.aos_members.specs.declared.objects.Method.{Method}
 use Rattle.aos_symbols.specs.declared.env.Env.{Env}
 use Rattle.aos_symbols.specs.Home.{Home}
+use Rattle.aos_members.specs.Members as members
 use Rattle.aos_symbols.specs.Env as env
-use Rattle.aos_symbols.specs.Env.{chain_by, chain_behind, chain}
+use Rattle.aos_members.specs.Members.{chain_by, chain_behind, chain}
 use Rattle.aos_known.specs.Known.{object_number}
 use Rattle.aos_symbols.proofs.Told.{get_front}
 use Rattle.aos_check_decl.proofs.Typing.{AreReady}
@@ -79,11 +80,11 @@ abbrev pub bare : Method → Meant
 bare m = record { home = m.home; number = m.number; slot = m.slot }
 
 abbrev pub meant_at : Option Home → ObjectScope → Meaning → Option Meant
-meant_at h o (means.Procedure k) = Some (record { home = o.home; number = o.methods + k; slot = env.slot_of h o k })
+meant_at h o (means.Procedure k) = Some (record { home = o.home; number = o.methods + k; slot = members.slot_of h o k })
 meant_at h o m = None
 
 pub bare_meant : (e : Env) (t : TypeId) (o : ObjectScope) (x : Symbol) (m : Meaning) → x.means ≡ m →
-    option_map bare (env.method_meant e t o (record x { means = m })) ≡ meant_at (env.home e o.home) o m
+    option_map bare (members.method_meant e t o (record x { means = m })) ≡ meant_at (env.home e o.home) o m
 bare_meant e t o x (means.Procedure k) is = refl
 bare_meant e t o x m is = refl
 
@@ -94,10 +95,10 @@ mapped_or f (Some a) b = refl
 module _ (e : Env) where
   -- of an object type itself, and of it with its bases
   abbrev pub own_meant : TypeId → Word → Option Meant
-  own_meant t w = option_map bare (env.own_method e t w)
+  own_meant t w = option_map bare (members.own_method e t w)
 
   abbrev pub meant : TypeId → Word → Option Meant
-  meant t w = option_map bare (env.method_named e t w)
+  meant t w = option_map bare (members.method_named e t w)
 
   abbrev pub meant_behind : Option TypeId → Word → Option Meant
   meant_behind None w = None
@@ -105,10 +106,10 @@ module _ (e : Env) where
 
   -- the initializer that it declares itself, and that of it with its bases
   abbrev pub own_start : TypeId → Option Meant
-  own_start t = option_map bare (env.own_initializer e t)
+  own_start t = option_map bare (members.own_initializer e t)
 
   abbrev pub start : TypeId → Option Meant
-  start t = option_map bare (env.initializer e t)
+  start t = option_map bare (members.initializer e t)
 
   abbrev pub start_behind : Option TypeId → Option Meant
   start_behind None = None
@@ -116,14 +117,14 @@ module _ (e : Env) where
 
   -- the names of its methods by their slots
   abbrev pub slot_words : TypeId → List Word
-  slot_words t = words (env.all_methods e t).entries
+  slot_words t = words (members.all_methods e t).entries
 
   abbrev pub words_behind : Option TypeId → List Word
   words_behind None = []
   words_behind (Some b) = slot_words b
 
   abbrev pub own_words : TypeId → List Word
-  own_words t = words (env.own_methods e t)
+  own_words t = words (members.own_methods e t)
 
   module _ (ready : AreReady e.types) where
     pub above : IsRanked e.types
@@ -135,26 +136,26 @@ module _ (e : Env) where
         chain_same e.types e.types (λ k less. refl) above (bases_there e.types ready) (length e.types) (suc (length e.types)) t there (omega (arith, bound)) (omega (arith, bound))
 
     pub meant_is : (t : TypeId) → t.0 < length e.types → (w : Word) → meant t w ≡ option_or (own_meant t w) (meant_behind (base_of (row_of e.types t)) w)
-    meant_is t there w = ap (λ l. option_map bare (env.method_along e w l)) (chain_is t there) ∙ by (base_of (row_of e.types t))
+    meant_is t there w = ap (λ l. option_map bare (members.method_along e w l)) (chain_is t there) ∙ by (base_of (row_of e.types t))
       where
-        by : (o : Option TypeId) → option_map bare (env.method_along e w (t ∷ chain_behind (λ b. chain e.types b) o)) ≡ option_or (own_meant t w) (meant_behind o w)
-        by None = mapped_or bare (env.own_method e t w) None
-        by (Some b) = mapped_or bare (env.own_method e t w) (env.method_named e b w)
+        by : (o : Option TypeId) → option_map bare (members.method_along e w (t ∷ chain_behind (λ b. chain e.types b) o)) ≡ option_or (own_meant t w) (meant_behind o w)
+        by None = mapped_or bare (members.own_method e t w) None
+        by (Some b) = mapped_or bare (members.own_method e t w) (members.method_named e b w)
 
     pub start_is : (t : TypeId) → t.0 < length e.types → start t ≡ option_or (own_start t) (start_behind (base_of (row_of e.types t)))
-    start_is t there = ap (λ l. option_map bare (env.initializer_along e l)) (chain_is t there) ∙ by (base_of (row_of e.types t))
+    start_is t there = ap (λ l. option_map bare (members.initializer_along e l)) (chain_is t there) ∙ by (base_of (row_of e.types t))
       where
-        by : (o : Option TypeId) → option_map bare (env.initializer_along e (t ∷ chain_behind (λ b. chain e.types b) o)) ≡ option_or (own_start t) (start_behind o)
-        by None = mapped_or bare (env.own_initializer e t) None
-        by (Some b) = mapped_or bare (env.own_initializer e t) (env.initializer e b)
+        by : (o : Option TypeId) → option_map bare (members.initializer_along e (t ∷ chain_behind (λ b. chain e.types b) o)) ≡ option_or (own_start t) (start_behind o)
+        by None = mapped_or bare (members.own_initializer e t) None
+        by (Some b) = mapped_or bare (members.own_initializer e t) (members.initializer e b)
 
     pub words_are : (t : TypeId) → t.0 < length e.types → slot_words t ≡ fold more (words_behind (base_of (row_of e.types t))) (own_words t)
     words_are t there =
-        ap (λ l. words (env.methods_along e l).entries) (chain_is t there)
-        ∙ names_more (env.own_methods e t) (env.methods_along e (chain_behind (λ b. chain e.types b) (base_of (row_of e.types t))))
+        ap (λ l. words (members.methods_along e l).entries) (chain_is t there)
+        ∙ names_more (members.own_methods e t) (members.methods_along e (chain_behind (λ b. chain e.types b) (base_of (row_of e.types t))))
         ∙ ap (λ l. fold more l (own_words t)) (by (base_of (row_of e.types t)))
       where
-        by : (o : Option TypeId) → words (env.methods_along e (chain_behind (λ b. chain e.types b) o)).entries ≡ words_behind o
+        by : (o : Option TypeId) → words (members.methods_along e (chain_behind (λ b. chain e.types b) o)).entries ≡ words_behind o
         by None = refl
         by (Some b) = refl
 

@@ -34,8 +34,9 @@ use Rattle.aos_symbols.specs.Scope.{Scope, find}
 use Rattle.aos_symbols.specs.Home.{Home, object_of, texts_of}
 use Rattle.aos_arguments.specs.Filled.{filled_texts}
 use Rattle.aos_check_names.specs.Names.{name_breaches, declared_again, twice, module_names, other_end, within_decl}
+use Rattle.aos_members.specs.Members as members
 use Rattle.aos_symbols.specs.Env as env
-use Rattle.aos_symbols.specs.Env.{object_among}
+use Rattle.aos_members.specs.Members.{object_among}
 use Rattle.aos_symbols.proofs.Each.{Each, all_of, joined, implied, each_at}
 use Rattle.aos_symbols.proofs.Holds.{none_left, none_right, passed_went, then_went, same_went}
 use Rattle.aos_symbols.proofs.Told.{get_front, get_end, FieldsAgree}
@@ -201,7 +202,7 @@ module _ (w : World) (sound : IsWorld w) (text : List ℕ) (m : Tree) (once : Ea
   old t o at = objects_among w.types w.before w.modules sound.homes t o at
 
   found_there : (j : ℕ) (d : TypeDef) → slice_get (type_defs m.decls) j ≡ Some d → IsObject d.value →
-      env.object e (type_at j) ≡ Some (scope_at e.number j (length (procedures m.decls) + methods_before (type_defs m.decls) j) d)
+      members.object e (type_at j) ≡ Some (scope_at e.number j (length (procedures m.decls) + methods_before (type_defs m.decls) j) d)
   found_there j d there kind = found_at w.types (length w.before) w.before text is.numbers m e is.number_is is.text_is is.objects_are numbered j d there kind
 
   found : (j : ℕ) (d : TypeDef) → slice_get (type_defs m.decls) j ≡ Some d → IsObject d.value → IsFound e m j d (type_at j)
@@ -209,7 +210,7 @@ module _ (w : World) (sound : IsWorld w) (text : List ℕ) (m : Tree) (once : Ea
       is_found w.types (length w.before) w.before text is.numbers m e is.number_is is.text_is is.objects_are numbered is.all_entries_are once is.slots_are defined j d there kind
 
   -- an object type is this module's, or one of the modules before
-  by_home : (t : TypeId) (o : ObjectScope) → env.object e t ≡ Some o → (object_of e.here t ≡ Some o) ⊎ (object_among w.before t ≡ Some o)
+  by_home : (t : TypeId) (o : ObjectScope) → members.object e t ≡ Some o → (object_of e.here t ≡ Some o) ⊎ (object_among w.before t ≡ Some o)
   by_home t o at = by (object_of e.here t) refl at
     where
       by : (p : Option ObjectScope) → object_of e.here t ≡ p → option_or p (object_among e.before t) ≡ Some o → (object_of e.here t ≡ Some o) ⊎ (object_among w.before t ≡ Some o)
@@ -234,7 +235,7 @@ module _ (w : World) (sound : IsWorld w) (text : List ℕ) (m : Tree) (once : Ea
       let of = (home_at w.types w.before w.modules sound.homes one.0 one.1 one.2).2.objects t o one.3 in
       (one.0, one.1, one.2, one.3, of.0, of.1, of.3, of.4)
 
-  object_typed : (t : TypeId) (o : ObjectScope) → env.object e t ≡ Some o → (0 < o.scope) × (o.home ≡ e.number → o.scope < first) × (is_object (row_of e.types t) ≡ true)
+  object_typed : (t : TypeId) (o : ObjectScope) → members.object e t ≡ Some o → (0 < o.scope) × (o.home ≡ e.number → o.scope < first) × (is_object (row_of e.types t) ≡ true)
   object_typed t o at = by (by_home t o at)
     where
       by : (object_of e.here t ≡ Some o) ⊎ (object_among w.before t ≡ Some o) → (0 < o.scope) × (o.home ≡ e.number → o.scope < first) × (is_object (row_of e.types t) ≡ true)
@@ -310,7 +311,7 @@ module _ (w : World) (sound : IsWorld w) (text : List ℕ) (m : Tree) (once : Ea
 
   defined_is : (j : ℕ) (d : TypeDef) → slice_get (type_defs m.decls) j ≡ Some d → IsObject d.value → defined_object e d ≡ Some (type_at j, object e m j d (type_at j))
   defined_is j d there kind =
-      ap (option_and_then (λ t. option_map (λ o. (t, o)) (env.object e t))) (defined j d there kind) ∙ ap (option_map (λ o. (type_at j, o))) (found_there j d there kind)
+      ap (option_and_then (λ t. option_map (λ o. (t, o)) (members.object e t))) (defined j d there kind) ∙ ap (option_map (λ o. (type_at j, o))) (found_there j d there kind)
 
   own_at_place : (j : ℕ) (d : TypeDef) → slice_get (type_defs m.decls) j ≡ Some d → slice_get own_besides j ≡ Some (beside_in e first d (defined_object e d)).answer
   own_at_place j d there = ap (slice_get own_besides) (let same : j ≡ 0 + j = omega arith in same) ∙ beside_at e first (type_defs m.decls) [] j d there
@@ -330,7 +331,7 @@ module _ (w : World) (sound : IsWorld w) (text : List ℕ) (m : Tree) (once : Ea
   beside : (j : ℕ) (d : TypeDef) → slice_get (type_defs m.decls) j ≡ Some d → IsObject d.value → (bs : List Stats) × (length bs ≡ length (methods_in d))
       × (option_map (λ (x : Beside). x.methods) (slice_get b.objects j) ≡ Some (methods_of e first (object e m j d (type_at j)) (methods_in d) bs))
   beside j d there kind =
-      let f = env.within_object e (type_at j) in
+      let f = members.within_object e (type_at j) in
       let k = first + (object e m j d (type_at j)).methods in (
         (bodies_from f k [] (methods_in d)).answer,
         bodies_count f (methods_in d) k [] ∙ (let same : 0 + length (methods_in d) ≡ length (methods_in d) = omega arith in same),
@@ -404,7 +405,7 @@ module _ (w : World) (sound : IsWorld w) (text : List ℕ) (m : Tree) (once : Ea
       shape_grows w.types e.types is.stays k o (let before = sound.count in omega (arith, below, before)) (sound.shapes k o there))
       (λ j o there. shapes_new e b.objects (length w.objects) j o there)
 
-  known : (t : TypeId) (o : ObjectScope) → env.object e t ≡ Some o → (h : Home) × (env.home e o.home ≡ Some h) × (object_of h t ≡ Some o)
+  known : (t : TypeId) (o : ObjectScope) → members.object e t ≡ Some o → (h : Home) × (env.home e o.home ≡ Some h) × (object_of h t ≡ Some o)
   known t o at = by (by_home t o at)
     where
       by : (object_of e.here t ≡ Some o) ⊎ (object_among w.before t ≡ Some o) → (h : Home) × (env.home e o.home ≡ Some h) × (object_of h t ≡ Some o)
@@ -473,7 +474,7 @@ module _ (w : World) (sound : IsWorld w) (text : List ℕ) (m : Tree) (once : Ea
         subst (IsSaidBeside (program_of world) (length w.objects + j)) (sym one.2)
         (said (program_of world) e m is.table.basic refl everywhere own_path is.self_is is.first_is is.procedures locals_below object_typed (length w.objects)
         (λ i d there kind. defined i d there kind ∙ ap (λ t. Some t) (number_on i))
-        (λ i d there kind. ap (env.object e) (sym (number_on i)) ∙ found_there i d there kind) j one.0 one.1
+        (λ i d there kind. ap (members.object e) (sym (number_on i)) ∙ found_there i d there kind) j one.0 one.1
         (walk_none e first (type_defs m.decls) [] j one.0 (none_left object_breaches (procedure_breaches ++ (own_breaches ++ [])) none) one.1)))
         (λ j x at. (each_at IsBare (other_types e m) j x (others_bare e m) at).1 (program_of world) (length w.objects + (length own_besides + j)))
 

@@ -9,8 +9,9 @@ use Rattle.aos_symbols.specs.declared.home.ObjectScope.{ObjectScope}
 use Rattle.aos_types.specs.declared.signature.Signature.{Signature}
 use Rattle.aos_symbols.specs.declared.env.Env.{Env}
 use Rattle.aos_symbols.specs.Home.{Home, object_of}
+use Rattle.aos_members.specs.Members as members
 use Rattle.aos_symbols.specs.Env as env
-use Rattle.aos_symbols.specs.Env.{object_among}
+use Rattle.aos_members.specs.Members.{object_among}
 use Rattle.aos_symbols.proofs.Told.{get_front, get_end}
 
 not_both : true ≡ false → ⊥
@@ -79,7 +80,7 @@ module _ (hs : List Home) (types : List TypeRow) (e : Env) (number_is : e.number
   before_among : (t : TypeId) → object_among e.before t ≡ object_among hs t
   before_among t = ap (λ l. object_among l t) before_is
 
-  pub object_old : (t : TypeId) → t.0 < length types → env.object e t ≡ env.object (outlook hs types) t
+  pub object_old : (t : TypeId) → t.0 < length types → members.object e t ≡ members.object (outlook hs types) t
   object_old t below = by (object_of e.here t) refl ∙ before_among t
     where
       by : (o : Option ObjectScope) → object_of e.here t ≡ o → option_or o (object_among e.before t) ≡ object_among e.before t
@@ -92,7 +93,7 @@ module _ (hs : List Home) (types : List TypeRow) (e : Env) (number_is : e.number
       ∙ ap (λ b. if b then Some e.here else slice_get e.before m) (other_number m (length hs) below)
       ∙ ap (λ l. slice_get l m) before_is
 
-  pub home_same : (t : TypeId) (o : ObjectScope) → env.object (outlook hs types) t ≡ Some o → env.home e o.home ≡ env.home (outlook hs types) o.home
+  pub home_same : (t : TypeId) (o : ObjectScope) → members.object (outlook hs types) t ≡ Some o → env.home e o.home ≡ env.home (outlook hs types) o.home
   home_same t o found = let one = old t o found in home_old o.home one.1 ∙ sym (home_outlook hs types o.home one.1)
 
   pub signed_old : (m k : ℕ) (s : Signature) → env.signature (outlook hs types) m k ≡ Some s → env.signature e m k ≡ Some s
@@ -113,7 +114,7 @@ module _ (hs : List Home) (types : List TypeRow) (e : Env) (number_is : e.number
   abbrev all : List Home
   all = hs ++ e.here ∷ []
 
-  pub object_on : (t : TypeId) → env.object (outlook all e.types) t ≡ env.object e t
+  pub object_on : (t : TypeId) → members.object (outlook all e.types) t ≡ members.object e t
   object_on t = among_more hs e.here t ∙ by (object_of e.here t) refl (object_among hs t) refl ∙ ap (option_or (object_of e.here t)) (sym (before_among t))
     where
       by : (p : Option ObjectScope) → object_of e.here t ≡ p → (q : Option ObjectScope) → object_among hs t ≡ q → option_or q p ≡ option_or p q
@@ -149,7 +150,7 @@ module _ (hs : List Home) (types : List TypeRow) (e : Env) (number_is : e.number
       by (inl less) = let one = there hs m less in some one.0 one.1 ∙ sym (home_old m less)
       by (inr most) = let long = all_long in last (omega (arith, most, below, long))
 
-  pub home_same_on : (t : TypeId) (o : ObjectScope) → env.object e t ≡ Some o → env.home (outlook all e.types) o.home ≡ env.home e o.home
+  pub home_same_on : (t : TypeId) (o : ObjectScope) → members.object e t ≡ Some o → env.home (outlook all e.types) o.home ≡ env.home e o.home
   home_same_on t o found = home_on o.home (by (object_of e.here t) refl found)
     where
       by : (p : Option ObjectScope) → object_of e.here t ≡ p → option_or p (object_among e.before t) ≡ Some o → o.home < length all

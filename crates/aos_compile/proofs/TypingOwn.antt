@@ -16,8 +16,8 @@ use Rattle.aos_symbols.specs.Declarations.{procedures, type_defs, inner_decls}
 use Rattle.aos_entries.specs.Entries.{number_at, objects_of, inner_scope, inner_scopes, scopes}
 use Rattle.aos_symbols.specs.Home.{Home, object_of}
 use Rattle.aos_symbols.specs.Scope.{Scope}
-use Rattle.aos_symbols.specs.Env as env
-use Rattle.aos_symbols.specs.Env.{object_among}
+use Rattle.aos_members.specs.Members as members
+use Rattle.aos_members.specs.Members.{object_among}
 use Rattle.aos_symbols.proofs.Each.{Each, each_at}
 use Rattle.aos_symbols.proofs.Holds.{none_left, none_right}
 use Rattle.aos_symbols.proofs.Told.{get_front}
@@ -91,7 +91,7 @@ module _ (types : List TypeRow) (number : ℕ) (before : List Home) (text : List
   new_objects t o found = let one = defined_at t o found in let is = one.4 in (omega (arith, is), ap (λ (z : ObjectScope). z.home) one.5)
 
   pub found_at : (j : ℕ) (d : TypeDef) → slice_get (type_defs m.decls) j ≡ Some d → IsObject d.value →
-      env.object e (record { 0 = length types + j }) ≡ Some (scope_at e.number j (length (procedures m.decls) + methods_before (type_defs m.decls) j) d)
+      members.object e (record { 0 = length types + j }) ≡ Some (scope_at e.number j (length (procedures m.decls) + methods_before (type_defs m.decls) j) d)
   found_at j d there object =
       by (object_of e.here t) refl
       (ap (λ os. is_some (lookup (λ k. nat_eq t.0 k) os)) objects_are ∙ object_found number numbers m.decls j d t there object (number_of j d there object))
@@ -100,7 +100,7 @@ module _ (types : List TypeRow) (number : ℕ) (before : List Home) (text : List
       t = record { 0 = length types + j }
 
       by : (o : Option ObjectScope) → object_of e.here t ≡ o → is_some o ≡ true →
-          env.object e t ≡ Some (scope_at e.number j (length (procedures m.decls) + methods_before (type_defs m.decls) j) d)
+          members.object e t ≡ Some (scope_at e.number j (length (procedures m.decls) + methods_before (type_defs m.decls) j) d)
       by None found some = absurd (not_both (sym some))
       by (Some o) found some =
           let one = defined_at t o found in

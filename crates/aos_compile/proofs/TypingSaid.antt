@@ -20,6 +20,7 @@ use Rattle.aos_symbols.specs.Judged.{kept, bind}
 use Rattle.aos_symbols.specs.Declarations.{Procedure, procedures, methods_in, all_procedures, type_defs, inner_decls}
 use Rattle.aos_symbols.specs.Home.{Home}
 use Rattle.aos_symbols.specs.Scope.{Scope, find}
+use Rattle.aos_members.specs.Members as members
 use Rattle.aos_symbols.specs.Env as env
 use Rattle.aos_symbols.proofs.Each.{Each}
 use Rattle.aos_symbols.proofs.Holds.{Holds, holds_bind}
@@ -75,10 +76,10 @@ module _ (program : Program) (e : Env) (m : Tree) (begins : RowsStay env.basic_r
     (headings : (j : ℕ) (q : Procedure) → slice_get (all_procedures m.decls) j ≡ Some q → HasHeading m e j q)
     (below : (j : ℕ) (q : Procedure) → slice_get (all_procedures m.decls) j ≡ Some q → (s : Scope) → slice_get e.here.scopes (first_scope m + j) ≡ Some s →
     (w : List ℕ) (x : Entry) (k : ℕ) → find s w ≡ Some x → x.means ≡ means.Variable k → k < length s.variables)
-    (objects : (t : TypeId) (o : ObjectScope) → env.object e t ≡ Some o → (0 < o.scope) × (o.home ≡ e.number → o.scope < first_scope m) × (is_object (row_of e.types t) ≡ true))
+    (objects : (t : TypeId) (o : ObjectScope) → members.object e t ≡ Some o → (0 < o.scope) × (o.home ≡ e.number → o.scope < first_scope m) × (is_object (row_of e.types t) ≡ true))
     (n : ℕ) (defined : (j : ℕ) (d : TypeDef) → slice_get (type_defs m.decls) j ≡ Some d → IsObject d.value → defined_type e d ≡ Some (record { 0 = 10 + (n + j) }))
     (found : (j : ℕ) (d : TypeDef) → slice_get (type_defs m.decls) j ≡ Some d → IsObject d.value →
-    env.object e (record { 0 = 10 + (n + j) }) ≡ Some (scope_at e.number j (length (procedures m.decls) + methods_before (type_defs m.decls) j) d)) where
+    members.object e (record { 0 = 10 + (n + j) }) ≡ Some (scope_at e.number j (length (procedures m.decls) + methods_before (type_defs m.decls) j) d)) where
   module _ (j : ℕ) (d : TypeDef) (there : slice_get (type_defs m.decls) j ≡ Some d) where
     abbrev k : ℕ
     k = n + j
@@ -104,8 +105,8 @@ module _ (program : Program) (e : Env) (m : Tree) (begins : RowsStay env.basic_r
 
       inside_typed : Holds (IsSaidBeside program k) (beside_in e (first_scope m) d (Some (t, o)))
       inside_typed =
-          let f = env.within_object e t in
-          let path = env.object_path e (env.chain e.types t) ++ e.path in
+          let f = members.within_object e t in
+          let path = members.object_path e (members.chain e.types t) ++ e.path in
           let sigs = drop first_method e.here.signatures in
           let x = λ (ss : List Stat) (bs : List Stats). (let y : Beside = record {
             name = spelling e.here.text d.def.name;
@@ -158,6 +159,6 @@ module _ (program : Program) (e : Env) (m : Tree) (begins : RowsStay env.basic_r
         by : IsObject d.value ⊎ (IsObject d.value → ⊥) → Holds (IsSaidBeside program k) (beside_in e (first_scope m) d (defined_object e d))
         by (inl kind) =
             subst (λ x. Holds (IsSaidBeside program k) (beside_in e (first_scope m) d x))
-            (sym (ap (option_and_then (λ t. option_map (λ o. (t, o)) (env.object e t))) (defined j d there kind) ∙ ap (option_map (λ o. (t kind, o))) (found j d there kind)))
+            (sym (ap (option_and_then (λ t. option_map (λ o. (t, o)) (members.object e t))) (defined j d there kind) ∙ ap (option_map (λ o. (t kind, o))) (found j d there kind)))
             (inside_typed kind)
         by (inr never) = plain_typed never (defined_object e d)

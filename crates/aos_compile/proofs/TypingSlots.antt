@@ -20,8 +20,9 @@ use Rattle.aos_entries.specs.Entries.{numbered}
 use Rattle.aos_symbols.specs.Scope.{Named}
 use Rattle.aos_symbols.specs.Home.{Home, object_of}
 use Rattle.aos_symbols.specs.Spelling.{word}
+use Rattle.aos_members.specs.Members as members
 use Rattle.aos_symbols.specs.Env as env
-use Rattle.aos_symbols.specs.Env.{object_among}
+use Rattle.aos_members.specs.Members.{object_among}
 use Rattle.aos_symbols.proofs.Told.{get_front}
 use Rattle.aos_known.specs.Known.{object_number}
 use Rattle.aos_check_expr.proofs.Opens.{some_there, stand_fall}
@@ -90,7 +91,7 @@ module _ (hs : List Home) (types : List TypeRow) (ms more : List Module) (os : L
 
   -- Its own.
 
-  no_object : (t : TypeId) → length types ≤ t.0 → ((j : ℕ) (d : TypeDef) → slice_get (type_defs m.decls) j ≡ Some d → IsObject d.value → t.0 ≡ length types + j → ⊥) → env.object e t ≡ None
+  no_object : (t : TypeId) → length types ≤ t.0 → ((j : ℕ) (d : TypeDef) → slice_get (type_defs m.decls) j ≡ Some d → IsObject d.value → t.0 ≡ length types + j → ⊥) → members.object e t ≡ None
   no_object t high never = by (object_of e.here t) refl (object_among e.before t) refl
     where
       by : (p : Option ObjectScope) → object_of e.here t ≡ p → (q : Option ObjectScope) → object_among e.before t ≡ q → option_or p q ≡ None
@@ -190,7 +191,7 @@ module _ (hs : List Home) (types : List TypeRow) (ms more : List Module) (os : L
     abbrev plain : TypeId
     plain = record { 0 = length types + j }
 
-    none : env.object e plain ≡ None
+    none : members.object e plain ≡ None
     none =
         no_object plain (omega arith) (λ i d there kind same.
         let place : i ≡ j = omega (arith, same) in never d (ap (slice_get (type_defs m.decls)) (sym place) ∙ there) kind)
@@ -202,7 +203,7 @@ module _ (hs : List Home) (types : List TypeRow) (ms more : List Module) (os : L
     nothing_started = own_start_is e plain ∙ ap (option_and_then (λ o. start_in e o (env.home e o.home))) none
 
     no_words : own_words e plain ≡ []
-    no_words = ap words (own_methods_are e plain) ∙ ap (λ o. words (named_in e (option_and_then (λ o. env.scope e (env.object_place o)) o))) none
+    no_words = ap words (own_methods_are e plain) ∙ ap (λ o. words (named_in e (option_and_then (λ o. env.scope e (members.object_place o)) o))) none
 
     plain_own : HasOwn e modules objects plain
     plain_own = record {

@@ -20,10 +20,11 @@ use Rattle.aos_symbols.specs.declared.scope.Meaning.TheVariants as means
 use Rattle.aos_symbols.specs.declared.home.ObjectScope.{ObjectScope}
 use Rattle.aos_types.specs.declared.signature.Signature.{Signature}
 use Rattle.aos_symbols.specs.declared.env.Open.{Open}
-use Rattle.aos_symbols.specs.declared.env.Method.{Method}
+use Rattle.aos_members.specs.declared.objects.Method.{Method}
 use Rattle.aos_symbols.specs.declared.env.Env.{Env}
 use Rattle.aos_symbols.specs.Scope.{Scope, find}
 use Rattle.aos_symbols.specs.Home.{Home, object_of, scope_of, fields_of, texts_of}
+use Rattle.aos_members.specs.Members as members
 use Rattle.aos_symbols.specs.Env as env
 use Rattle.aos_symbols.specs.Spelling.{word}
 use Rattle.aos_symbols.proofs.Each.{Each, each_at}
@@ -65,18 +66,18 @@ pub record IsBegun (p : Inside) (e : Env) (t : TypeId) : Type 0 where
       (q : TypedProcedure) × (slice_get (methods_of p.program (object_number t)) m.slot ≡ Some q) × (q.is_initializer ≡ true) × IsMeant e p.program.modules p.program.objects m q
 
 -- the first of some types for which something is so
-first_is : (test : TypeId → Bool) (ts : List TypeId) (t : TypeId) → env.first_along test ts ≡ Some t → test t ≡ true
+first_is : (test : TypeId → Bool) (ts : List TypeId) (t : TypeId) → members.first_along test ts ≡ Some t → test t ≡ true
 first_is test [] t found = absurd (none-some t found)
 first_is test (u ∷ ts) t found = by (test u) refl found (first_is test ts t)
   where
-    by : (b : Bool) → test u ≡ b → (if b then Some u else env.first_along test ts) ≡ Some t → (env.first_along test ts ≡ Some t → test t ≡ true) → test t ≡ true
+    by : (b : Bool) → test u ≡ b → (if b then Some u else members.first_along test ts) ≡ Some t → (members.first_along test ts ≡ Some t → test t ≡ true) → test t ≡ true
     by true is found deeper = ap test (sym (same_Some u t found)) ∙ is
     by false is found deeper = deeper found
 
 module _ (p : Inside) (e : Env) (hs : List Home) (are : AreHomes e.types 0 hs p.program.modules) (at : (m : ℕ) (h : Home) → env.home e m ≡ Some h → slice_get hs m ≡ Some h)
     (table : AreReady e.types) (here : FieldsAgree e.types e.here) (before : (m : ℕ) (h : Home) → slice_get e.before m ≡ Some h → FieldsAgree e.types h)
     (none : e.narrowed ≡ []) (rows : p.program.types ≡ e.types) (count : length e.types ≡ 10 + length p.program.objects)
-    (known : (t : TypeId) (o : ObjectScope) → env.object e t ≡ Some o → (h : Home) × (env.home e o.home ≡ Some h) × (object_of h t ≡ Some o))
+    (known : (t : TypeId) (o : ObjectScope) → members.object e t ≡ Some o → (h : Home) × (env.home e o.home ≡ Some h) × (object_of h t ≡ Some o))
     (shapes : (k : ℕ) (o : ObjectType) → slice_get p.program.objects k ≡ Some o → IsShaped e.types k o)
     (called : (t : TypeId) (w : Word) (m : Meant) → is_object (row_of e.types t) ≡ true → meant e t w ≡ Some m →
     (q : TypedProcedure) × (slice_get (methods_of p.program (object_number t)) m.slot ≡ Some q) × IsMeant e p.program.modules p.program.objects m q)
@@ -132,17 +133,17 @@ module _ (p : Inside) (e : Env) (hs : List Home) (are : AreHomes e.types 0 hs p.
   -- Fields of SELF.
 
   abbrev IsOwnField : TypeId → TypeId → Open → ℕ → Type 0
-  IsOwnField t b o k = (u : TypeId) × (env.variable_type e o k ≡ Some u) × (field_type e.types t (env.field_number e b k) ≡ Some u) × IsTold e.types u
+  IsOwnField t b o k = (u : TypeId) × (env.variable_type e o k ≡ Some u) × (field_type e.types t (members.field_number e b k) ≡ Some u) × IsTold e.types u
 
-  own_field : (t b : TypeId) (o : Open) (s : Scope) (w : List ℕ) (x : Entry) (k : ℕ) → comes_to e.types t b ≡ true → env.object_at e o ≡ Some b → env.scope e o ≡ Some s →
+  own_field : (t b : TypeId) (o : Open) (s : Scope) (w : List ℕ) (x : Entry) (k : ℕ) → comes_to e.types t b ≡ true → members.object_at e o ≡ Some b → env.scope e o ≡ Some s →
       find s w ≡ Some x → x.means ≡ means.Variable k → IsOwnField t b o k
-  own_field t b o s w x k comes stands there found means = by (env.object e b) refl (standing e.self_type stands)
+  own_field t b o s w x k comes stands there found means = by (members.object e b) refl (standing e.self_type stands)
     where
-      standing : (u : Option TypeId) → option_and_then (env.declarer e o) u ≡ Some b → env.stands_in o (env.object e b) ≡ true
+      standing : (u : Option TypeId) → option_and_then (members.declarer e o) u ≡ Some b → members.stands_in o (members.object e b) ≡ true
       standing None is = absurd (none-some b is)
-      standing (Some u) is = first_is (λ v. env.stands_in o (env.object e v)) (env.chain e.types u) b is
+      standing (Some u) is = first_is (λ v. members.stands_in o (members.object e v)) (members.chain e.types u) b is
 
-      by : (z : Option ObjectScope) → env.object e b ≡ z → env.stands_in o z ≡ true → IsOwnField t b o k
+      by : (z : Option ObjectScope) → members.object e b ≡ z → members.stands_in o z ≡ true → IsOwnField t b o k
       by None object is = absurd (not_both (sym is))
       by (Some z) object is =
           let two = and_parts (z.home == o.home) (z.scope == o.scope) is in
@@ -167,7 +168,7 @@ module _ (p : Inside) (e : Env) (hs : List Home) (are : AreHomes e.types 0 hs p.
           ap (λ vs. slice_get vs k) variables ∙ slice_get-map (λ (t : TypeId). Some t) row.own k ∙ ap (option_map (λ (t : TypeId). Some t)) u.1 in (
             u.0,
             ap (λ z. env.joined (option_and_then (λ (s : Scope). slice_get s.variables k) z)) there ∙ ap env.joined typed,
-            fields_extend e.types above table.parts (bases_there e.types table) (length e.types) t b comes (object_fielded (row_of e.types b) of.4) (env.field_number e b k) u.0
+            fields_extend e.types above table.parts (bases_there e.types table) (length e.types) t b comes (object_fielded (row_of e.types b) of.4) (members.field_number e b k) u.0
                 (own_behind e.types above table.parts (bases_there e.types table) b row k u.0 u.1),
             each_at (IsTold e.types) row.own k u.0 (parts_of e.types above table.parts (bases_there e.types table) b row).1 u.1,
           )
@@ -178,10 +179,10 @@ module _ (p : Inside) (e : Env) (hs : List Home) (are : AreHomes e.types 0 hs p.
   slots_bare None = refl
   slots_bare (Some m) = refl
 
-  initials : (t : TypeId) → is_object (row_of e.types t) ≡ true → initializer p.program (object_number t) ≡ option_map (λ (m : Method). m.slot) (env.initializer e t)
-  initials t object = (begun t object).is ∙ slots_bare (env.initializer e t)
+  initials : (t : TypeId) → is_object (row_of e.types t) ≡ true → initializer p.program (object_number t) ≡ option_map (λ (m : Method). m.slot) (members.initializer e t)
+  initials t object = (begun t object).is ∙ slots_bare (members.initializer e t)
 
-  initial : (t : TypeId) (m : Method) → env.initializer e t ≡ Some m → is_object (row_of e.types t) ≡ true → (s : Signature) → env.signature e m.home m.number ≡ Some s →
+  initial : (t : TypeId) (m : Method) → members.initializer e t ≡ Some m → is_object (row_of e.types t) ≡ true → (s : Signature) → env.signature e m.home m.number ≡ Some s →
       (q : TypedProcedure) × (slice_get (methods_of p.program (object_number t)) m.slot ≡ Some q) × (q.result ≡ None) × IsSigned e s q
   initial t m found object s is =
       let one = (begun t object).there (bare m) (ap (option_map bare) found) in
@@ -214,7 +215,7 @@ module _ (p : Inside) (e : Env) (hs : List Home) (are : AreHomes e.types 0 hs p.
         is_pattern e.types table t fs r is,
       )
 
-  by_method : (t : TypeId) (w : Word) (m : Method) → env.method_named e t w ≡ Some m → is_object (row_of e.types t) ≡ true → (s : Signature) → env.signature e m.home m.number ≡ Some s →
+  by_method : (t : TypeId) (w : Word) (m : Method) → members.method_named e t w ≡ Some m → is_object (row_of e.types t) ≡ true → (s : Signature) → env.signature e m.home m.number ≡ Some s →
       (q : TypedProcedure) × (slice_get (methods_of p.program (object_number t)) m.slot ≡ Some q) × IsSigned e s q
   by_method t w m found object s is =
       let one = called t w (bare m) object (ap (option_map bare) found) in

@@ -29,6 +29,7 @@ use Rattle.aos_symbols.specs.Scope.{Scope}
 use Rattle.aos_symbols.specs.Home.{Home, slot_at, texts_of}
 use Rattle.aos_arguments.specs.Filled.{filled_texts}
 use Rattle.aos_check_names.specs.Names.{name_breaches}
+use Rattle.aos_members.specs.Members as members
 use Rattle.aos_symbols.specs.Env as env
 use Rattle.aos_known.specs.Known.{type_as}
 use Rattle.aos_check_types.specs.Methods.{defined_type}
@@ -143,7 +144,7 @@ procedures_of text scopes k (p ∷ ps) (s ∷ ss) (b ∷ bs) =
 
 -- the object type that a definition defines
 abbrev pub defined_object : Env → TypeDef → Option (TypeId × ObjectScope)
-defined_object e d = option_and_then (λ t. option_map (λ o. (t, o)) (env.object e t)) (defined_type e d)
+defined_object e d = option_and_then (λ t. option_map (λ o. (t, o)) (members.object e t)) (defined_type e d)
 
 -- procedures with the slots of the methods that an object type declares, of which the first has the number k
 abbrev pub slotted : Home → ObjectScope → ℕ → List TypedProcedure → List Method
@@ -158,7 +159,7 @@ methods_of e first o ps bs =
 abbrev pub beside_in : Env → (first : ℕ) → TypeDef → Option (TypeId × ObjectScope) → Judged Beside
 beside_in e first d None = kept (local_type e d)
 beside_in e first d (Some x) =
-    let f = env.within_object e x.0 in
+    let f = members.within_object e x.0 in
     bind (body_of f true (object_body d.value)) (λ ss.
     bind (bodies_from f (first + x.1.methods) [] (methods_in d)) (λ bs.
     kept (record {

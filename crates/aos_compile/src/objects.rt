@@ -6,6 +6,7 @@ ghost use Rattle.aos_typed.specs.Seen.{seen_stat, seen_stats, seen_method, seen_
 ghost use Rattle.aos_symbols.specs.Breaches.{first_after};
 ghost use Rattle.aos_symbols.specs.Judged.{walk};
 ghost use Rattle.aos_symbols.specs.Declarations.{type_defs, procedures, methods_in, seen_parts, seen_types, types_of};
+ghost use Rattle.aos_members.specs.Members as members;
 ghost use Rattle.aos_symbols.specs.Env as env_of;
 ghost use Rattle.aos_symbols.specs.Spelling.{is_active as is_active_modifier};
 ghost use Rattle.aos_check_stat.specs.Bodies.{body_of as body_of_env, listed, priority_of as priority_of_env};
@@ -17,6 +18,7 @@ use aos_base::{Pos, Priority};
 use aos_check_stat::{body_of, priority_of};
 use aos_check_types::defined_type;
 use aos_entries::{inner_decls, inner_parts, type_definitions};
+use aos_members::{enter_object, find_object};
 use aos_symbols::{Breach, Env, Home, ObjectScope, is_active};
 use aos_tree::{Block, Boxed, Decl, Modifier, Module, TypeDef, TypeExpr};
 use aos_typed::{TMethod, TProcedure, TStat};
@@ -135,22 +137,22 @@ fn bodies_within(
     def: &TypeDef,
 ) -> Result<(Vec<TStat>, Vec<Vec<TStat>>, Priority), AllocError>
     ensures noted { OnOk result (found.new ≡ first_after found.old
-        ((body_of_env (env_of.within_object env.old of) true
+        ((body_of_env (members.within_object env.old of) true
         (judge.object_body def.now.value)).breaches
-        ++ (judge.bodies_from (env_of.within_object env.old of) scope []
+        ++ (judge.bodies_from (members.within_object env.old of) scope []
         (methods_in def.now)).breaches)) }
     ensures body { IfOk result (λ r. seen_stats r.0.items ≡ listed
-        (body_of_env (env_of.within_object env.old of) true
+        (body_of_env (members.within_object env.old of) true
         (judge.object_body def.now.value)).answer) }
     ensures methods { IfOk result (λ r. map (λ ss. seen_stats ss.items) r.1.items ≡
-        (judge.bodies_from (env_of.within_object env.old of) scope []
+        (judge.bodies_from (members.within_object env.old of) scope []
         (methods_in def.now)).answer) }
     ensures priority { IfOk result (λ r. r.2 ≡
-        priority_of_env (env_of.within_object env.old of) (judge.object_body def.now.value)) }
+        priority_of_env (members.within_object env.old of) (judge.object_body def.now.value)) }
     ensures env { OnOk result (env.new ≡ env.old) }
 {
     let self_type = env.self_type;
-    let outer = env.enter_object(alloc, of)?;
+    let outer = enter_object(env, alloc, of)?;
     let priority = object_priority(alloc, env, &def.value)?;
     let body = statements_of(alloc, found, env, &def.value)?;
     let methods = procedure_bodies(alloc, found, env, scope, inner_decls(&def.value))?;
@@ -299,7 +301,7 @@ fn defined_object(env: &Env<'_>, def: &TypeDef) -> Option<(TypeId, ObjectScope)>
     ensures { result ≡ judge.defined_object env.now def.now }
 {
     let of = defined_type(env, def)?;
-    let object = env.object(of)?;
+    let object = find_object(env, of)?;
     Some((of, object))
 }
 

@@ -18,7 +18,7 @@ use Rattle.aos_symbols.specs.declared.scope.Meaning.{Meaning}
 use Rattle.aos_symbols.specs.declared.scope.Meaning.TheVariants as means
 use Rattle.aos_symbols.specs.declared.env.Open.{Open}
 use Rattle.aos_symbols.specs.declared.env.Symbol.{Symbol}
-use Rattle.aos_symbols.specs.declared.env.Field.{Field}
+use Rattle.aos_members.specs.declared.fields.Field.{Field}
 use Rattle.aos_symbols.specs.declared.env.Narrowed.{Narrowed}
 use Rattle.aos_symbols.specs.declared.env.Lookup.{Lookup}
 use Rattle.aos_symbols.specs.declared.env.Lookup.TheVariants.{Unknown as NoName, NotExported, Found}
@@ -26,6 +26,7 @@ use Rattle.aos_symbols.specs.declared.env.Env.{Env}
 use Rattle.aos_symbols.specs.Breaches.{breach, breach_unless}
 use Rattle.aos_symbols.specs.Judged.{Judged, judged, kept, bind}
 use Rattle.aos_symbols.specs.Spelling.{word, is_among, procedures_of_out}
+use Rattle.aos_members.specs.Members as members
 use Rattle.aos_symbols.specs.Env as env
 use Rattle.aos_known.specs.declared.known.Class.{Class}
 use Rattle.aos_known.specs.declared.known.Class.TheVariants.{Unknown, Constant, Variable, ReadOnly, Computed, Procedure}
@@ -259,11 +260,11 @@ self_place t number = FieldOf (Deref SelfRef (type_as t)) (type_as t) number
 
 -- by SELF's type and the one that declares the field
 abbrev pub declared_place : Env → Option TypeId → Option TypeId → ℕ → Place
-declared_place e (Some t) (Some b) k = self_place t (env.field_number e b k)
+declared_place e (Some t) (Some b) k = self_place t (members.field_number e b k)
 declared_place e _ _ k = Local k
 
 abbrev pub inner_place : Env → Open → ℕ → Place
-inner_place e o k = declared_place e e.self_type (env.object_at e o) k
+inner_place e o k = declared_place e e.self_type (members.object_at e o) k
 
 abbrev pub place_in_scope : Env → Open → ℕ → Place
 place_in_scope e o k = if is_own_scope e o then own_place e k else inner_place e o k
@@ -382,7 +383,7 @@ field_of e a p n = by a.known.of
   where
     by : Option TypeId → Judged Entity
     by None = kept (unknown_part n.pos a)
-    by (Some t) = if has_fields e t then field_found e a p n t (env.field e t n) else lacking e t p
+    by (Some t) = if has_fields e t then field_found e a p n t (members.field e t n) else lacking e t p
 
 abbrev pub field : Env → Entity → Pos → Name → Judged Entity
 field e a p n = field_of e (through e a) p n

@@ -8,13 +8,13 @@ use Rattle.aos_types.specs.Table.{row_of, base_of}
 use Rattle.aos_typed.specs.Program.{Callee as TypedCallee, Plain, Dispatched, Upper, Through, Expr as Typed, ProcedureOf, MethodOf, SelfRef}
 use Rattle.aos_symbols.specs.declared.scope.Meaning.{Meaning}
 use Rattle.aos_symbols.specs.declared.scope.Meaning.TheVariants as means
-use Rattle.aos_symbols.specs.declared.env.Method.{Method}
+use Rattle.aos_members.specs.declared.objects.Method.{Method}
 use Rattle.aos_symbols.specs.declared.env.Symbol.{Symbol}
 use Rattle.aos_symbols.specs.declared.env.Lookup.{Lookup}
 use Rattle.aos_symbols.specs.declared.env.Lookup.TheVariants.{Unknown as NoName, NotExported, Found}
 use Rattle.aos_symbols.specs.declared.env.Env.{Env}
 use Rattle.aos_symbols.specs.Judged.{Judged, kept, bind}
-use Rattle.aos_symbols.specs.Env as env
+use Rattle.aos_members.specs.Members as members
 use Rattle.aos_known.specs.Known.{Entity, is, object_number, read_from}
 use Rattle.aos_designators.specs.declared.designators.Head.{Head}
 use Rattle.aos_designators.specs.declared.methods.Heading.{Heading}
@@ -66,7 +66,7 @@ is_callable NotExported = false
 is_callable (Found x) = is_procedure_meaning x.means
 
 abbrev pub method_on : Env → TypeId → Head → Option Bound
-method_on e t h = option_map (dispatched h.first SelfRef t) (env.method e t h.name)
+method_on e t h = option_map (dispatched h.first SelfRef t) (members.method e t h.name)
 
 abbrev pub own_method : Env → Head → Option Bound
 own_method e h = if is_method h.found then option_and_then (λ t. method_on e t h) e.self_type else None
@@ -82,8 +82,8 @@ declares t (Some m) = is t m.of
 
 abbrev pub upper_of : Env → Head → TypeId → Option Bound
 upper_of e h t =
-    if declares t (env.method e t h.name)
-    then option_and_then (λ b. option_map (upper_method h.first b) (env.method e b h.name)) (base_of (row_of e.types t))
+    if declares t (members.method e t h.name)
+    then option_and_then (λ b. option_map (upper_method h.first b) (members.method e b h.name)) (base_of (row_of e.types t))
     else None
 
 abbrev pub upper_here : Env → Head → Option Bound
@@ -137,7 +137,7 @@ method_found first a n t m =
     else as_part (desig.denoted n.pos (desig.refused_variable 15 n.pos))
 
 abbrev pub method_in : Env → TypeId → Name → Option Method
-method_in e t n = if desig.is_object_type e t then env.method e t n else None
+method_in e t n = if desig.is_object_type e t then members.method e t n else None
 
 abbrev pub method_of : Env → Option TypeId → Name → Option Method
 method_of e of n = option_and_then (λ t. method_in e t n) of

@@ -17,8 +17,9 @@ use crate::variables::is_of_module;
 use aos_base::Pos;
 use aos_known::{Entity, is_object_type, is_procedural, object_number, read_from};
 use aos_made::{MadeCallee, Typed};
+use aos_members::{Method, find_method};
 use aos_symbols::{
-    Breach, Env, Lookup, Meaning, Method, NOT_EXPORTED, WRONG_CALL, WRONG_SELECTOR, WRONG_SELF,
+    Breach, Env, Lookup, Meaning, NOT_EXPORTED, WRONG_CALL, WRONG_SELECTOR, WRONG_SELF,
 };
 use aos_tree::Name;
 use aos_typed::{TCallee, TExpr};
@@ -101,7 +102,7 @@ fn method_on(
 ) -> Result<Option<Bound>, AllocError>
     ensures { IfOk result (λ r. option_map seen_bound r ≡ judge.method_on env.now of head) }
 {
-    match env.method(of, head.name)? {
+    match find_method(env, of, head.name)? {
         Some(method) => {
             let bound = dispatched(alloc, head.first, Typed::itself(), of, method)?;
             Ok(Some(bound))
@@ -206,13 +207,13 @@ fn declares(of: TypeId, method: Option<Method>) -> bool
 fn upper_of(env: &Env<'_>, head: Head, of: TypeId) -> Result<Option<Bound>, AllocError>
     ensures { IfOk result (λ r. option_map seen_bound r ≡ judge.upper_of env.now head of) }
 {
-    if !declares(of, env.method(of, head.name)?) {
+    if !declares(of, find_method(env, of, head.name)?) {
         return Ok(None);
     }
     let Some(base) = env.base(of) else {
         return Ok(None);
     };
-    match env.method(base, head.name)? {
+    match find_method(env, base, head.name)? {
         Some(method) => Ok(Some(Bound {
             callee: MadeCallee::upper(object_number(base), method.slot),
             heading: Heading::Declared(method.home, method.number),
@@ -390,7 +391,7 @@ fn method_in(env: &Env<'_>, of: TypeId, name: Name) -> Result<Option<Method>, Al
     ensures { IfOk result (λ m. m ≡ judge.method_in env.now of name) }
 {
     if is_object_type(env, of) {
-        env.method(of, name)
+        find_method(env, of, name)
     } else {
         Ok(None)
     }

@@ -17,7 +17,8 @@ use aos_known::{
     known_as, read_from, rows_of, target_of, type_as,
 };
 use aos_made::{MadePlace, MadeRows, Typed};
-use aos_symbols::{Breach, Env, Field, NOT_BUILT, NOT_EXPORTED, WRONG_SELECTOR};
+use aos_members::{Field, find_field};
+use aos_symbols::{Breach, Env, NOT_BUILT, NOT_EXPORTED, WRONG_SELECTOR};
 use aos_tree::{Export, Name};
 use aos_typed::open_array;
 use aos_types::{TypeId, TypeRow};
@@ -170,7 +171,7 @@ pub fn field(
     if !has_fields(env, of) {
         return Ok(lacking(found, env, of, at));
     }
-    let field = env.field(of, name)?;
+    let field = find_field(env, of, name)?;
     found_field(alloc, found, env, of, field, whole, at, name)
 }
 

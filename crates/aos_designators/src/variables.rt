@@ -6,6 +6,7 @@ ghost use Rattle.aos_designators.specs.Designators as judge;
 
 use aos_known::{is_opened, open_dimensions, type_as};
 use aos_made::{MadePlace, MadeRows, Typed};
+use aos_members::{field_number, object_at};
 use aos_symbols::{Env, Open, Symbol};
 use aos_types::{Parameter, TypeId};
 use std::alloc::{AllocError, Global};
@@ -88,9 +89,9 @@ fn self_place(alloc: Global, of: TypeId, number: u32) -> Result<MadePlace, Alloc
 fn inner_place(alloc: Global, env: &Env<'_>, at: Open, number: u32) -> Result<MadePlace, AllocError>
     ensures { IfOk result (λ p. seen_place p ≡ judge.inner_place env.now at number) }
 {
-    match (env.self_type, env.object_at(at)) {
+    match (env.self_type, object_at(env, at)) {
         (Some(of), Some(declarer)) => {
-            self_place(alloc, of, env.field_number(declarer, number)?)
+            self_place(alloc, of, field_number(env, declarer, number)?)
         },
         _ => MadePlace::local(alloc, number),
     }

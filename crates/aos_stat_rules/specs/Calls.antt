@@ -20,11 +20,11 @@ use Rattle.aos_symbols.specs.declared.scope.Routine.{Routine}
 use Rattle.aos_symbols.specs.declared.scope.Routine.TheVariants as routine
 use Rattle.aos_symbols.specs.declared.env.Lookup.{Lookup}
 use Rattle.aos_symbols.specs.declared.env.Lookup.TheVariants.{Unknown as NoName, NotExported, Found}
-use Rattle.aos_symbols.specs.declared.env.Method.{Method}
+use Rattle.aos_members.specs.declared.objects.Method.{Method}
 use Rattle.aos_symbols.specs.declared.env.Env.{Env}
 use Rattle.aos_symbols.specs.Breaches.{breach, breach_unless}
 use Rattle.aos_symbols.specs.Judged.{Judged, judged, kept, bind}
-use Rattle.aos_symbols.specs.Env as env
+use Rattle.aos_members.specs.Members as members
 use Rattle.aos_types.specs.declared.row.TypeId.{TypeId}
 use Rattle.aos_typed.specs.Open.{open_dimensions}
 use Rattle.aos_known.specs.declared.known.Class.{Class}
@@ -127,7 +127,7 @@ makes_object e (Some t) = desig.is_object_type e t
 -- the initializer of a type, where it has one
 abbrev pub initializer_of : Env → Option TypeId → Option Method
 initializer_of e None = None
-initializer_of e (Some t) = env.initializer e t
+initializer_of e (Some t) = members.initializer e t
 
 -- a length is an integer; in NEW of what isn't known it may be something else
 abbrev pub may_be_length : (made length : Option TypeId) → Bool

@@ -7,7 +7,8 @@ ghost use Rattle.aos_stat_rules.specs.Calls as judge;
 use aos_base::Pos;
 use aos_designators::refuse_written;
 use aos_known::{Class, is_number, is_object_type, is_pointer_type, made_number, target_of};
-use aos_symbols::{ARGUMENT_COUNT, Breach, Env, Method, WRONG_NEW, note};
+use aos_members::{Method, find_initializer};
+use aos_symbols::{ARGUMENT_COUNT, Breach, Env, WRONG_NEW, note};
 use aos_typed::open_array;
 use aos_types::TypeId;
 use std::alloc::AllocError;
@@ -116,7 +117,7 @@ pub fn initializer_of(env: &Env<'_>, of: Option<TypeId>) -> Result<Option<Method
     ensures { IfOk result (λ m. m ≡ judge.initializer_of env.now of) }
 {
     match of {
-        Some(of) => env.initializer(of),
+        Some(of) => find_initializer(env, of),
         None => Ok(None),
     }
 }

@@ -9,9 +9,5 @@ pub mod Told
 pub mod Lookups
 pub mod Steps
 pub mod Records
-pub mod Bases
-pub mod Chains
-pub mod Opened
 pub mod Methods
 pub mod Fields
-pub mod Numbered

@@ -1,15 +1,12 @@
 -- One more name of a scope, of which the procedures are methods.
-use Rattle.std.proofs.Common.{◌≡◌, ◌≤◌, ℕ, zero, suc, List, [], ◌∷◌, ◌++◌, ◌+◌, length, map, take, take_all, add-one, Bool, true, false, cond, Option, Some, None, Bor, bytes_eq, slice_get, if◌then◌else◌, refl, ap, ◌∙◌, sym, arith, append-nil}
+use Rattle.std.proofs.Common.{◌≡◌, ◌≤◌, ℕ, zero, suc, List, [], ◌∷◌, ◌++◌, ◌+◌, length, map, take, take_all, add-one, Bool, true, false, cond, Option, Some, None, Bor, bytes_eq, slice_get, if◌then◌else◌, refl, ap, ◌∙◌, sym, append-nil}
 use Rattle.std.specs.Prelude.{filter, position, nat_lt, not}
 use Rattle.std.specs.List.{prefix_len}
 use Rattle.std.proofs.lemmas.Option.{none-some, same_Some}
 use Rattle.std.proofs.lemmas.List.{map-append}
 use Rattle.std.proofs.lemmas.List.Sums.{fold-append}
 use Rattle.aos_symbols.specs.declared.scope.Entry.{Entry}
-use Rattle.aos_types.specs.declared.row.TypeId.{TypeId}
-use Rattle.aos_symbols.specs.declared.env.Env.{Env}
-use Rattle.aos_symbols.specs.Env.{object_scope, scope_methods, all_methods, own_slots}
-use Rattle.aos_symbols.specs.Scope.{Named, Scope, empty, with_name, with_names, is_procedure, if_method, methods_of, place_of, places_in, seen_names}
+use Rattle.aos_symbols.specs.Scope.{Named, Scope, with_name, with_names, is_procedure, if_method, methods_of, place_of, places_in, seen_names}
 
 -- the methods among the first names of a scope
 abbrev pub methods_before : Scope → ℕ → List Named
@@ -113,12 +110,3 @@ module _ (w : List ℕ) where
       ap (λ n. cond (nat_lt n (length (map (λ e. e.0) es))) (Some n) None) (prefix_named es)
       ∙ ap (λ m. cond (nat_lt (prefix_len (λ k. not (bytes_eq w k)) (map (λ n. n.0) (seen_names es))) m)
       (Some (prefix_len (λ k. not (bytes_eq w k)) (map (λ n. n.0) (seen_names es)))) None) (as_many es)
-
--- where none has a place among any names, there are none, and so no slots
-none_placed : (s t : Scope) (ns : List Named) → length (places_in s ns) ≡ 0 → places_in s ns ≡ places_in t ns
-none_placed s t [] none = refl
-none_placed s t (n ∷ ns) none = absurd (omega (arith, none))
-
-pub no_slots : (e : Env) (t : TypeId) (s : Scope) (ks : List ℕ) → Some s ≡ object_scope e t → ks ≡ places_in empty (methods_of s) → length ks ≡ 0 → ks ≡ own_slots e t
-no_slots e t s ks there is none =
-    is ∙ none_placed empty (all_methods e t) (methods_of s) (sym (ap length is) ∙ none) ∙ ap (λ o. places_in (all_methods e t) (scope_methods o)) there

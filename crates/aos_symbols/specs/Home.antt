@@ -2,7 +2,7 @@
 -- fields of the record types that it writes, and its object types. The first scope is the module's own; behind it come those of the types
 -- that it defines, in which the names within an object type stand, and then those of its procedures and of its types' methods, each in
 -- the order of the text.
-use Rattle.std.specs.Prelude.{ℕ, pos, nat_eq, nat_lt, ◌+◌, ◌-◌, List, [], ◌∷◌, ◌++◌, map, fold, Bool, true, false, ◌&&◌, Option, Some, None, option_and_then, if◌then◌else◌, slice_get, slice_set, position}
+use Rattle.std.specs.Prelude.{ℕ, pos, nat_eq, nat_lt, ◌+◌, ◌-◌, List, [], ◌∷◌, ◌++◌, map, fold, Bool, true, false, Option, Some, None, option_and_then, if◌then◌else◌, slice_get, slice_set, position}
 use Rattle.std.specs.Option.{unwrap_or}
 use Rattle.std.specs.List.{slice_range}
 use Rattle.aos_base.specs.Operators.{natural}
@@ -64,10 +64,6 @@ scope_of h o = option_and_then (λ x. slice_get h.scopes x.scope) o
 abbrev pub fields_of : (is_object : Bool) → Home → TypeId → Option Scope
 fields_of true h t = scope_of h (object_of h t)
 fields_of false h t = record_fields h t
-
--- a scope is that of a type
-abbrev pub is_inner : Home → (scope : ℕ) → Bool
-is_inner h k = nat_lt 0 k && nat_lt k h.first
 
 -- with the slots of all methods
 abbrev pub with_slots : Home → List (List ℕ) → Home

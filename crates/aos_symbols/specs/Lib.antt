@@ -6,5 +6,4 @@ pub mod Declarations
 pub mod Scope
 pub mod Home
 pub mod Env
-pub mod Members
 pub mod Laws

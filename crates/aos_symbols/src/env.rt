@@ -65,28 +65,6 @@ pub enum Lookup {
     Found(Symbol),
 }
 
-/// A field of a record or an object type: whether this module writes the type that declares it, the field's mark, its number in the
-/// type, and its own type, which is none where it breaks a rule.
-#[derive(Clone, Copy)]
-pub struct Field {
-    pub is_own: bool,
-    pub mark: Option<Export>,
-    pub number: u32,
-    pub of: Option<TypeId>,
-}
-
-/// A method of an object type: whether this module writes the type that declares it, its mark, the number of the module that does,
-/// its number among that module's signatures, the type that declares it, and its slot.
-#[derive(Clone, Copy)]
-pub struct Method {
-    pub is_own: bool,
-    pub mark: Option<Export>,
-    pub home: u32,
-    pub number: u32,
-    pub of: TypeId,
-    pub slot: u32,
-}
-
 /// A variable that a WITH narrows: its scope, its number there, and the type that it has within.
 #[derive(Clone, Copy)]
 pub struct Narrowed {
@@ -254,47 +232,6 @@ fn own(number: u32) -> Open
     }
 }
 
-/// The field with this word among those of a record type.
-fn field_in(is_own: bool, fields: &Scope<'_>, word: &[u8]) -> Option<Field>
-    ensures { result ≡ env.field_in is_own fields.now word.now }
-{
-    let entry = fields.find(word)?;
-    let Meaning::Variable(number) = entry.means else {
-        return None;
-    };
-    Some(Field {
-        is_own,
-        mark: entry.mark,
-        number,
-        of: fields.variable(number)?,
-    })
-}
-
-/// The field with this word of an object type or a record that one of these modules writes.
-fn field_among(homes: &[Home<'_>], is_object: bool, of: TypeId, word: &[u8]) -> Option<Field>
-    ensures { result ≡ env.field_among is_object homes.now of word.now }
-{
-    for home in homes {
-        if let Some(fields) = home.fields(is_object, of) {
-            return field_in(false, fields, word);
-        }
-    }
-    None
-}
-
-/// So many fields and as many more. 2^32 and more are want of memory.
-fn more_fields(count: u32, more: usize) -> Result<u32, AllocError>
-    ensures { IfOk result (λ n. n ≡ count + more) }
-{
-    let Ok(more) = u32::try_from(more) else {
-        return Err(AllocError);
-    };
-    match count.checked_add(more) {
-        Some(count) => Ok(count),
-        None => Err(AllocError),
-    }
-}
-
 impl<'a> Env<'a> {
     /// What a module has declared, by its number: this one, or one before it.
     pub fn home(&self, number: u32) -> Option<&Home<'a>>
@@ -317,7 +254,7 @@ impl<'a> Env<'a> {
         }
     }
 
-    pub(crate) fn in_scope(&self, at: Open, word: &[u8]) -> Option<Symbol>
+    pub fn in_scope(&self, at: Open, word: &[u8]) -> Option<Symbol>
         ensures { result ≡ env.in_scope self.now at word.now }
     {
         match self.scope(at) {
@@ -402,22 +339,10 @@ impl<'a> Env<'a> {
         }
     }
 
-    pub(crate) fn is_object(&self, of: TypeId) -> bool
+    pub fn is_object(&self, of: TypeId) -> bool
         ensures { result ≡ is_object (row_in self.now.types of) }
     {
         matches!(self.row(Some(of)), Some(TypeRow::Object(_, _)))
-    }
-
-    /// The own field of a type that has a name; none where it hasn't one.
-    pub(crate) fn own_field(&self, of: TypeId, name: Name) -> Option<Field>
-        ensures { result ≡ env.own_field self.now of name }
-    {
-        let word = word(self.here.text(), name);
-        let is_object = self.is_object(of);
-        match self.here.fields(is_object, of) {
-            Some(fields) => field_in(true, fields, word),
-            None => field_among(self.before.as_slice(), is_object, of, word),
-        }
     }
 
     /// The base of a record or an object type.
@@ -428,70 +353,6 @@ impl<'a> Env<'a> {
             Some(TypeRow::Record(base, _)) => *base,
             Some(TypeRow::Object(base, _)) => *base,
             _ => None,
-        }
-    }
-
-    /// How many own fields a type has.
-    fn field_count(&self, of: TypeId) -> usize
-        ensures { result ≡ env.field_count (row_in self.now.types of) }
-    {
-        match self.row(Some(of)) {
-            Some(TypeRow::Record(_, fields)) => fields.as_slice().len(),
-            Some(TypeRow::Object(_, fields)) => fields.as_slice().len(),
-            _ => 0,
-        }
-    }
-
-    /// How many fields a type has of its bases. 2^32 and more are want of memory.
-    #[tactic(auto, using(crate::proofs::Bases::before_base, crate::proofs::Bases::before_none, crate::proofs::Bases::before_end))]
-    pub(crate) fn fields_before(&self, of: TypeId) -> Result<u32, AllocError>
-        ensures { IfOk result (λ n. n ≡
-            env.fields_before (length self.now.types) self.now.types of) }
-    {
-        let mut at = of;
-        let mut count: u32 = 0;
-        let mut left = self.types.len();
-        while left > 0 {
-            let Some(base) = self.base(at) else {
-                return Ok(count);
-            };
-            count = more_fields(count, self.field_count(base))?;
-            at = base;
-            left -= 1;
-        }
-        Ok(count)
-    }
-
-    /// An own field of a type, with its number counted on from the fields of the type's bases.
-    pub(crate) fn counted_on(&self, of: TypeId, field: Field) -> Result<Option<Field>, AllocError>
-        ensures { IfOk result (λ f. f ≡ Some (env.counted_on self.now.types of field)) }
-    {
-        match self.fields_before(of)?.checked_add(field.number) {
-            Some(number) => Ok(Some(Field { number, ..field })),
-            None => Err(AllocError),
-        }
-    }
-
-    /// The field of a type, or of one of its bases, that has a name; none where there isn't one.
-    #[tactic(auto, using(crate::proofs::Bases::found_own, crate::proofs::Bases::searched_base, crate::proofs::Bases::found_none, crate::proofs::Bases::found_end))]
-    pub fn field(&self, of: TypeId, name: Name) -> Result<Option<Field>, AllocError>
-        ensures { IfOk result (λ f. f ≡ env.field self.now of name) }
-    {
-        let mut at = of;
-        let mut left = self.types.len();
-        while left > 0 {
-            if let Some(field) = self.own_field(at, name) {
-                return self.counted_on(at, field);
-            }
-            let Some(base) = self.base(at) else {
-                return Ok(None);
-            };
-            at = base;
-            left -= 1;
-        }
-        match self.own_field(at, name) {
-            Some(field) => self.counted_on(at, field),
-            None => Ok(None),
         }
     }
 

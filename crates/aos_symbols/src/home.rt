@@ -240,7 +240,7 @@ impl<'a> Home<'a> {
     }
 
     /// An object type, where it is as far behind the first one as its number is.
-    pub(crate) fn object_in_turn(&self, of: TypeId) -> Option<ObjectScope>
+    pub fn object_in_turn(&self, of: TypeId) -> Option<ObjectScope>
         ensures { IfSome result (λ object. home.object_of self.now of ≡ Some object) }
     {
         let (first, _) = self.objects.get_index(0)?;
@@ -293,13 +293,6 @@ impl<'a> Home<'a> {
         ensures { self.new ≡ home.with_slots self.old slots.items }
     {
         self.slots = slots;
-    }
-
-    /// Whether a scope is that of a type.
-    pub fn is_inner(&self, scope: u32) -> bool
-        ensures { result ≡ home.is_inner self.now scope }
-    {
-        scope > 0 && (scope as usize) < self.first
     }
 
     /// The fields of a record type. Without memory all stays as it was.

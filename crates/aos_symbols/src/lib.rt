@@ -2,12 +2,9 @@
 #![tactic(auto)]
 
 pub mod breach;
-mod chain;
 pub mod env;
 pub mod home;
 mod laws;
-pub mod members;
-pub mod objects;
 pub mod scope;
 mod spelling;
 
@@ -20,12 +17,10 @@ pub use breach::{
     WRONG_SELF, WRONG_TEST, WRONG_TYPE, WRONG_WITH, note,
 };
 pub use env::{
-    ANY, BASIC_TYPES, BOOLEAN, CHAR, Claim, Env, Field, HUGEINT, INTEGER, LONGINT, Lookup, Method,
-    NIL, Narrowed, Open, SET, SHORTINT, Symbol, TEXT,
+    ANY, BASIC_TYPES, BOOLEAN, CHAR, Claim, Env, HUGEINT, INTEGER, LONGINT, Lookup, NIL, Narrowed,
+    Open, SET, SHORTINT, Symbol, TEXT,
 };
 pub use home::{Home, ObjectScope};
 pub use laws::law_of_first;
-pub use members::Members;
-pub use objects::SoFar;
 pub use scope::{Constant, Entry, Function, Meaning, Routine, Scope};
 pub use spelling::{are_same, is_active, is_priority, is_procedure_of_out, is_word, word};

@@ -149,7 +149,7 @@ impl<'a> Scope<'a> {
     }
 
     /// Where a word stands among the names. A place of 2^32 and more is want of memory.
-    pub(crate) fn place_of(&self, word: &[u8]) -> Result<u32, AllocError>
+    pub fn place_of(&self, word: &[u8]) -> Result<u32, AllocError>
         ensures { IfOk result (λ k. k ≡ names.place_of self.now word.now) }
     {
         let Some(place) = self.table.get_index_of(word) else {
@@ -234,7 +234,7 @@ impl<'a> Scope<'a> {
     }
 
     /// Declares the fields of this scope in another one, too.
-    pub(crate) fn add_fields(&self, all: &mut Scope<'a>) -> Result<(), AllocError> {
+    pub fn add_fields(&self, all: &mut Scope<'a>) -> Result<(), AllocError> {
         for place in 0..self.name_count() {
             if let Some((word, entry)) = self.field_at(place) {
                 all.declare(word, entry)?;
@@ -245,11 +245,7 @@ impl<'a> Scope<'a> {
 
     /// Where the fields of this scope stand among the names of another one.
     #[tactic(auto, using(crate::proofs::Fields::placed_more, crate::proofs::Fields::placed_none, crate::proofs::Fields::placed_end))]
-    pub(crate) fn field_places_in(
-        &self,
-        alloc: Global,
-        all: &Scope<'_>,
-    ) -> Result<Items<u32>, AllocError>
+    pub fn field_places_in(&self, alloc: Global, all: &Scope<'_>) -> Result<Items<u32>, AllocError>
         ensures { IfOk result (λ ks. ks ≡ names.places_in all.now (names.fields_of self.now)) }
     {
         let mut places = Items::new(alloc);

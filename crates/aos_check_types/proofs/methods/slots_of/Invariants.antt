@@ -1,6 +1,6 @@
 use Rattle.std.proofs.Common.{◌≡◌, map, take}
 use Rattle.aos_symbols.specs.Declarations.{seen_types}
-use Rattle.aos_symbols.specs.Env.{IsSoFar}
+use Rattle.aos_members.specs.Members.{IsSoFar}
 use Rattle.aos_check_types.specs.Methods as judge
 use Rattle.aos_check_types.proofs.methods.slots_of.Given as goal
 

@@ -1,0 +1,9 @@
+use Rattle.std.proofs.Common.{◌≡◌}
+use Rattle.aos_members.specs.Members as members
+use Rattle.aos_members.proofs.objects.find_initializer.Given as goal
+
+abbrev pub invariant-loop-left : goal.invariant-loop-left
+invariant-loop-left l = members.initializer_along l.env (members.chain_by l.left l.env.types l.at) ≡ members.initializer l.env l.fn.of
+
+abbrev pub decreases-loop-left : goal.decreases-loop-left
+decreases-loop-left l = l.left

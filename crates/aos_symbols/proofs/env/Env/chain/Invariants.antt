@@ -1,9 +1,0 @@
-use Rattle.std.proofs.Common.{◌≡◌, ◌++◌}
-use Rattle.aos_symbols.specs.Env as env
-use Rattle.aos_symbols.proofs.env.Env.chain.Given as goal
-
-abbrev pub invariant-loop-left : goal.invariant-loop-left
-invariant-loop-left l = l.all.items ++ env.chain_by l.left l.self.types l.at ≡ env.chain l.self.types l.fn.of
-
-abbrev pub decreases-loop-left : goal.decreases-loop-left
-decreases-loop-left l = l.left

@@ -1,9 +1,0 @@
-use Rattle.std.proofs.Common.{◌∙◌, sym, ap}
-use Rattle.aos_symbols.specs.Members.{may_declare}
-use Rattle.aos_symbols.proofs.Numbered.{no_field}
-use Rattle.aos_symbols.proofs.env.Env.numbered_field.Goals as goal
-
-pub returns-else-may_declare : goal.returns-else-may_declare
-returns-else-may_declare c =
-    no_field c.args.self.now c.args.all.now c.args.of c.args.place c.args.name c.requires.all c.requires.place
-    (ap (λ l. may_declare l c.args.of c.args.place) (sym c.as_slice.ensures.value) ∙ sym c.may_declare.ensures ∙ c.if-may_declare.false)
