@@ -18,11 +18,11 @@ use Rattle.aos_symbols.specs.declared.env.Env.{Env}
 use Rattle.aos_symbols.specs.Breaches.{breach_unless}
 use Rattle.aos_symbols.specs.Judged.{Judged, judged, kept, bind, walk}
 use Rattle.aos_arguments.specs.Arguments.{listed as listed_arguments}
-use Rattle.aos_designators.specs.declared.methods.Heading.{Heading}
-use Rattle.aos_designators.specs.declared.methods.Heading.TheVariants as heading
+use Rattle.aos_bound.specs.declared.methods.Heading.{Heading}
+use Rattle.aos_bound.specs.declared.methods.Heading.TheVariants as heading
 use Rattle.aos_designators.specs.declared.designators.Head.{Head}
 use Rattle.aos_designators.specs.Designators as desig
-use Rattle.aos_designators.specs.Methods.{Bound, Part, Begun, Meant, Waits, bound_part}
+use Rattle.aos_bound.specs.Methods.{Bound, Part, Begun, Meant, Waits, bound_part}
 use Rattle.aos_check_expr.specs.Expressions.{arguments_for, bracketed, signature_of, expr}
 use Rattle.aos_check_expr.specs.Expressions.{selector as selector_of}
 pub use Rattle.aos_stat_rules.specs.Calls.{refused, not_yet, plain_call, ended, arguments, behind_arguments, is_selected, is_selected_behind, goes_on, before_last, is_made, new_breaches, is_no_variable, lengths_wanted, count_breaches, made_type, makes_object, initializer_of, may_be_length, no_call, gives_value, is_value_called, changing, is_changed_set, is_amount, is_changed, changed_breaches, changed_by, code_of, is_code, code_in, text_to, value_fits, put_text, copied, called_entity}

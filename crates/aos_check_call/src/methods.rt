@@ -3,13 +3,14 @@
 ghost use Rattle.std.specs.Prelude.{◌≡◌, OnOk, IfOk, option_map};
 ghost use Rattle.aos_typed.specs.Seen.{seen_stat};
 ghost use Rattle.aos_symbols.specs.Breaches.{first_after};
-ghost use Rattle.aos_designators.specs.Seen.{seen_bound, seen_part};
+ghost use Rattle.aos_bound.specs.Seen.{seen_bound, seen_part};
 ghost use Rattle.aos_check_call.specs.Calls as judge;
 
 use crate::procedures::perform;
 use aos_base::Pos;
+use aos_bound::{Bound, Part, bound_part};
 use aos_check_expr::{bracketed, follow_selectors};
-use aos_designators::{Bound, Head, Part, bound_part, plain};
+use aos_designators::{Head, plain};
 use aos_made_stat::MadeStat;
 use aos_stat_rules::{before_last, called_entity, is_value_called};
 use aos_symbols::{Breach, Env, WRONG_CALL, note};

@@ -7,8 +7,9 @@ ghost use Rattle.aos_check_call.specs.Calls as judge;
 
 use crate::methods::called_value;
 use aos_base::Pos;
+use aos_bound::Heading;
 use aos_check_expr::{arguments_for, signature_at};
-use aos_designators::{Head, Heading, member_behind};
+use aos_designators::{Head, member_behind};
 use aos_made::MadeCallee;
 use aos_made_stat::MadeStat;
 use aos_stat_rules::{arguments, behind_arguments, goes_on, not_yet, refuse_behind, refused};

@@ -27,7 +27,7 @@ use Rattle.aos_operators.proofs.Good.{IsGood, MayBe, greatest_good, least_good}
 use Rattle.aos_operators.proofs.Sound.{IsStep, TestsOne, applied_step, applied_tests, converted_step, converted_tests}
 use Rattle.aos_arguments.specs.declared.functions.Taking.TheVariants as taking
 use Rattle.aos_designators.specs.declared.designators.Head.{Head}
-use Rattle.aos_designators.specs.declared.methods.Heading.TheVariants as heading
+use Rattle.aos_bound.specs.declared.methods.Heading.TheVariants as heading
 use Rattle.aos_designators.specs.Designators as desig
 use Rattle.aos_check_expr.specs.Expressions as judge
 use Rattle.aos_check_expr.specs.Expressions.{Callee, Calls, Invokes, Converts, Neither}

@@ -20,9 +20,9 @@ use Rattle.aos_known.proofs.Inside.{Inside, IsOf, IsCalled}
 use Rattle.aos_known.specs.Known.{object_number, type_as}
 use Rattle.aos_known.proofs.Types.{not_both, id_above}
 use Rattle.aos_designators.specs.declared.designators.Head.{Head}
-use Rattle.aos_designators.specs.declared.methods.Heading.{Heading}
-use Rattle.aos_designators.specs.declared.methods.Heading.TheVariants as heading
-use Rattle.aos_designators.specs.Methods.{Bound}
+use Rattle.aos_bound.specs.declared.methods.Heading.{Heading}
+use Rattle.aos_bound.specs.declared.methods.Heading.TheVariants as heading
+use Rattle.aos_bound.specs.Methods.{Bound}
 use Rattle.aos_check_expr.specs.Expressions.{signature_of}
 use Rattle.aos_check_expr.specs.Expressions as judge
 use Rattle.aos_check_expr.proofs.Whole.{IsSigned, IsWhole}

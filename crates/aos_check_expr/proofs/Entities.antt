@@ -52,9 +52,9 @@ use Rattle.aos_operators.proofs.Stored.{IsStored, not_stored}
 use Rattle.aos_operators.proofs.Good.{IsGood, HasGood, IsKnownClass}
 use Rattle.aos_operators.proofs.Sound.{not_both, IsScalar, IsClosedPlace, IsOpenPlace, IsWholeRead, IsOther, IsObject, IsSound, IsPlain, plain_sound, sound_number}
 use Rattle.aos_designators.specs.declared.designators.Head.{Head}
-use Rattle.aos_designators.specs.declared.methods.Heading.TheVariants as heading
+use Rattle.aos_bound.specs.declared.methods.Heading.TheVariants as heading
 use Rattle.aos_designators.specs.Designators as desig
-use Rattle.aos_designators.specs.Methods.{Bound}
+use Rattle.aos_bound.specs.Methods.{Bound}
 use Rattle.aos_check_expr.specs.Expressions as judge
 use Rattle.aos_check_expr.proofs.Whole.{many_types}
 pub use Rattle.aos_check_expr.proofs.Whole.{IsTyped, closed, opened, GoodConstants, IsParameterType, AreParameters, IsResultOf, IsSigned, IsFieldScope, IsSearched, has_fields, AreOpensTold, parameter_type, opens_told, told_element, IsWhole, NarrowsWell, text_row, no_array, array_open, no_open, opened_row, told_closed, row_opened, elements_told, elements_id}

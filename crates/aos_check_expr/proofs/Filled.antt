@@ -22,8 +22,8 @@ use Rattle.aos_symbols.proofs.Told.{get_front}
 use Rattle.aos_known.proofs.Inside.{Inside}
 use Rattle.aos_arguments.specs.Filled.{most, value_length, signature_length, home_length, row_length, longest, named_texts, is_same, filled_index, filled, home_filled, named_filled, all_filled, filled_place, filled_texts}
 use Rattle.aos_values.specs.Signatures.{formal, given_by, row_signature, type_signature}
-use Rattle.aos_designators.specs.declared.methods.Heading.{Heading}
-use Rattle.aos_designators.specs.declared.methods.Heading.TheVariants as heading
+use Rattle.aos_bound.specs.declared.methods.Heading.{Heading}
+use Rattle.aos_bound.specs.declared.methods.Heading.TheVariants as heading
 use Rattle.aos_check_expr.specs.Expressions.{signature_of}
 use Rattle.aos_check_expr.proofs.Entities.{IsWhole}
 

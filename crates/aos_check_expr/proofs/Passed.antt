@@ -49,7 +49,7 @@ use Rattle.aos_arguments.specs.Arguments.{names_type, with_type, Given, Scalar, 
 use Rattle.aos_values.specs.Arrays as arrays
 use Rattle.aos_arguments.specs.Arguments as judge
 use Rattle.aos_arguments.specs.Filled.{value_length, longest, filled_index, filled_place}
-use Rattle.aos_designators.specs.declared.methods.Heading.{Heading}
+use Rattle.aos_bound.specs.declared.methods.Heading.{Heading}
 use Rattle.aos_check_expr.specs.Expressions.{signature_of}
 use Rattle.aos_check_expr.specs.Expressions as calls
 use Rattle.aos_check_expr.proofs.Opens.{closed_row, all_behind, closed_dimensions, closed_element, next_dimensions, next_element}

@@ -23,7 +23,7 @@ use Rattle.aos_operators.specs.Operations.{no_elements}
 use Rattle.aos_operators.specs.Forms.{added, is_test, signed, opposite, whole_set, with_element, with_span}
 use Rattle.aos_rules.specs.Relations.{tested, related_by}
 use Rattle.aos_designators.specs.Designators.{plain, read}
-use Rattle.aos_designators.specs.Methods.{Part, Begun, entity_of_part, selected, as_part}
+use Rattle.aos_bound.specs.Methods.{Part, Begun, entity_of_part, selected, as_part}
 use Rattle.aos_check_expr.specs.Expressions.{expr, relation, relation_if, simple, addition, additions, term, product, products, factor, parenthesized, elements, element, designator, selectors, selector, indices, index, indexed, arguments, bracketed, qualident_in}
 
 -- a list of two

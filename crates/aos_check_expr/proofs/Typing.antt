@@ -42,8 +42,8 @@ pub use Rattle.aos_operators.proofs.Good.{IsGood, HasGood}
 pub use Rattle.aos_operators.proofs.Sound.{IsSound, sound_number, sound_char, sound_boolean}
 pub use Rattle.aos_known.proofs.Inside.{Inside}
 use Rattle.aos_designators.specs.declared.designators.Head.{Head}
-use Rattle.aos_designators.specs.declared.methods.Heading.{Heading}
-use Rattle.aos_designators.specs.declared.methods.Heading.TheVariants as heading
+use Rattle.aos_bound.specs.declared.methods.Heading.{Heading}
+use Rattle.aos_bound.specs.declared.methods.Heading.TheVariants as heading
 use Rattle.aos_designators.specs.Designators as desig
 use Rattle.aos_check_expr.specs.Expressions as judge
 use Rattle.aos_check_expr.proofs.Parts.{Elements, as_part, constant_part, added_part, multiplied_part, related_part, signed_part, opposite_part, number_part, character_part, string_part, no_elements, with_element_part, with_span_part, whole_part}

@@ -64,8 +64,8 @@ use Rattle.aos_operators.specs.Operations as op
 use Rattle.aos_arguments.specs.declared.functions.Taking.TheVariants as taking
 use Rattle.aos_arguments.specs.Arguments.{Given}
 use Rattle.aos_designators.specs.declared.designators.Head.{Head}
-use Rattle.aos_designators.specs.declared.methods.Heading.{Heading}
-use Rattle.aos_designators.specs.declared.methods.Heading.TheVariants as heading
+use Rattle.aos_bound.specs.declared.methods.Heading.{Heading}
+use Rattle.aos_bound.specs.declared.methods.Heading.TheVariants as heading
 use Rattle.aos_designators.specs.Designators as desig
 use Rattle.aos_check_expr.specs.Expressions as judge
 

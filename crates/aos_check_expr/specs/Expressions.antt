@@ -55,10 +55,10 @@ pub use Rattle.aos_values.specs.TypeNames.{named_type, known_type}
 pub use Rattle.aos_rules.specs.Relations.{test_typed, may_test, tested_with, tested, compares_texts, relation_in, constants_related, texts_class, texts_related, may_be_pointer, may_be_object, are_comparable, is_the_reference, compares_objects, is_the_procedure, may_be_procedure, compares_procedures, procedure_operand, procedures_related, operation_of, related_by}
 pub use Rattle.aos_arguments.specs.Functions.{limit_in, limit_value, limit_of, one_argument, two_arguments, step_in, function_typed, function_class, function_answer, function_breaches, function_told}
 use Rattle.aos_designators.specs.declared.designators.Head.{Head}
-use Rattle.aos_designators.specs.declared.methods.Heading.{Heading}
-use Rattle.aos_designators.specs.declared.methods.Heading.TheVariants as heading
+use Rattle.aos_bound.specs.declared.methods.Heading.{Heading}
+use Rattle.aos_bound.specs.declared.methods.Heading.TheVariants as heading
 use Rattle.aos_designators.specs.Designators as desig
-pub use Rattle.aos_designators.specs.Methods.{Bound, Part, Begun, Meant, Waits, as_part, dispatched, is_method, is_callable, method_on, own_method, upper_method, declares, upper_of, upper_here, raised_to, raised, value_called, unbound, named_or_bound, entity_of_part, selected_name, selected, method_found, method_in, method_of, pointed_as, pointed_entity, pointed_name, pointed, followed_entity, followed_part, through, bound_value, bound_head, bound_or, bound_part}
+pub use Rattle.aos_bound.specs.Methods.{Bound, Part, Begun, Meant, Waits, as_part, dispatched, is_method, is_callable, method_on, own_method, upper_method, declares, upper_of, upper_here, raised_to, raised, value_called, unbound, named_or_bound, entity_of_part, selected_name, selected, method_found, method_in, method_of, pointed_as, pointed_entity, pointed_name, pointed, followed_entity, followed_part, through, bound_value, bound_head, bound_or, bound_part}
 
 -- An expression that is a designator.
 

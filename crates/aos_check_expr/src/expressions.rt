@@ -6,7 +6,7 @@ ghost use Rattle.aos_symbols.specs.Breaches.{first_after};
 ghost use Rattle.aos_symbols.specs.Judged.{walk};
 ghost use Rattle.aos_operators.specs.Operations as operations;
 ghost use Rattle.aos_known.specs.Seen.{seen_answer, seen_entity};
-ghost use Rattle.aos_designators.specs.Seen.{seen_bound, seen_part};
+ghost use Rattle.aos_bound.specs.Seen.{seen_bound, seen_part};
 ghost use Rattle.aos_arguments.specs.Seen.{seen_handing};
 ghost use Rattle.aos_check_expr.specs.Expressions as judge;
 
@@ -17,9 +17,11 @@ use aos_arguments::{
     value_of_two,
 };
 use aos_base::Pos;
+use aos_bound::{
+    Bound, Heading, Part, bound_part, entity_of_part, followed_part, pointed, selected,
+};
 use aos_designators::{
-    Bound, Head, Heading, Part, bound_part, element as element_of, entity_of_part, followed_part,
-    guarded, is_module, is_of_module, named, plain, pointed, read, selected,
+    Head, element as element_of, guarded, is_module, is_of_module, named, plain, read,
 };
 use aos_known::{Answer, Entity, constant_answer, entity_of, is_integer, refused, refused_value};
 use aos_made::MadeCallee;

@@ -4,7 +4,7 @@ ghost use Rattle.std.specs.Prelude.{◌≡◌, IfOk};
 ghost use Rattle.aos_symbols.specs.Env as scopes;
 ghost use Rattle.aos_check_expr.specs.Expressions as judge;
 
-use aos_designators::Heading;
+use aos_bound::Heading;
 use aos_symbols::Env;
 use aos_types::{Items, Parameter, Signature};
 use aos_values::type_signature;

@@ -25,11 +25,11 @@ use Rattle.aos_symbols.specs.declared.env.Env.{Env}
 use Rattle.aos_symbols.specs.Judged.{Judged, kept, bind}
 use Rattle.aos_symbols.specs.Spelling.{is_word}
 use Rattle.aos_known.specs.Known.{Answer, Entity}
-use Rattle.aos_designators.specs.declared.methods.Heading.{Heading}
-use Rattle.aos_designators.specs.declared.methods.Heading.TheVariants as heading
+use Rattle.aos_bound.specs.declared.methods.Heading.{Heading}
+use Rattle.aos_bound.specs.declared.methods.Heading.TheVariants as heading
 use Rattle.aos_designators.specs.declared.designators.Head.{Head}
 use Rattle.aos_designators.specs.Designators as desig
-use Rattle.aos_designators.specs.Methods.{Part, Begun, Meant, Waits, entity_of_part, bound_part}
+use Rattle.aos_bound.specs.Methods.{Part, Begun, Meant, Waits, entity_of_part, bound_part}
 use Rattle.aos_check_expr.specs.Expressions.{bracketed, signature_of, expr, designator, desig_alone}
 use Rattle.aos_check_stat.specs.Called as judge
 use Rattle.aos_check_stat.specs.Called.{arguments, behind_arguments, goes_on}

@@ -43,8 +43,8 @@ use Rattle.aos_known.proofs.Inside.{Inside, IsPlaceOf, IsOf, AreArguments, IsCal
 use Rattle.aos_operators.proofs.Sound.{sound_number}
 use Rattle.aos_arguments.specs.Arguments.{Handing, listed as listed_arguments}
 use Rattle.aos_values.specs.Arrays.{text_rows}
-use Rattle.aos_designators.specs.declared.methods.Heading.{Heading}
-use Rattle.aos_designators.specs.declared.methods.Heading.TheVariants as heading
+use Rattle.aos_bound.specs.declared.methods.Heading.{Heading}
+use Rattle.aos_bound.specs.declared.methods.Heading.TheVariants as heading
 use Rattle.aos_designators.specs.declared.designators.Head.{Head}
 use Rattle.aos_designators.specs.Designators as desig
 use Rattle.aos_check_expr.specs.Expressions.{arguments_for, signature_of, expr, argument, designator, desig_alone}

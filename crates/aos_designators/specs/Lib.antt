@@ -1,3 +1,1 @@
 pub mod Designators
-pub mod Methods
-pub mod Seen

@@ -35,7 +35,7 @@ use Rattle.aos_values.specs.Assignable as assignable
 use Rattle.aos_values.specs.Arrays.{is_characters, is_opening, text_rows, array_rows, text_for, has_room}
 use Rattle.aos_designators.specs.Designators as desig
 use Rattle.aos_designators.specs.Designators.{written}
-use Rattle.aos_designators.specs.Methods.{Part, entity_of_part}
+use Rattle.aos_bound.specs.Methods.{Part, entity_of_part}
 
 -- a statement that breaks a rule is none
 abbrev pub refused : ℕ → Pos → Judged (Option Stat)

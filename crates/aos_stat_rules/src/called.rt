@@ -6,11 +6,11 @@ ghost use Rattle.aos_typed.specs.Seen.{seen_stat};
 ghost use Rattle.aos_symbols.specs.Breaches.{first_after};
 ghost use Rattle.aos_stat_rules.specs.Calls as judge;
 ghost use Rattle.aos_symbols.specs.Judged.{kept};
-ghost use Rattle.aos_designators.specs.Seen.{seen_part};
+ghost use Rattle.aos_bound.specs.Seen.{seen_part};
 
 use crate::refusals::refused;
 use aos_base::Pos;
-use aos_designators::{Part, entity_of_part};
+use aos_bound::{Part, entity_of_part};
 use aos_made_stat::MadeStat;
 use aos_symbols::{ARGUMENT_COUNT, Breach, Env, Lookup, Meaning, WRONG_CALL};
 use aos_tree::{Expr, Selector};

@@ -5,7 +5,7 @@ use Rattle.aos_symbols.specs.Judged.{walk}
 use Rattle.aos_operators.specs.Operations.{no_elements}
 use Rattle.aos_known.specs.Seen.{seen_answer, seen_entity}
 use Rattle.aos_arguments.specs.Seen.{seen_handing}
-use Rattle.aos_designators.specs.Seen.{seen_part}
+use Rattle.aos_bound.specs.Seen.{seen_part}
 use Rattle.aos_check_expr.specs.Expressions as judge
 use Rattle.aos_check_expr.proofs.expressions.+exprs.Given as goal
 

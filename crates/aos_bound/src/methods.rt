@@ -5,16 +5,14 @@ ghost use Rattle.aos_typed.specs.Seen.{seen_callee, seen_expr};
 ghost use Rattle.aos_symbols.specs.Breaches.{first_after};
 ghost use Rattle.aos_known.specs.Seen.{seen_entity};
 ghost use Rattle.aos_designators.specs.Designators as designators;
-ghost use Rattle.aos_designators.specs.Methods as judge;
-ghost use Rattle.aos_designators.specs.Seen.{seen_bound, seen_part};
+ghost use Rattle.aos_bound.specs.Methods as judge;
+ghost use Rattle.aos_bound.specs.Seen.{seen_bound, seen_part};
 
-use crate::designators::{
-    Head, is_module, member_behind, named, procedure_entity, refused_value_at, refused_variable_at,
-    variable_entity,
-};
-use crate::selectors::{field, followed};
-use crate::variables::is_of_module;
 use aos_base::Pos;
+use aos_designators::{
+    Head, field, followed, is_module, is_of_module, member_behind, named, procedure_entity,
+    refused_value_at, refused_variable_at, variable_entity,
+};
 use aos_known::{Entity, is_object_type, is_procedural, object_number, read_from};
 use aos_made::{MadeCallee, Typed};
 use aos_members::{Method, find_method};

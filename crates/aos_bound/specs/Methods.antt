@@ -17,8 +17,8 @@ use Rattle.aos_symbols.specs.Judged.{Judged, kept, bind}
 use Rattle.aos_members.specs.Members as members
 use Rattle.aos_known.specs.Known.{Entity, is, object_number, read_from}
 use Rattle.aos_designators.specs.declared.designators.Head.{Head}
-use Rattle.aos_designators.specs.declared.methods.Heading.{Heading}
-use Rattle.aos_designators.specs.declared.methods.Heading.TheVariants as heading
+use Rattle.aos_bound.specs.declared.methods.Heading.{Heading}
+use Rattle.aos_bound.specs.declared.methods.Heading.TheVariants as heading
 use Rattle.aos_designators.specs.Designators as desig
 
 -- a method, or what a value of a procedure type stands for, that waits for its bracket: what is called, its heading, and where its
