@@ -8,7 +8,7 @@ use Rattle.std.proofs.Math.Nat.{le-max_left, le-max_right}
 use Rattle.aos_base.specs.declared.text.Pos.{Pos}
 use Rattle.aos_base.specs.declared.number.Width.TheVariants.{W64}
 use Rattle.aos_base.specs.declared.number.Relation.{Relation}
-use Rattle.aos_base.specs.declared.number.Relation.TheVariants.{Less, LessEqual, GreaterEqual}
+use Rattle.aos_base.specs.declared.number.Relation.TheVariants.{Equal, Less, LessEqual, GreaterEqual}
 use Rattle.aos_base.specs.declared.operator.Binary.TheVariants as binary
 use Rattle.aos_code.specs.declared.instr.Kind.{Kind}
 use Rattle.aos_code.specs.declared.instr.Kind.TheVariants.{N, R, C, A}
@@ -21,6 +21,7 @@ use Rattle.aos_sound.specs.declared.stand.Role.TheVariants.{Procedure}
 use Rattle.aos_sound.specs.Sound.{Kinds, without, topped, given, called, alone, returned, may_stand}
 use Rattle.aos_typed.specs.declared.tree.Change.{Change as Changing}
 use Rattle.aos_typed.specs.declared.tree.Change.TheVariants as change
+use Rattle.std.specs.Ordering.{int_eq}
 use Rattle.aos_typed.specs.declared.tree.LabelRange.{LabelRange}
 use Rattle.aos_typed.specs.declared.tree.Literal.TheVariants as literal
 use Rattle.aos_typed.specs.declared.tree.TType.{TType}
@@ -35,10 +36,10 @@ use Rattle.aos_typed.specs.Program.{Program, Parameter, Procedure as Declared, A
 use Rattle.aos_typed.specs.Conditions.{Condition, conditions, IsLinked, AreLinked, AreArmsLinked, AreCasesLinked}
 use Rattle.aos_typed.specs.WellTyped.{amount_type, IsPlaceOf, IsOf, AreArguments, AreLengthsOf, IsInitialized, IsCall, IsReturn, IsStatement, AreStatements, AreArms, AreCases}
 use Rattle.aos_sim.specs.Code.{Within, NoRegion, AroundLoop, InLoop, Ways, loop_within, loop_ways, block_ways, block_at, block_code, exit_code, return_code, begin, kind_of, cells_of, place_code, arguments_code, value_code, values_code, make_instr, make_code, out_code, stash, unstash, initial_kinds, initialize_code, carry_out_instr, store_code, new_code, assign_code, change_code, changed_code, for_head, step_code, body_place, stat_code, stats_code, arms_code, cases_code, arm_place}
-use Rattle.aos_sim.specs.Search.{Search, Nowhere, At as Labels, Split, arms_in, search_of, label_code, search_size, search_code}
+use Rattle.aos_sim.specs.Search.{Search, Nowhere, At as Labels, Split, arms_in, search_of, one_code, range_code, label_code, label_size, search_size, search_code}
 use Rattle.aos_sim.specs.Need.{operands, arguments_need, place_need, value_need, values_need, out_need, assign_need, changed_need, stat_need, stats_need, arms_need, cases_need, stat_level, stats_level, arms_level, cases_level}
 use Rattle.aos_sim.proofs.Changes.{includes_itself}
-use Rattle.aos_sim.proofs.Sizes.{search_length, stats_length, arms_length, cases_length, arm_ahead, stats_above}
+use Rattle.aos_sim.proofs.Sizes.{label_length, search_length, stats_length, arms_length, cases_length, arm_ahead, stats_above}
 use Rattle.aos_sim.proofs.Routines.{object_there}
 use Rattle.aos_code_soundness.specs.Piece.{Round, At, Piece}
 use Rattle.aos_code_soundness.proofs.Pieces.{Entries, nothing, one, followed, both, one_then, then_one, left_with, moved, recoded, asks_less, jump_forth, branch, choose, arm, repeats, repeats_until, loops, stops}
@@ -281,13 +282,27 @@ module _ (p : Program) (o : Option Declared) (image : Image) (own : ℕ) (depth 
       (branch to {at = at + 1 + 1 + 1} {s = []} (omega (arith, ahead)) (omega (arith, room)))))
 
   -- labels
-  label_piece : (r : LabelRange) (d at hit : ℕ) → d < keeps → at + 9 ≤ hit → 2 ≤ depth → Piece image own Procedure depth (At hit []) (label_code r d at hit) at [] []
-  label_piece r d at hit lt le room =
+  one_piece : (z : ℤ) (d at hit : ℕ) → d < keeps → at + 5 ≤ hit → 2 ≤ depth → Piece image own Procedure depth (At hit []) (one_code z d at hit) at [] []
+  one_piece z d at hit lt le room =
+      let Both : Round = λ whole kinds. (kinds hit ≡ Some []) × (kinds (at + 5) ≡ Some []) in
+      let test = asks_less Both (test_piece Equal z d (at + 5) at lt (omega arith) room) (λ whole kinds st f g q. q.1) in
+      let over = asks_less Both (jump_forth hit {at = at + 4} {s = []} {u = []} (omega (arith, le)) (omega arith)) (λ whole kinds st f g q. q.0) in
+      asks_less (At hit []) (both test over) (λ whole kinds st f g q. (q, g))
+
+  range_piece : (r : LabelRange) (d at hit : ℕ) → d < keeps → at + 9 ≤ hit → 2 ≤ depth → Piece image own Procedure depth (At hit []) (range_code r d at hit) at [] []
+  range_piece r d at hit lt le room =
       let Both : Round = λ whole kinds. (kinds hit ≡ Some []) × (kinds (at + 9) ≡ Some []) in
       let low = asks_less Both (test_piece GreaterEqual r.low d (at + 9) at lt (omega arith) room) (λ whole kinds st f g q. q.1) in
       let high = asks_less Both (test_piece LessEqual r.high d (at + 9) (at + 4) lt (omega arith) room) (λ whole kinds st f g q. q.1) in
       let over = asks_less Both (jump_forth hit {at = at + 4 + 4} {s = []} {u = []} (omega (arith, le)) (omega arith)) (λ whole kinds st f g q. q.0) in
       asks_less (At hit []) (both low (both high over)) (λ whole kinds st f g q. (q, g))
+
+  label_piece : (r : LabelRange) (d at hit : ℕ) → d < keeps → at + label_size r ≤ hit → 2 ≤ depth → Piece image own Procedure depth (At hit []) (label_code r d at hit) at [] []
+  label_piece r d at hit lt le room = by (int_eq r.low r.high) le
+    where
+      by : (b : Bool) → at + (if b then 5 else 9) ≤ hit → Piece image own Procedure depth (At hit []) (if b then one_code r.low d at hit else range_code r d at hit) at [] []
+      by true le = one_piece r.low d at hit lt le room
+      by false le = range_piece r d at hit lt le room
 
   -- a search
   search_piece : (place : ℕ → ℕ) (other : ℕ) (t : Search) (d at : ℕ) → d < keeps → ((n : ℕ) → at + search_size t ≤ place n) → 2 ≤ depth → Piece image own Procedure depth (AtAll place) (search_code place other t d at) at [] []
@@ -295,7 +310,8 @@ module _ (p : Program) (o : Option Declared) (image : Image) (own : ℕ) (depth 
       asks_less (AtAll place) (jump_forth (place other) {at = at} {s = []} {u = []} (omega (arith, ahead other)) (omega arith)) (λ whole kinds st f g q. q other)
   search_piece place other (Labels r) d at lt ahead room =
       both (asks_less (AtAll place) (label_piece r.labels d at (place r.arm) lt (omega (arith, ahead r.arm)) room) (λ whole kinds st f g q. q r.arm))
-      (asks_less (AtAll place) (jump_forth (place other) {at = at + 9} {s = []} {u = []} (omega (arith, ahead other)) (omega arith)) (λ whole kinds st f g q. q other))
+      (moved (ap (λ n. at + n) (sym (label_length r.labels d at (place r.arm))))
+      (asks_less (AtAll place) (jump_forth (place other) {at = at + label_size r.labels} {s = []} {u = []} (omega (arith, ahead other)) (omega arith)) (λ whole kinds st f g q. q other)))
   search_piece place other (Split middle below above) d at lt ahead room =
       let to = at + 4 + search_size below in
       let Both : Round = λ whole kinds. AtAll place whole kinds × (kinds to ≡ Some []) in

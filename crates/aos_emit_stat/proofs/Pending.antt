@@ -2,11 +2,12 @@
 -- with the right ones.
 use Rattle.std.proofs.Common.{◌≡◌, ℕ, zero, suc, Option, Some, None, ◌+◌, ◌<◌, ◌≤◌, ℤ, pos, Bool, true, false, List, [], ◌∷◌, ◌++◌, length, map, refl, ap, ◌∙◌, arith, length-append}
 use Rattle.std.specs.Prelude.{nat_eq, if◌then◌else◌}
+use Rattle.std.specs.Ordering.{int_eq}
+use Rattle.aos_typed.specs.declared.tree.LabelRange.{LabelRange}
 use Rattle.std.proofs.lemmas.Bool.{eq-eqb, eqb-true}
 use Rattle.std.proofs.lemmas.List.{map-append}
 use Rattle.aos_base.specs.declared.text.Pos.{Pos}
 use Rattle.aos_base.specs.declared.number.Width.{Width}
-use Rattle.aos_base.specs.declared.number.Relation.TheVariants.{LessEqual, GreaterEqual}
 use Rattle.aos_base.specs.declared.operator.Binary.TheVariants.{Cmp, Add}
 use Rattle.aos_typed.specs.declared.tree.Literal.{Literal}
 use Rattle.aos_typed.specs.declared.tree.Literal.TheVariants as literal
@@ -23,7 +24,7 @@ use Rattle.aos_code.specs.declared.instr.Kind.TheVariants.{N}
 use Rattle.aos_typed.specs.Methods.{is_active, body_type, initializer}
 use Rattle.aos_typed.specs.Numbers.{body_number}
 use Rattle.aos_sim.specs.Code.{Within, NoRegion, AroundLoop, InLoop, Ways, block_within, block_at, block_code, loop_within, exit_code, return_code, begin, literal_code, lengths_code, drops, dimensions, make_instr, call_instr, own_cell, place_code, rows_code, arguments_code, receiver_code, value_code, values_code, make_code, out_code, stash, unstash, initial_kinds, initialize_code, carry_out_instr, store_code, new_code, change_code, changed_code, assign_code, for_head, step_code, body_place, rounds_with, stat_code, stats_code, arms_code, cases_code, arm_place}
-use Rattle.aos_sim.specs.Search.{Search, Nowhere, At, Split, arms_in, search_of, search_size, search_code}
+use Rattle.aos_sim.specs.Search.{Search, Nowhere, At, Split, arms_in, search_of, one_code, range_code, label_code, search_size, search_code}
 use Rattle.aos_sim.proofs.Sizes.{way, search_length, stat_length, stats_length, arms_length, cases_length}
 use Rattle.aos_emit_stat.specs.Redirect.{redirected, redirect}
 
@@ -253,10 +254,16 @@ module _ (p x : ℕ) where
         (both (moved (omega (arith, counted)) (assign_turns here (Integer w) q (Binary (Add w) (Read (Integer w) q) (Lit (literal.Int step))) (body_place program own w q t + length b)))
         (jump t (omega (arith, lt)))))))))
 
+    label_turns : (at d hit : ℕ) (r : LabelRange) → hit < p → Turns at (label_code r d at hit) (label_code r d at hit)
+    label_turns at d hit r lt = by (int_eq r.low r.high)
+      where
+        by : (b : Bool) → Turns at (if b then one_code r.low d at hit else range_code r d at hit) (if b then one_code r.low d at hit else range_code r d at hit)
+        by true = turn refl (turn refl (turn refl (turn refl (jump hit lt))))
+        by false = turn refl (turn refl (turn refl (turn refl (turn refl (turn refl (turn refl (turn refl (jump hit lt))))))))
+
     search_turns : (place : ℕ → ℕ) (other : ℕ) → ((n : ℕ) → place n < p) → (t : Search) (d at : ℕ) → Turns at (search_code place other t d at) (search_code place other t d at)
     search_turns place other lt Nowhere d at = jump (place other) (lt other)
-    search_turns place other lt (At r) d at =
-        record { is = λ below. (λ j. i.Kept d N ∷ i.Num r.labels.low ∷ i.Binary (Cmp GreaterEqual) ∷ i.JumpFalse (at + 9) ∷ i.Kept d N ∷ i.Num r.labels.high ∷ i.Binary (Cmp LessEqual) ∷ i.JumpFalse (at + 9) ∷ i.Jump (known (place r.arm) (lt r.arm) j) ∷ i.Jump (known (place other) (lt other) j) ∷ []) }
+    search_turns place other lt (At r) d at = both (label_turns at d (place r.arm) r.labels (lt r.arm)) (jump (place other) (lt other))
     search_turns place other lt (Split middle below above) d at =
         turn refl (turn refl (turn refl (turn refl
         (both (moved (omega arith) (search_turns place other lt below d (at + 4)))

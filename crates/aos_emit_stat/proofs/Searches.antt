@@ -1,10 +1,12 @@
 -- The code of a search, half by half, and its jumps, which are told where the arms begin.
-use Rattle.std.proofs.Common.{◌≡◌, Option, ℕ, zero, suc, ◌+◌, ◌-◌, ◌/◌, ◌<◌, ◌≤◌, List, [], ◌∷◌, ◌++◌, length, get_or, map, take, drop, refl, sym, ap, ◌∙◌, arith, append_assoc, length-append}
+use Rattle.std.proofs.Common.{◌≡◌, Option, ℕ, zero, suc, ◌+◌, ◌-◌, ◌/◌, ◌<◌, ◌≤◌, Bool, true, false, if◌then◌else◌, List, [], ◌∷◌, ◌++◌, length, get_or, map, take, drop, refl, sym, ap, ◌∙◌, arith, append_assoc, length-append}
 use Rattle.std.specs.Prelude.{slice_set}
+use Rattle.std.specs.Ordering.{int_eq}
 use Rattle.std.proofs.Math.Seq.{set-append_seam}
 use Rattle.std.proofs.lemmas.List.{map-append, drop_more, take_at, drop_at}
 use Rattle.aos_base.specs.declared.number.Relation.TheVariants.{Less}
 use Rattle.aos_base.specs.declared.operator.Binary.TheVariants.{Cmp}
+use Rattle.aos_typed.specs.declared.tree.LabelRange.{LabelRange}
 use Rattle.aos_typed.specs.declared.tree.LabelRow.{LabelRow}
 use Rattle.aos_typed.specs.declared.tree.TCase.{TCase, out-TCase}
 use Rattle.aos_typed.specs.declared.tree.TElse.{TElse}
@@ -14,7 +16,7 @@ use Rattle.aos_typed.specs.Seen.{seen_else, cases_of}
 use Rattle.aos_code.specs.declared.instr.Instr.{Instr}
 use Rattle.aos_code.specs.declared.instr.Instr.TheVariants as i
 use Rattle.aos_code.specs.declared.instr.Kind.TheVariants.{N}
-use Rattle.aos_sim.specs.Search.{rows_to, rows_from, arms_in, in_order, Search, Nowhere, At, Split, lowest, halved, search_of, search_size, search_code}
+use Rattle.aos_sim.specs.Search.{rows_to, rows_from, arms_in, in_order, Search, Nowhere, At, Split, lowest, halved, search_of, one_code, range_code, label_code, search_size, search_code}
 use Rattle.aos_sim.specs.Code.{Within, Ways, stats_code, cases_code, arm_place}
 use Rattle.aos_sim.proofs.Sizes.{way, search_length, cases_length}
 use Rattle.aos_emit_stat.specs.Places.{places_from, place_in, led}
@@ -49,9 +51,18 @@ more_halved deep half (r ∷ s ∷ rows) d lt e =
     ∙ ap (λ l. Split (lowest l r.labels.low) (halved deep (take half all)) (halved deep (drop half all))) (drop_more all half d within)
 
 -- the jumps to the numbers of arms lead to their places
+label_led : (f : ℕ → ℕ) (r : LabelRange) (level at hit : ℕ) → map (led f) (label_code r level at hit) ≡ label_code r level at (f hit)
+label_led f r level at hit = by (int_eq r.low r.high)
+  where
+    by : (b : Bool) → map (led f) (if b then one_code r.low level at hit else range_code r level at hit) ≡ (if b then one_code r.low level at (f hit) else range_code r level at (f hit))
+    by true = refl
+    by false = refl
+
 pub search_led : (f place : ℕ → ℕ) (other : ℕ) (t : Search) (level at : ℕ) → map (led f) (search_code place other t level at) ≡ search_code (λ n. f (place n)) other t level at
 search_led f place other Nowhere level at = refl
-search_led f place other (At r) level at = refl
+search_led f place other (At r) level at =
+    map-append (led f) (label_code r.labels level at (place r.arm)) (i.Jump (place other) ∷ [])
+    ∙ ap (λ l. l ++ i.Jump (f (place other)) ∷ []) (label_led f r.labels level at (place r.arm))
 search_led f place other (Split middle below above) level at =
     let front = i.Kept level N ∷ i.Num middle ∷ i.Binary (Cmp Less) ∷ i.JumpFalse (at + 4 + search_size below) ∷ [] in
     let lower = search_code place other below level (at + 4) in

@@ -4,7 +4,7 @@
 ghost use Rattle.std.specs.Prelude.{◌≡◌, ◌<◌, suc, [], ◌∷◌, ◌++◌, length, map, IfOk, OnOk};
 ghost use Rattle.aos_typed.specs.Program.{NoElse};
 ghost use Rattle.aos_typed.specs.Seen.{cases_of};
-ghost use Rattle.aos_sim.specs.Search.{rows_to, rows_from, in_order, halved, label_code, search_code};
+ghost use Rattle.aos_sim.specs.Search.{rows_to, rows_from, in_order, halved, one_code, range_code, label_code, search_code};
 ghost use Rattle.aos_emit_stat.specs.Places.{place_in, led};
 
 use aos_base::{Binary, Relation};
@@ -72,7 +72,33 @@ fn put_bound(
     put(code, Instr::JumpFalse(past))
 }
 
+// One value: where the selector's value is it the code goes on at `hit`.
+fn put_one(code: &mut Vec<Instr>, value: &i64, level: u32, hit: u32) -> Result<(), AllocError>
+    ensures { OnOk result (code.new.items ≡
+        code.old.items ++ one_code value.now level (length code.old.items) hit) }
+{
+    let past = number_of(code.len() + 5)?;
+    put_bound(code, Relation::Equal, value, level, past)?;
+    put(code, Instr::Jump(hit))
+}
+
 // A range of labels: where the selector's value is in it the code goes on at `hit`.
+fn put_range(
+    code: &mut Vec<Instr>,
+    range: &LabelRange,
+    level: u32,
+    hit: u32,
+) -> Result<(), AllocError>
+    ensures { OnOk result (code.new.items ≡
+        code.old.items ++ range_code range.now level (length code.old.items) hit) }
+{
+    let past = number_of(code.len() + 9)?;
+    put_bound(code, Relation::GreaterEqual, &range.low, level, past)?;
+    put_bound(code, Relation::LessEqual, &range.high, level, past)?;
+    put(code, Instr::Jump(hit))
+}
+
+// A label, which has one value or more.
 fn put_label(
     code: &mut Vec<Instr>,
     range: &LabelRange,
@@ -82,10 +108,11 @@ fn put_label(
     ensures { OnOk result (code.new.items ≡
         code.old.items ++ label_code range.now level (length code.old.items) hit) }
 {
-    let past = number_of(code.len() + 9)?;
-    put_bound(code, Relation::GreaterEqual, &range.low, level, past)?;
-    put_bound(code, Relation::LessEqual, &range.high, level, past)?;
-    put(code, Instr::Jump(hit))
+    if range.low == range.high {
+        put_one(code, &range.low, level, hit)
+    } else {
+        put_range(code, range, level, hit)
+    }
 }
 
 // The search in two halves. The jump over the lower one is told its target when that is known.

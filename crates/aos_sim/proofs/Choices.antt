@@ -3,13 +3,14 @@ use Rattle.std.proofs.Common.{◌≡◌, ◌⊎◌, ℕ, suc, ℤ, ◌+◌, ◌<
 use Rattle.std.specs.List.{list_any}
 use Rattle.std.proofs.Math.Nat.{le-max_left, le-max_right}
 use Rattle.aos_base.specs.declared.number.Relation.{Relation}
-use Rattle.aos_base.specs.declared.number.Relation.TheVariants.{Less, LessEqual, GreaterEqual}
+use Rattle.aos_base.specs.declared.number.Relation.TheVariants.{Equal, Less, LessEqual, GreaterEqual}
 use Rattle.aos_base.specs.declared.number.Width.TheVariants.{W64}
 use Rattle.aos_base.specs.declared.operator.Binary.TheVariants.{Cmp}
 use Rattle.aos_base.specs.declared.text.Pos.{Pos}
 use Rattle.aos_base.specs.Number.{holds}
 use Rattle.aos_base.specs.Question.{Val, bind}
 use Rattle.aos_types.specs.World.{World}
+use Rattle.std.specs.Ordering.{int_eq}
 use Rattle.aos_typed.specs.declared.tree.LabelRange.{LabelRange}
 use Rattle.aos_typed.specs.declared.tree.TType.{TType}
 use Rattle.aos_typed.specs.declared.tree.TType.TheVariants as type
@@ -25,15 +26,15 @@ use Rattle.aos_code.specs.declared.instr.Instr.TheVariants as i
 use Rattle.aos_code.specs.declared.instr.Kind.TheVariants.{N}
 use Rattle.aos_code.specs.Numbered.{numbered}
 use Rattle.aos_code.specs.Silent.{Keeps, kept, keeps_in}
-use Rattle.aos_sim.specs.Search.{Search, Nowhere, At, Split, arms_in, search_of, found, label_code, search_size, search_code}
+use Rattle.aos_sim.specs.Search.{Search, Nowhere, At, Split, arms_in, search_of, found, one_code, range_code, label_code, label_size, search_size, search_code}
 use Rattle.aos_sim.specs.Code.{Ways, begin, value_code, stats_code, cases_code, arm_place}
 use Rattle.aos_sim.specs.Need.{stats_level, cases_level}
 use Rattle.aos_sim.proofs.Runs.{Tables, Run, Onward, runs, run, drop_next, drop_past}
 use Rattle.aos_sim.proofs.Does.{HasTypes, HasShapes, Does, along}
 use Rattle.aos_sim.proofs.Evaluates.{operand_does}
 use Rattle.aos_sim.proofs.Exprs.{value_does}
-use Rattle.aos_sim.proofs.Searches.{arm_of, found_first}
-use Rattle.aos_sim.proofs.Sizes.{search_length, cases_length, arm_ahead}
+use Rattle.aos_sim.proofs.Searches.{arm_of, only, found_first}
+use Rattle.aos_sim.proofs.Sizes.{label_length, search_length, cases_length, arm_ahead}
 use Rattle.aos_sim.proofs.Carries.{kept_here, kept_below, Stands, Same, Holds, HasStatements, Carries, bound, moved, survives, GoesOn, Behind, carries_all, StatementDoes}
 use Rattle.aos_sim.proofs.Stats.{from_here, jumps_on, keeps_number, takes_number}
 use Rattle.aos_sim.proofs.Loops.{jumps_if}
@@ -71,7 +72,17 @@ module _ (program : Program) (own : Option Procedure) (tables : Tables) (number 
         from_here program own tables number here code p (i.Jump to ∷ rest) k [] st
         ∙ jumps_on program own tables number here code rest to p k [] lt (drop_next p code (i.Jump to) rest st)
 
-    range_runs : (r : LabelRange) (p hit : ℕ) (rest : List Instr) → p + 9 ≤ hit → drop p code ≡ label_code r d p hit ++ rest → from p k ≡ from (if is_in z r then hit else p + 9) k
+    one_runs : (l : ℤ) (p hit : ℕ) (rest : List Instr) → p + 5 ≤ hit → drop p code ≡ one_code l d p hit ++ rest → from p k ≡ from (if holds Equal z l then hit else p + 5) k
+    one_runs l p hit rest le st =
+        let last = i.Jump hit ∷ rest in
+        let h4 : drop (p + 4) code ≡ last = drop_past (test Equal l (p + 5) []) p code last st in
+        label_runs Equal l (p + 5) p last (omega arith) st ∙ by (holds Equal z l) (leads hit (p + 4) rest (omega (arith, le)) h4)
+      where
+        by : (b : Bool) → from (p + 4) k ≡ from hit k → from (if b then p + 4 else p + 5) k ≡ from (if b then hit else p + 5) k
+        by true jump = jump
+        by false jump = refl
+
+    range_runs : (r : LabelRange) (p hit : ℕ) (rest : List Instr) → p + 9 ≤ hit → drop p code ≡ range_code r d p hit ++ rest → from p k ≡ from (if is_in z r then hit else p + 9) k
     range_runs r p hit rest le st =
         let last = i.Jump hit ∷ rest in
         let second = test LessEqual r.high (p + 9) last in
@@ -85,17 +96,27 @@ module _ (program : Program) (own : Option Procedure) (tables : Tables) (number 
         both true false out q hit e2 jump = e2
         both true true out q hit e2 jump = e2 ∙ jump
 
+    labels_run : (r : LabelRange) (p hit : ℕ) (rest : List Instr) → p + label_size r ≤ hit → drop p code ≡ label_code r d p hit ++ rest → from p k ≡ from (if is_in z r then hit else p + label_size r) k
+    labels_run r p hit rest le st = by (int_eq r.low r.high) refl le st
+      where
+        by : (b : Bool) → int_eq r.low r.high ≡ b → p + (if b then 5 else 9) ≤ hit → drop p code ≡ (if b then one_code r.low d p hit else range_code r d p hit) ++ rest → from p k ≡ from (if is_in z r then hit else p + (if b then 5 else 9)) k
+        by true one le st = one_runs r.low p hit rest le st ∙ ap (λ b. from (if b then hit else p + 5) k) (only z r one)
+        by false one le st = range_runs r p hit rest le st
+
     -- and the search goes on at the place of the arm that it finds
     search_runs : (place : ℕ → ℕ) (other : ℕ) (t : Search) (p : ℕ) (rest : List Instr) → ((n : ℕ) → p + search_size t ≤ place n) → drop p code ≡ search_code place other t d p ++ rest → from p k ≡ from (place (found z other t)) k
     search_runs place other Nowhere p rest ahead st = leads (place other) p rest (omega (arith, ahead other)) st
     search_runs place other (At r) p rest ahead st =
         let last = i.Jump (place other) ∷ rest in
-        range_runs r.labels p (place r.arm) last (omega (arith, ahead r.arm)) st
-        ∙ by (is_in z r.labels) (leads (place other) (p + 9) rest (omega (arith, ahead other)) (drop_past (label_code r.labels d p (place r.arm)) p code last st))
+        let q = p + label_size r.labels in
+        let whole : drop p code ≡ label_code r.labels d p (place r.arm) ++ last = st ∙ append_assoc (label_code r.labels d p (place r.arm)) (i.Jump (place other) ∷ []) rest in
+        let behind : drop q code ≡ last = ap (λ n. drop (p + n) code) (sym (label_length r.labels d p (place r.arm))) ∙ drop_past (label_code r.labels d p (place r.arm)) p code last whole in
+        labels_run r.labels p (place r.arm) last (omega (arith, ahead r.arm)) whole
+        ∙ by (is_in z r.labels) q (leads (place other) q rest (omega (arith, ahead other)) behind)
       where
-        by : (b : Bool) → from (p + 9) k ≡ from (place other) k → from (if b then place r.arm else p + 9) k ≡ from (place (if b then r.arm else other)) k
-        by true jump = refl
-        by false jump = jump
+        by : (b : Bool) (q : ℕ) → from q k ≡ from (place other) k → from (if b then place r.arm else q) k ≡ from (place (if b then r.arm else other)) k
+        by true q jump = refl
+        by false q jump = jump
     search_runs place other (Split middle below above) p rest ahead st =
         let q = p + 4 + search_size below in
         let b = search_code place other below d (p + 4) in

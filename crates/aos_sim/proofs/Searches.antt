@@ -4,6 +4,8 @@ use Rattle.std.proofs.Common.{◌≡◌, ℕ, zero, suc, ℤ, ◌+◌, ◌/◌, 
 use Rattle.std.specs.List.{list_any}
 use Rattle.std.proofs.lemmas.Bool.{and_from, and_parts, or_parts, false_from_ne_true}
 use Rattle.std.proofs.lemmas.Int.{ints}
+use Rattle.std.specs.Ordering.{int_eq}
+use Rattle.std.proofs.lemmas.Bool.Decides.{Decides-int_eq, same_from_decides}
 use Rattle.aos_typed.specs.declared.tree.LabelRange.{LabelRange}
 use Rattle.aos_typed.specs.declared.tree.LabelRow.{LabelRow}
 use Rattle.aos_typed.specs.Meaning.{is_in}
@@ -16,6 +18,15 @@ use Rattle.aos_sim.proofs.Results.{is_least}
 
 within : (z : ℤ) (r : LabelRange) → is_in z r ≡ true → (r.low ≤ℤ z) × (z ≤ℤ r.high)
 within z r e = let p = and_parts (int_le r.low z) (int_le z r.high) e in (omega (arith, ints, p.0), omega (arith, ints, p.1))
+
+-- a value is in a label that has one value where it is that one
+pub only : (z : ℤ) (r : LabelRange) → int_eq r.low r.high ≡ true → int_eq z r.low ≡ is_in z r
+only z r one =
+    let same : r.low ≡ r.high = (Decides-int_eq r.low r.high).0 one in
+    same_from_decides (int_eq z r.low) (is_in z r) (Decides-int_eq z r.low) (
+      (λ e. let p = within z r e in omega (arith, ints, p.0, p.1, same)),
+      (λ e. and_from _ _ (is_least r.low z (omega (arith, ints, e))) (is_least z r.high (omega (arith, ints, e, same)))),
+    )
 
 meeting : (r s : LabelRange) → r.low ≤ℤ s.high → s.low ≤ℤ r.high → r.low ≤ℤ r.high → s.low ≤ℤ s.high → meets r s ≡ false → ⊥
 meeting r s a b c d e = cc (e, and_from _ _ (and_from _ _ (is_least r.low s.high a) (is_least s.low r.high b)) (and_from _ _ (is_least r.low r.high c) (is_least s.low s.high d)))

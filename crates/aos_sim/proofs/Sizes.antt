@@ -1,23 +1,34 @@
 -- How long the code of statements is depends neither on where EXIT leads nor on where an arm goes on, so each jump forward knows where
 -- it goes; and what is around statements is not counted again.
-use Rattle.std.proofs.Common.{◌≡◌, ℕ, zero, suc, ◌+◌, ◌≤◌, ℤ, Bool, true, false, Option, Some, None, List, [], ◌∷◌, ◌++◌, length, refl, ap, ◌∙◌, arith, length-append}
+use Rattle.std.proofs.Common.{◌≡◌, ℕ, zero, suc, ◌+◌, ◌≤◌, ℤ, Bool, true, false, Option, Some, None, List, [], ◌∷◌, ◌++◌, length, if◌then◌else◌, refl, ap, ◌∙◌, arith, length-append}
 use Rattle.std.proofs.Math.Nat.{le-max_left}
 use Rattle.aos_base.specs.declared.text.Pos.{Pos}
 use Rattle.aos_base.specs.declared.number.Width.{Width}
+use Rattle.std.specs.Ordering.{int_eq}
+use Rattle.aos_typed.specs.declared.tree.LabelRange.{LabelRange}
 use Rattle.aos_typed.specs.declared.tree.TType.TheVariants.{Integer}
 use Rattle.aos_typed.specs.Program.{Place, Read, Stat, Assign, Copy, PutText, If, Case, While, Repeat, Loop, Exit, For, Block, Await, Assert, Halt, Change, Perform, Return, New, Make, With, WithRecord, Out, Stats, Nothing, Then, Arms, Otherwise, Arm, Cases, NoElse, Else, OfLabels, Procedure, Program}
 use Rattle.aos_code.specs.declared.instr.Instr.{Instr}
 use Rattle.aos_code.specs.declared.instr.Instr.TheVariants as i
 use Rattle.aos_code.specs.declared.instr.Kind.TheVariants.{N}
-use Rattle.aos_sim.specs.Search.{Search, Nowhere, At, Split, arms_in, search_of, search_size, search_code}
+use Rattle.aos_sim.specs.Search.{Search, Nowhere, At, Split, arms_in, search_of, one_code, range_code, label_code, label_size, search_size, search_code}
 use Rattle.aos_sim.specs.Code.{Within, NoRegion, AroundLoop, InLoop, Ways, block_within, block_at, block_code, exit_code, place_code, value_code, while_code, repeat_code, arm_code, round_code, for_head, step_code, body_place, rounds_with, stat_code, stats_code, arms_code, cases_code, arm_place}
 use Rattle.aos_sim.specs.Need.{stat_level, stats_level, arms_level, cases_level}
 use Rattle.aos_typed.specs.Operands.{operands}
 
--- a search has as many instructions wherever it stands and leads to
+-- a label has as many instructions wherever it stands and leads to
+pub label_length : (r : LabelRange) (d at hit : ℕ) → length (label_code r d at hit) ≡ label_size r
+label_length r d at hit = by (int_eq r.low r.high)
+  where
+    by : (b : Bool) → length (if b then one_code r.low d at hit else range_code r d at hit) ≡ (if b then 5 else 9)
+    by true = refl
+    by false = refl
+
+-- and so has a search
 pub search_length : (place : ℕ → ℕ) (other : ℕ) (t : Search) (d at : ℕ) → length (search_code place other t d at) ≡ search_size t
 search_length place other Nowhere d at = refl
-search_length place other (At r) d at = refl
+search_length place other (At r) d at =
+    omega (arith, length-append (label_code r.labels d at (place r.arm)) (i.Jump (place other) ∷ []), label_length r.labels d at (place r.arm))
 search_length place other (Split middle below above) d at =
     let b = search_code place other below d (at + 4) in
     let from = at + 4 + search_size below in

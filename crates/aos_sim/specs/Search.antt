@@ -1,6 +1,7 @@
 -- How a CASE's arm is found: its labels in order, halved again and again, so that few comparisons tell where a value is.
 use Rattle.std.specs.Prelude.{ℕ, zero, suc, ℤ, ◌+◌, ◌/◌, int_le, int_lt, if◌then◌else◌, List, [], ◌∷◌, ◌++◌, length, take, drop}
-use Rattle.aos_base.specs.declared.number.Relation.TheVariants.{Less, LessEqual, GreaterEqual}
+use Rattle.std.specs.Ordering.{int_eq}
+use Rattle.aos_base.specs.declared.number.Relation.TheVariants.{Equal, Less, LessEqual, GreaterEqual}
 use Rattle.aos_base.specs.declared.operator.Binary.TheVariants.{Cmp}
 use Rattle.aos_typed.specs.declared.tree.LabelRange.{LabelRange}
 use Rattle.aos_typed.specs.declared.tree.LabelRow.{LabelRow}
@@ -64,15 +65,25 @@ found z other Nowhere = other
 found z other (At r) = if is_in z r.labels then r.arm else other
 found z other (Split middle below above) = if int_lt z middle then found z other below else found z other above
 
--- a range of labels: where the selector's value, which is kept, is in it the code goes on there
-abbrev pub label_code : LabelRange → (level at hit : ℕ) → List Instr
-label_code r level at hit =
+-- a value, and a range of labels: where the selector's value, which is kept, is it or is in it the code goes on there
+abbrev pub one_code : ℤ → (level at hit : ℕ) → List Instr
+one_code z level at hit = Kept level N ∷ Num z ∷ Binary (Cmp Equal) ∷ JumpFalse (at + 5) ∷ Jump hit ∷ []
+
+abbrev pub range_code : LabelRange → (level at hit : ℕ) → List Instr
+range_code r level at hit =
     Kept level N ∷ Num r.low ∷ Binary (Cmp GreaterEqual) ∷ JumpFalse (at + 9)
     ∷ Kept level N ∷ Num r.high ∷ Binary (Cmp LessEqual) ∷ JumpFalse (at + 9) ∷ Jump hit ∷ []
 
+-- a label, which has one value or more
+abbrev pub label_code : LabelRange → (level at hit : ℕ) → List Instr
+label_code r level at hit = if int_eq r.low r.high then one_code r.low level at hit else range_code r level at hit
+
+abbrev pub label_size : LabelRange → ℕ
+label_size r = if int_eq r.low r.high then 5 else 9
+
 abbrev pub search_size : Search → ℕ
 search_size Nowhere = 1
-search_size (At r) = 10
+search_size (At r) = suc (label_size r.labels)
 search_size (Split middle below above) = 4 + search_size below + search_size above
 
 -- the search, from which the code goes on at the place of the arm that has the selector's value, or of the other one

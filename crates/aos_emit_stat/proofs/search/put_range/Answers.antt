@@ -6,7 +6,7 @@ use Rattle.aos_base.specs.declared.operator.Binary.TheVariants.{Cmp}
 use Rattle.aos_code.specs.declared.instr.Instr.{Instr}
 use Rattle.aos_code.specs.declared.instr.Instr.TheVariants as i
 use Rattle.aos_code.specs.declared.instr.Kind.TheVariants.{N}
-use Rattle.aos_emit_stat.proofs.search.put_label.Goals as goal
+use Rattle.aos_emit_stat.proofs.search.put_range.Goals as goal
 
 pub returns : goal.returns
 returns c =
