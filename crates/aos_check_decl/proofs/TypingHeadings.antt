@@ -260,7 +260,7 @@ module _ (c : Telling) (path : List Open) (searched : Each (IsSearched c) path) 
       })
   member_sound e k f are (decl.Types' p shape row) = λ h. members_are e k (k + 0) f (omega arith) are
   member_sound e k f are (decl.Vars' p shape row) = fields_members e k f are row
-  member_sound e k f are (decl.Proc' p i def formals shape row body end) = λ h. members_are e k (k + 0) f (omega arith) are
+  member_sound e k f are (decl.Proc' o shape row) = λ h. members_are e k (k + 0) f (omega arith) are
 
   abbrev pub variables_in : {n : _} → Row_of-Decl n → ℕ
   variables_in row = length (single_variables (items-the_row-Decl _ row))
@@ -582,7 +582,7 @@ module _ (c : Telling) (path : List Open) (searched : Each (IsSearched c) path) 
   declared_sound out e fit (decl.Vars' p shape row) slots =
       let vs = items-the_row-VarDef _ row in
       walked judge.variable_def (λ v. v.defs) (λ v. []) (λ e fit v slots. variable_sound c path searched out e fit v) vs (subst (Each Slotted) (sym (flat_none {X = VarDef} {Y = TypeDef} vs)) tt) e fit
-  declared_sound out e fit (decl.Proc' p i def formals shape row body end) slots = λ h. nothing_more c path searched e fit
+  declared_sound out e fit (decl.Proc' o shape row) slots = λ h. nothing_more c path searched e fit
 
   pub declarations_sound : IsOut c path searched → (ds : List Decl) → Each Slotted (type_defs ds) → (e : Env) → IsFit c path e →
       Holds (Behind (length (single_variables ds)) e) (walk judge.declared e ds)
@@ -597,7 +597,7 @@ module _ (c : Telling) (path : List Open) (searched : Each (IsSearched c) path) 
       subst (λ (vs : List Def). Holds (Behind (length vs) e) (walk judge.type_def e ds)) (flat_none {X = TypeDef} {Y = Def} ds)
       (walked judge.type_def (λ d. []) (λ d. d ∷ []) (λ e fit d slots. type_inside deep e fit d slots.0) ds (subst (Each Slotted) (sym (flat_each ds)) slots) e fit)
   inner_declared_sound deep e fit (decl.Vars' p shape row) slots = λ h. nothing_more c path searched e fit
-  inner_declared_sound deep e fit (decl.Proc' p i def formals shape row body end) slots = λ h. nothing_more c path searched e fit
+  inner_declared_sound deep e fit (decl.Proc' o shape row) slots = λ h. nothing_more c path searched e fit
 
   pub inner_sound : IsInside → (ds : List Decl) → Each Slotted (type_defs ds) → (e : Env) → IsFit c path e → Holds (Behind 0 e) (walk judge.inner_declared e ds)
   inner_sound deep ds slots e fit =

@@ -113,8 +113,8 @@ module _ (text : List ℕ) where
       subst (Each P) (sym (map-append (λ (d : TypeDef). d.def.name) ts (type_defs ds)))
       (joined P (type_names ts) (type_names (type_defs ds)) (front P (type_names ts) (declared_names ds) all) (some_names P ds (back P (type_names ts) (declared_names ds) all)))
   some_names P (decl.Vars' p shape row ∷ ds) all = some_names P ds (back P (names_in (decl.Vars' p shape row)) (declared_names ds) all)
-  some_names P (decl.Proc' p i def formals shape row body end ∷ ds) all =
-      some_names P ds (back P (names_in (decl.Proc' p i def formals shape row body end)) (declared_names ds) all)
+  some_names P (decl.Proc' o shape row ∷ ds) all =
+      some_names P ds (back P (names_in (decl.Proc' o shape row)) (declared_names ds) all)
 
   types_differ : (ds : List Decl) → Differ (declared_names ds) → Differ (type_names (type_defs ds))
   types_differ [] d = tt
@@ -126,8 +126,8 @@ module _ (text : List ℕ) where
       (implied (λ x. Each (AreApart x) (declared_names ds)) (λ x. Each (AreApart x) (type_names (type_defs ds))) (λ x all. some_names (AreApart x) ds all) (type_names ts)
       (differ_across (type_names ts) (declared_names ds) d)))
   types_differ (decl.Vars' p shape row ∷ ds) d = types_differ ds (differ_back (names_in (decl.Vars' p shape row)) (declared_names ds) d)
-  types_differ (decl.Proc' p i def formals shape row body end ∷ ds) d =
-      types_differ ds (differ_back (names_in (decl.Proc' p i def formals shape row body end)) (declared_names ds) d)
+  types_differ (decl.Proc' o shape row ∷ ds) d =
+      types_differ ds (differ_back (names_in (decl.Proc' o shape row)) (declared_names ds) d)
 
   -- definitions of types with one name are alike
   abbrev pub AreAlike : TypeDef → TypeDef → Type 0
@@ -170,7 +170,7 @@ module _ (text : List ℕ) where
   type_named P (decl.Types' p shape row) j d all at =
       let ts = items-the_row-TypeDef _ row in each_at (λ (d : TypeDef). P d.def.name) ts j d (named_each P ts all) at
   type_named P (decl.Vars' p shape row) j d all at = absurd (none-some d at)
-  type_named P (decl.Proc' p i def formals shape row body end) j d all at = absurd (none-some d at)
+  type_named P (decl.Proc' o shape row) j d all at = absurd (none-some d at)
 
   module _ (f : Decl → List Def) (some : (P : Name → Type 0) (x : Decl) → Each P (names_in x) → Each P (def_names (f x)))
       (none : (x : Decl) (j : ℕ) (d : TypeDef) → slice_get (types_in x) j ≡ Some d → f x ≡ []) where
@@ -219,13 +219,13 @@ module _ (text : List ℕ) where
       by (c ∷ cs) all = (all.0, by cs all.1)
   constant_names P (decl.Types' p shape row) all = tt
   constant_names P (decl.Vars' p shape row) all = tt
-  constant_names P (decl.Proc' p i def formals shape row body end) all = tt
+  constant_names P (decl.Proc' o shape row) all = tt
 
   no_constants : (x : Decl) (j : ℕ) (d : TypeDef) → slice_get (types_in x) j ≡ Some d → constants_in x ≡ []
   no_constants (decl.Consts p cs) j d at = nothing_else d at
   no_constants (decl.Types' p shape row) j d at = refl
   no_constants (decl.Vars' p shape row) j d at = refl
-  no_constants (decl.Proc' p i def formals shape row body end) j d at = refl
+  no_constants (decl.Proc' o shape row) j d at = refl
 
   variable_names : (P : Name → Type 0) (x : Decl) → Each P (names_in x) → Each P (def_names (singles_in x))
   variable_names P (decl.Consts p cs) all = tt
@@ -237,25 +237,25 @@ module _ (text : List ℕ) where
       by (v ∷ vs) all =
           subst (Each P) (sym (map-append (λ (d : Def). d.name) v.defs (flat_map (λ (v : VarDef). v.defs) vs)))
           (joined P (def_names v.defs) (def_names (flat_map (λ (v : VarDef). v.defs) vs)) (front P (def_names v.defs) _ all) (by vs (back P (def_names v.defs) _ all)))
-  variable_names P (decl.Proc' p i def formals shape row body end) all = tt
+  variable_names P (decl.Proc' o shape row) all = tt
 
   no_variables : (x : Decl) (j : ℕ) (d : TypeDef) → slice_get (types_in x) j ≡ Some d → singles_in x ≡ []
   no_variables (decl.Consts p cs) j d at = refl
   no_variables (decl.Types' p shape row) j d at = refl
   no_variables (decl.Vars' p shape row) j d at = nothing_else d at
-  no_variables (decl.Proc' p i def formals shape row body end) j d at = refl
+  no_variables (decl.Proc' o shape row) j d at = refl
 
   procedure_names : (P : Name → Type 0) (x : Decl) → Each P (names_in x) → Each P (def_names (procedures_in x))
   procedure_names P (decl.Consts p cs) all = tt
   procedure_names P (decl.Types' p shape row) all = tt
   procedure_names P (decl.Vars' p shape row) all = tt
-  procedure_names P (decl.Proc' p i def formals shape row body end) all = all
+  procedure_names P (decl.Proc' o shape row) all = all
 
   no_procedures : (x : Decl) (j : ℕ) (d : TypeDef) → slice_get (types_in x) j ≡ Some d → procedures_in x ≡ []
   no_procedures (decl.Consts p cs) j d at = refl
   no_procedures (decl.Types' p shape row) j d at = refl
   no_procedures (decl.Vars' p shape row) j d at = refl
-  no_procedures (decl.Proc' p i def formals shape row body end) j d at = nothing_else d at
+  no_procedures (decl.Proc' o shape row) j d at = nothing_else d at
 
   -- the definition of a type with a place, in a scope with these imports and declarations
   pub record IsOneType (imports : List Name) (ds : List Decl) (j : ℕ) (d : TypeDef) : Type 0 where
@@ -288,9 +288,9 @@ module _ (text : List ℕ) where
   once_in (decl.Consts p cs) none = tt
   once_in (decl.Types' p shape row) none = tt
   once_in (decl.Vars' p shape row) none = tt
-  once_in (decl.Proc' p i def formals shape row body end) none =
-      let a = other_end text def.name end in
-      let b = twice text (formal_names formals ++ declared_names (items-the_row-Decl _ row)) in
+  once_in (decl.Proc' o shape row) none =
+      let a = other_end text o.def.name o.end in
+      let b = twice text (formal_names o.formals ++ declared_names (items-the_row-Decl _ row)) in
       (none_right a b (none_left (a ++ b) (within_decls text row) none), tt)
 
   once_all : (ds : List Decl) → flat_map (within_decl text) ds ≡ [] → Each AreOnce (procedures ds)
@@ -328,7 +328,7 @@ module _ (text : List ℕ) where
   once_within (decl.Consts p cs) none = tt
   once_within (decl.Types' p shape row) none = once_types row none
   once_within (decl.Vars' p shape row) none = tt
-  once_within (decl.Proc' p i def formals shape row body end) none = tt
+  once_within (decl.Proc' o shape row) none = tt
 
   methods_apart : (xs ys : List TypeDef) → flat_map methods_in (xs ++ ys) ≡ flat_map methods_in xs ++ flat_map methods_in ys
   methods_apart [] ys = refl
@@ -367,7 +367,7 @@ module _ (text : List ℕ) where
   inner_in (decl.Consts p cs) none = tt
   inner_in (decl.Types' p shape row) none = inner_row row none
   inner_in (decl.Vars' p shape row) none = tt
-  inner_in (decl.Proc' p i def formals shape row body end) none = tt
+  inner_in (decl.Proc' o shape row) none = tt
 
   inner_all_alike : (ds : List Decl) → flat_map (within_decl text) ds ≡ [] → Each IsInnerAlike (type_defs ds)
   inner_all_alike [] none = tt

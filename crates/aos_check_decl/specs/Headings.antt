@@ -59,7 +59,7 @@ abbrev pub declared : Env → Decl → Judged Env
 declared e (decl.Consts p cs) = walk constant_def e cs
 declared e (decl.Types' p shape row) = walk type_def e (items-the_row-TypeDef _ row)
 declared e (decl.Vars' p shape row) = walk variable_def e (items-the_row-VarDef _ row)
-declared e (decl.Proc' p i def formals shape row body end) = kept e
+declared e (decl.Proc' o shape row) = kept e
 
 -- Types within object types: the other declarations there are met with the object type.
 
@@ -67,7 +67,7 @@ abbrev pub inner_declared : Env → Decl → Judged Env
 inner_declared e (decl.Types' p shape row) = walk type_def e (items-the_row-TypeDef _ row)
 inner_declared e (decl.Consts p cs) = kept e
 inner_declared e (decl.Vars' p shape row) = kept e
-inner_declared e (decl.Proc' p i def formals shape row body end) = kept e
+inner_declared e (decl.Proc' o shape row) = kept e
 
 -- in the scope with this number
 abbrev pub types_within : Env → ℕ → List Decl → Judged Env

@@ -92,7 +92,7 @@ abbrev mutual
   member_in f (decl.Consts p cs) = constant_members f cs
   member_in f (decl.Types' p shape row) = kept f
   member_in f (decl.Vars' p shape row) = variables_in f row
-  member_in f (decl.Proc' p i def formals shape row body end) = kept f
+  member_in f (decl.Proc' o shape row) = kept f
 
   pub variables_in : {m : _} → MembersMet → Row_of-VarDef m → Judged MembersMet
   variables_in f end_of-VarDef = kept f

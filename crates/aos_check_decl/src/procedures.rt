@@ -113,6 +113,7 @@ fn procedures_in(
     let mut may_stand = may_stand;
     for decl in decls {
         if let Decl::Proc(proc) = decl {
+            let outline = proc.outline.get();
             let decls = proc.decls.as_slice();
             procedure_in(
                 alloc,
@@ -120,12 +121,12 @@ fn procedures_in(
                 env,
                 may_stand,
                 scope,
-                proc.initializer,
-                &proc.formals,
+                outline.initializer,
+                &outline.formals,
                 decls,
             )?;
             scope = next(scope)?;
-            may_stand = may_follow(may_stand, proc.initializer);
+            may_stand = may_follow(may_stand, outline.initializer);
         }
     }
     Ok(())

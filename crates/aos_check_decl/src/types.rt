@@ -280,17 +280,17 @@ pub(crate) fn type_in<'a>(
             place_arrays(env, slot, *at, lengths, element)
         },
         TypeExpr::Record(at, base, fields) => {
-            record_in(alloc, found, env, slot, *at, *base, fields)
+            record_in(alloc, found, env, slot, *at, base.copied(), fields)
         },
         TypeExpr::Pointer(at, to) => {
             let target = type_in(alloc, found, env, true, None, to.get())?;
             pointer_behind(found, env, slot, *at, to.get(), target)
         },
         TypeExpr::Proc(at, flag, formals) => {
-            procedure_type(alloc, found, env, slot, *at, *flag, formals)
+            procedure_type(alloc, found, env, slot, *at, *flag, formals.get())
         },
         TypeExpr::Object(at, base, decls, _, _) => {
-            object_in(alloc, found, env, slot, *at, *base, decls)
+            object_in(alloc, found, env, slot, *at, base.copied(), decls)
         },
     }
 }

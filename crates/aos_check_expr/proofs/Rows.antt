@@ -3,16 +3,16 @@ use Rattle.std.proofs.Common.{◌≡◌, ◌≤◌, ◌<◌, List, [], ◌∷◌
 use denote.Hole.Carrier.{hidden, out, roll}
 use Rattle.aos_base.specs.declared.text.Pos.{Pos}
 use Rattle.aos_tree.specs.declared.expr.Sign.{Sign}
-use Rattle.aos_tree.specs.declared.expr.Expr.{Expr, Expr', out-Expr, Expr-right-None', Expr-right-Some'}
+use Rattle.aos_tree.specs.declared.expr.Expr.{Expr, out-Expr, roll-Expr, roll-out-Expr}
 use Rattle.aos_tree.specs.declared.expr.Relation.{Relation, Relation', out-Relation}
-use Rattle.aos_tree.specs.declared.expr.Simple.{Simple, out-Simple, roll-Simple, roll-out-Simple, Row_of-Addition, end_of-Addition, more_of-Addition, items-the_row-Addition, items_hidden-the_row-Addition-5}
+use Rattle.aos_tree.specs.declared.expr.Simple.{Simple, out-Simple, roll-Simple, roll-out-Simple, Row_of-Addition, end_of-Addition, more_of-Addition, items-the_row-Addition, items_hidden-the_row-Addition-7}
 use Rattle.aos_tree.specs.declared.expr.Addition.{Addition, Addition', out-Addition}
-use Rattle.aos_tree.specs.declared.expr.Term.{Term, out-Term, roll-Term, roll-out-Term, Row_of-Product, end_of-Product, more_of-Product, items-the_row-Product, items_hidden-the_row-Product-6}
+use Rattle.aos_tree.specs.declared.expr.Term.{Term, out-Term, roll-Term, roll-out-Term, Row_of-Product, end_of-Product, more_of-Product, items-the_row-Product, items_hidden-the_row-Product-8}
 use Rattle.aos_tree.specs.declared.expr.Product.{Product}
-use Rattle.aos_tree.specs.declared.expr.Elem.{Elem, Elem', out-Elem, Elem-last-None', Elem-last-Some'}
+use Rattle.aos_tree.specs.declared.expr.Elem.{Elem, out-Elem, roll-Elem, roll-out-Elem}
 use Rattle.aos_tree.specs.declared.expr.Factor.{Factor, Row_of-Elem, end_of-Elem, more_of-Elem, items-the_row-Elem, items_hidden-the_row-Elem-1}
 use Rattle.aos_tree.specs.declared.expr.Factor.TheVariants as f
-use Rattle.aos_tree.specs.declared.expr.Factor.TheBlock.{hidden-the_row-Selector-0, hidden-the_row-Elem-1, hidden-the_row-Expr-2, shape-the_row-Expr-2, hidden-the_row-Factor-3, shape-the_row-Factor-3, hidden-the_row-Expr-4, hidden-the_row-Addition-5, hidden-the_row-Product-6}
+use Rattle.aos_tree.specs.declared.expr.Factor.TheBlock.{hidden-the_row-Selector-0, hidden-the_row-Elem-1, hidden-the_row-Expr-2, shape-the_row-Expr-2, hidden-the_row-Factor-3, shape-the_row-Factor-3, hidden-the_row-Expr-4, hidden-the_row-Relation-6, shape-the_row-Relation-6, hidden-the_row-Addition-7, hidden-the_row-Product-8, hidden-the_row-Expr-5, shape-the_row-Expr-5}
 use Rattle.aos_tree.specs.declared.expr.Desig.{Desig, Row_of-Selector, end_of-Selector, more_of-Selector, items-the_row-Selector, items_hidden-the_row-Selector-0}
 use Rattle.aos_tree.specs.declared.expr.Selector.{Selector, Row_of-Expr, end_of-Expr, more_of-Expr, items-the_row-Expr, items_hidden-the_row-Expr-4}
 use Rattle.aos_tree.specs.declared.expr.Selector.TheVariants as s
@@ -60,10 +60,14 @@ module _ (e : Env) where
   indices_row _ at a end_of-Expr = refl
   indices_row _ at a (more_of-Expr x xs) = ap (λ z. bind (index e at a x) (λ b. z)) (indices_row _ at (index e at a x).answer xs)
 
+  expr_rolled : (at : Pos) (left : Simple) (right : Option Relation) → expr e (roll-Expr (record { pos = at; left = left; right = right }))
+      ≡ bind (simple e left) (λ a. relation_if e at a right)
+  unfolding roll-Expr roll hidden-the_row-Relation-6 shape-the_row-Relation-6 hidden
+  expr_rolled at left None = refl
+  expr_rolled at left (Some r) = refl
+
   pub expr_is : (x : Expr) → expr e x ≡ bind (simple e (out-Expr x).left) (λ a. relation_if e (out-Expr x).pos a (out-Expr x).right)
-  unfolding out-Expr out
-  expr_is (Expr' at left Expr-right-None') = refl
-  expr_is (Expr' at left (Expr-right-Some' r)) = refl
+  expr_is x = ap (λ z. expr e z) (sym (roll-out-Expr x)) ∙ expr_rolled (out-Expr x).pos (out-Expr x).left (out-Expr x).right
 
   pub relation_is : (first : Pos) (a : Answer) (r : Relation) → is_test (out-Relation r).op ≡ false → relation e first a r
       ≡ bind (simple e (out-Relation r).right) (λ b. related_by e first (out-Relation r).pos (out-Relation r).op a b)
@@ -81,7 +85,7 @@ module _ (e : Env) where
   simple_rolled at sign first rest =
       let a = (signed sign at (term e first).answer).answer in
       ap (λ z. bind (bind (term e first) (λ a. signed sign at a)) (λ a. z))
-      (additions_row _ at a (hidden-the_row-Addition-5 rest) ∙ ap (λ xs. walk (addition e at) a xs) (items_hidden-the_row-Addition-5 rest))
+      (additions_row _ at a (hidden-the_row-Addition-7 rest) ∙ ap (λ xs. walk (addition e at) a xs) (items_hidden-the_row-Addition-7 rest))
 
   pub simple_is : (x : Simple) → simple e x
       ≡ bind (bind (term e (out-Simple x).first) (λ a. signed (out-Simple x).sign (out-Simple x).pos a)) (λ a. walk (addition e (out-Simple x).pos) a (out-Simple x).rest)
@@ -98,7 +102,7 @@ module _ (e : Env) where
   term_rolled at first rest =
       let a = (factor e first).answer in
       ap (λ z. bind (factor e first) (λ a. z))
-      (products_row _ at a (hidden-the_row-Product-6 rest) ∙ ap (λ xs. walk (product e at) a xs) (items_hidden-the_row-Product-6 rest))
+      (products_row _ at a (hidden-the_row-Product-8 rest) ∙ ap (λ xs. walk (product e at) a xs) (items_hidden-the_row-Product-8 rest))
 
   pub term_is : (x : Term) → term e x ≡ bind (factor e (out-Term x).first) (λ a. walk (product e (out-Term x).pos) a (out-Term x).rest)
   term_is x = ap (λ z. term e z) (sym (roll-out-Term x)) ∙ term_rolled (out-Term x).pos (out-Term x).first (out-Term x).rest
@@ -129,10 +133,13 @@ module _ (e : Env) where
   element_as at a x None = bind (expr e x) (λ b. with_element at a b)
   element_as at a x (Some y) = bind (expr e x) (λ b. bind (expr e y) (λ c. with_span at a b c))
 
+  element_rolled : (at : Pos) (a : Answer) (first : Expr) (last : Option Expr) → element e at a (roll-Elem (record { first = first; last = last })) ≡ element_as at a first last
+  unfolding roll-Elem roll hidden-the_row-Expr-5 shape-the_row-Expr-5 hidden
+  element_rolled at a first None = refl
+  element_rolled at a first (Some y) = refl
+
   pub element_is : (at : Pos) (a : Answer) (x : Elem) → element e at a x ≡ element_as at a (out-Elem x).first (out-Elem x).last
-  unfolding out-Elem out
-  element_is at a (Elem' x Elem-last-None') = refl
-  element_is at a (Elem' x (Elem-last-Some' y)) = refl
+  element_is at a x = ap (λ z. element e at a z) (sym (roll-out-Elem x)) ∙ element_rolled at a (out-Elem x).first (out-Elem x).last
 
   pub selector_index : (first : Pos) (a : Part) (x : Selector) (p : Pos) (es : List Expr) → x ≡ s.Index p es → selector e first a x ≡ indexed e p a es
   selector_index first a x p es is =

@@ -5,7 +5,7 @@ use Rattle.std.proofs.lemmas.Option.{same_Some}
 use Rattle.aos_base.specs.declared.text.Pos.{Pos}
 use Rattle.aos_base.specs.declared.number.Width.TheVariants.{W64}
 use Rattle.aos_tree.specs.declared.name.Name.{Name}
-use Rattle.aos_tree.specs.declared.expr.Expr.{Expr, Expr', Held-Expr-right, Expr-right-None', Expr-right-Some', out-Expr}
+use Rattle.aos_tree.specs.declared.expr.Expr.{Expr, Expr', Row_of-Relation, end_of-Relation, more_of-Relation, out-Expr}
 use Rattle.aos_tree.specs.declared.expr.Relation.{Relation, Relation'}
 use Rattle.aos_tree.specs.declared.expr.RelationOp.{RelationOp}
 use Rattle.aos_tree.specs.declared.expr.Simple.{Simple, Simple', Row_of-Addition, end_of-Addition, more_of-Addition}
@@ -13,7 +13,7 @@ use Rattle.aos_tree.specs.declared.expr.Addition.{Addition, Addition'}
 use Rattle.aos_tree.specs.declared.expr.Term.{Term, Term', Row_of-Product, end_of-Product, more_of-Product}
 use Rattle.aos_tree.specs.declared.expr.Factor.{Factor, Row_of-Expr, end_of-Expr, more_of-Expr, Row_of-Factor, end_of-Factor, more_of-Factor, Row_of-Elem, end_of-Elem, more_of-Elem}
 use Rattle.aos_tree.specs.declared.expr.Factor.TheVariants as f
-use Rattle.aos_tree.specs.declared.expr.Elem.{Elem, Elem', Elem-last-None', Elem-last-Some'}
+use Rattle.aos_tree.specs.declared.expr.Elem.{Elem, Elem'}
 use Rattle.aos_tree.specs.declared.expr.Desig.{Desig, Row_of-Selector, end_of-Selector, more_of-Selector}
 use Rattle.aos_tree.specs.declared.expr.Selector.{Selector, items-the_row-Expr}
 use Rattle.aos_tree.specs.declared.expr.Selector.TheVariants as s
@@ -224,11 +224,11 @@ module _ (p : Inside) (e : Env) (good : GoodConstants e) where
 
   mutual
     expr_fine : (x : Expr) → IsFine (judge.expr e x)
-    expr_fine (Expr' at left right) = after (judge.simple e left) (λ a. judge.relation_of e at a right) (simple_fine left) (λ a h. relation_of_fine at a h right)
+    expr_fine (Expr' at left shape row) = after (judge.simple e left) (λ a. judge.relation_of e at a row) (simple_fine left) (λ a h. relation_of_fine at a h row)
 
-    relation_of_fine : (first : Pos) (a : Answer) → Part p e a → (r : Held-Expr-right) → IsFine (judge.relation_of e first a r)
-    relation_of_fine first a h Expr-right-None' = λ none. h
-    relation_of_fine first a h (Expr-right-Some' r) = relation_fine first a h r
+    relation_of_fine : {m : _} (first : Pos) (a : Answer) → Part p e a → (r : Row_of-Relation m) → IsFine (judge.relation_of e first a r)
+    relation_of_fine first a h end_of-Relation = λ none. h
+    relation_of_fine first a h (more_of-Relation r rs) = relation_fine first a h r
 
     relation_fine : (first : Pos) (a : Answer) → Part p e a → (r : Relation) → IsFine (judge.relation e first a r)
     relation_fine first a h (Relation' at o right) = relation_by first at o a h right (simple_fine right) (judge.is_test o) refl
@@ -288,11 +288,13 @@ module _ (p : Inside) (e : Env) (good : GoodConstants e) where
         (element_fine at a h x) (λ b k. elements_fine at b k xs)
 
     element_fine : (at : Pos) (a : Answer) → Elements p e a → (x : Elem) → AreFine (judge.element e at a x)
-    element_fine at a h (Elem' x Elem-last-None') =
-        holds_bind (Part p e) (Elements p e) (judge.expr e x) (λ b. judge.with_element at a b) (expr_fine x) (λ b k. with_element_part p e at a b h k)
-    element_fine at a h (Elem' x (Elem-last-Some' y)) =
-        holds_bind (Part p e) (Elements p e) (judge.expr e x) (λ b. bind (judge.expr e y) (λ c. judge.with_span at a b c)) (expr_fine x)
-        (λ b k. holds_bind (Part p e) (Elements p e) (judge.expr e y) (λ c. judge.with_span at a b c) (expr_fine y) (λ c l. with_span_part p e at a b c h k l))
+    element_fine at a h (Elem' x shape row) =
+        holds_bind (Part p e) (Elements p e) (judge.expr e x) (λ b. judge.up_to e at a b row) (expr_fine x) (λ b k. up_to_fine at a b h k row)
+
+    up_to_fine : {m : _} (at : Pos) (a b : Answer) → Elements p e a → Part p e b → (r : Row_of-Expr m) → AreFine (judge.up_to e at a b r)
+    up_to_fine at a b h k end_of-Expr = with_element_part p e at a b h k
+    up_to_fine at a b h k (more_of-Expr y ys) =
+        holds_bind (Part p e) (Elements p e) (judge.expr e y) (λ c. judge.with_span at a b c) (expr_fine y) (λ c l. with_span_part p e at a b c h k l)
 
     selectors_fine : {m : _} (first : Pos) (a : judge.Part) → Parted a → (r : Row_of-Selector m) → IsFinePart (judge.selectors e first a r)
     selectors_fine first a h end_of-Selector = λ none. h

@@ -9,7 +9,7 @@ use Rattle.aos_base.specs.Operators.{natural}
 use Rattle.aos_tree.specs.declared.name.Name.{Name}
 use Rattle.aos_tree.specs.declared.name.Qualident.{Qualident}
 use Rattle.aos_tree.specs.declared.decl.Export.{Export}
-use Rattle.aos_tree.specs.declared.expr.Expr.{Expr as TreeExpr, Expr', Held-Expr-right, Expr-right-None', Expr-right-Some', out-Expr}
+use Rattle.aos_tree.specs.declared.expr.Expr.{Expr as TreeExpr, Expr', Row_of-Relation, end_of-Relation, more_of-Relation, out-Expr}
 use Rattle.aos_tree.specs.declared.expr.Relation.{Relation as TreeRelation, Relation'}
 use Rattle.aos_tree.specs.declared.expr.RelationOp.{RelationOp}
 use Rattle.aos_tree.specs.declared.expr.Sign.{Sign}
@@ -18,7 +18,7 @@ use Rattle.aos_tree.specs.declared.expr.Addition.{Addition, Addition'}
 use Rattle.aos_tree.specs.declared.expr.Term.{Term, Term', Row_of-Product, end_of-Product, more_of-Product}
 use Rattle.aos_tree.specs.declared.expr.Factor.{Factor, Row_of-Expr, end_of-Expr, more_of-Expr, Row_of-Factor, end_of-Factor, more_of-Factor, Row_of-Elem, end_of-Elem, more_of-Elem}
 use Rattle.aos_tree.specs.declared.expr.Factor.TheVariants as f
-use Rattle.aos_tree.specs.declared.expr.Elem.{Elem, Elem', Elem-last-None', Elem-last-Some'}
+use Rattle.aos_tree.specs.declared.expr.Elem.{Elem, Elem'}
 use Rattle.aos_tree.specs.declared.expr.Desig.{Row_of-Selector, end_of-Selector, more_of-Selector}
 use Rattle.aos_tree.specs.declared.expr.Selector.{Selector, items-the_row-Expr}
 use Rattle.aos_tree.specs.declared.expr.Selector.TheVariants as s
@@ -631,11 +631,11 @@ module _ (e : Env) (within : e.is_condition ≡ true) where
 
   mutual
     expr_calm : (x : TreeExpr) → Calm (judge.expr e x).answer
-    expr_calm (Expr' at left right) = relation_of_calm at (judge.simple e left).answer (simple_calm left) right
+    expr_calm (Expr' at left shape row) = relation_of_calm at (judge.simple e left).answer (simple_calm left) row
 
-    relation_of_calm : (first : Pos) (a : Answer) → Calm a → (r : Held-Expr-right) → Calm (judge.relation_of e first a r).answer
-    relation_of_calm first a calm Expr-right-None' = calm
-    relation_of_calm first a calm (Expr-right-Some' r) = relation_calm first a calm r
+    relation_of_calm : {m : _} (first : Pos) (a : Answer) → Calm a → (r : Row_of-Relation m) → Calm (judge.relation_of e first a r).answer
+    relation_of_calm first a calm end_of-Relation = calm
+    relation_of_calm first a calm (more_of-Relation r rs) = relation_calm first a calm r
 
     relation_calm : (first : Pos) (a : Answer) → Calm a → (r : TreeRelation) → Calm (judge.relation e first a r).answer
     relation_calm first a calm (Relation' at o right) = relation_by first at o a calm right (simple_calm right) (judge.is_test o)
@@ -687,14 +687,14 @@ module _ (e : Env) (within : e.is_condition ≡ true) where
     elements_calm at a calm (more_of-Elem x xs) = elements_calm at (judge.element e at a x).answer (element_of_set_calm at a calm x) xs
 
     element_of_set_calm : (at : Pos) (a : Answer) → Calm a → (x : Elem) → Calm (judge.element e at a x).answer
-    element_of_set_calm at a calm (Elem' x Elem-last-None') =
-        let b = (judge.expr e x).answer in
-        joined_calm op.union a (op.stepped (op.one_element b.known.of) b) calm (stepped_calm (op.one_element b.known.of) b (expr_calm x))
-    element_of_set_calm at a calm (Elem' x (Elem-last-Some' y)) =
-        let b = (judge.expr e x).answer in
+    element_of_set_calm at a calm (Elem' x shape row) = up_to_calm at a (judge.expr e x).answer calm (expr_calm x) row
+
+    up_to_calm : {m : _} (at : Pos) (a b : Answer) → Calm a → Calm b → (r : Row_of-Expr m) → Calm (judge.up_to e at a b r).answer
+    up_to_calm at a b calm is end_of-Expr = joined_calm op.union a (op.stepped (op.one_element b.known.of) b) calm (stepped_calm (op.one_element b.known.of) b is)
+    up_to_calm at a b calm is (more_of-Expr y ys) =
         let c = (judge.expr e y).answer in
         let o = op.span b.known.of c.known.of in
-        joined_calm op.union a (op.joined o b c) calm (joined_calm o b c (expr_calm x) (expr_calm y))
+        joined_calm op.union a (op.joined o b c) calm (joined_calm o b c is (expr_calm y))
 
     selectors_calm : {m : _} (first : Pos) (a : judge.Part) → IsCalmPart a → (r : Row_of-Selector m) → IsCalmPart (judge.selectors e first a r).answer
     selectors_calm first a calm end_of-Selector = calm

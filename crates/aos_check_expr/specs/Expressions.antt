@@ -8,7 +8,7 @@ use Rattle.aos_base.specs.Number.{if_within}
 use Rattle.aos_base.specs.Operators.{natural}
 use Rattle.aos_tree.specs.declared.name.Name.{Name}
 use Rattle.aos_tree.specs.declared.name.Qualident.{Qualident}
-use Rattle.aos_tree.specs.declared.expr.Expr.{Expr, Expr', Held-Expr-right, Expr-right-None', Expr-right-Some', out-Expr}
+use Rattle.aos_tree.specs.declared.expr.Expr.{Expr, Expr', Row_of-Relation, end_of-Relation, more_of-Relation, out-Expr}
 use Rattle.aos_tree.specs.declared.expr.Relation.{Relation as TreeRelation, Relation'}
 use Rattle.aos_tree.specs.declared.expr.Simple.{Simple, Simple', Row_of-Addition, end_of-Addition, more_of-Addition, out-Simple}
 use Rattle.aos_tree.specs.declared.expr.Addition.{Addition, Addition'}
@@ -16,7 +16,7 @@ use Rattle.aos_tree.specs.declared.expr.Product.{Product}
 use Rattle.aos_tree.specs.declared.expr.Term.{Term, Term', Row_of-Product, end_of-Product, more_of-Product, out-Term}
 use Rattle.aos_tree.specs.declared.expr.Factor.{Factor, Row_of-Expr, end_of-Expr, more_of-Expr, Row_of-Factor, end_of-Factor, more_of-Factor, Row_of-Elem, end_of-Elem, more_of-Elem}
 use Rattle.aos_tree.specs.declared.expr.Factor.TheVariants as f
-use Rattle.aos_tree.specs.declared.expr.Elem.{Elem, Elem', Elem-last-None', Elem-last-Some'}
+use Rattle.aos_tree.specs.declared.expr.Elem.{Elem, Elem'}
 use Rattle.aos_tree.specs.declared.expr.Desig.{Desig, Row_of-Selector, end_of-Selector, more_of-Selector, items-the_row-Selector}
 use Rattle.aos_tree.specs.declared.expr.Selector.{Selector, items-the_row-Expr}
 use Rattle.aos_tree.specs.declared.expr.Selector.TheVariants as s
@@ -291,11 +291,11 @@ no_place = record { line = 0; col = 0 }
 module _ (e : Env) where
   abbrev mutual
     pub expr : Expr → Judged Answer
-    expr (Expr' at left right) = bind (simple left) (λ a. relation_of at a right)
+    expr (Expr' at left shape row) = bind (simple left) (λ a. relation_of at a row)
 
-    pub relation_of : Pos → Answer → Held-Expr-right → Judged Answer
-    relation_of first a Expr-right-None' = kept a
-    relation_of first a (Expr-right-Some' r) = relation first a r
+    pub relation_of : {m : _} → Pos → Answer → Row_of-Relation m → Judged Answer
+    relation_of first a end_of-Relation = kept a
+    relation_of first a (more_of-Relation r rs) = relation first a r
 
     pub relation : Pos → Answer → TreeRelation → Judged Answer
     relation first a (Relation' at o right) =
@@ -343,8 +343,12 @@ module _ (e : Env) where
     elements at a (more_of-Elem x xs) = bind (element at a x) (λ b. elements at b xs)
 
     pub element : Pos → Answer → Elem → Judged Answer
-    element at a (Elem' x Elem-last-None') = bind (expr x) (λ b. with_element at a b)
-    element at a (Elem' x (Elem-last-Some' y)) = bind (expr x) (λ b. bind (expr y) (λ c. with_span at a b c))
+    element at a (Elem' x shape row) = bind (expr x) (λ b. up_to at a b row)
+
+    -- the end of a range, where there is one
+    pub up_to : {m : _} → Pos → Answer → Answer → Row_of-Expr m → Judged Answer
+    up_to at a b end_of-Expr = with_element at a b
+    up_to at a b (more_of-Expr y ys) = bind (expr y) (λ c. with_span at a b c)
 
     -- one selector after another, of a designator that begins here
     pub selectors : {m : _} → Pos → Part → Row_of-Selector m → Judged Part

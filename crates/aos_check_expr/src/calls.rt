@@ -30,7 +30,7 @@ fn is_factor_of(part: &Simple) -> bool
 fn is_factor(part: &Expr) -> bool
     ensures { result ≡ judge.is_factor part.now }
 {
-    part.right.is_none() && is_factor_of(&part.left)
+    part.right.get().is_none() && is_factor_of(&part.left)
 }
 
 fn desig_in(part: &Factor) -> Option<&Desig>

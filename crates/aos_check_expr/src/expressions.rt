@@ -53,7 +53,7 @@ pub fn expr(
     ensures answer { IfOk result (λ r. seen_answer r ≡ (judge.expr env.now part.now).answer) }
 {
     let left = simple(alloc, found, env, &part.left)?;
-    match &part.right {
+    match part.right.get() {
         None => Ok(left),
         Some(right) => relation(alloc, found, env, part.pos, left, right),
     }
@@ -286,7 +286,7 @@ fn element(
         (judge.element env.now at (seen_answer set) part.now).answer) }
 {
     let first = expr(alloc, found, env, &part.first)?;
-    match &part.last {
+    match part.last.get() {
         None => with_element(alloc, found, at, set, first),
         Some(last) => {
             let last = expr(alloc, found, env, last)?;

@@ -51,10 +51,10 @@ module _ (text : List ℕ) where
       variables_row _ (hidden-the_row-VarDef-1 defs) ∙ ap (λ z. flat_map (λ v. within_type text None v.of) z) (items_hidden-the_row-VarDef-1 defs)
 
   pub within_decl_proc : (a : Proc) → within_decl text (decl.Proc a) ≡
-      other_end text a.def.name a.end ++ twice text (formal_names a.formals ++ declared_names a.decls) ++ flat_map (within_decl text) a.decls
+      other_end text a.outline.def.name a.outline.end ++ twice text (formal_names a.outline.formals ++ declared_names a.decls) ++ flat_map (within_decl text) a.decls
   within_decl_proc a =
-      ap (λ z. other_end text a.def.name a.end ++ twice text (formal_names a.formals ++ declared_names (items-the_row-Decl _ (hidden-the_row-Decl-2 a.decls))) ++ z) (decls_row _ (hidden-the_row-Decl-2 a.decls))
-      ∙ ap (λ z. other_end text a.def.name a.end ++ twice text (formal_names a.formals ++ declared_names z) ++ flat_map (within_decl text) z) (items_hidden-the_row-Decl-2 a.decls)
+      ap (λ z. other_end text a.outline.def.name a.outline.end ++ twice text (formal_names a.outline.formals ++ declared_names (items-the_row-Decl _ (hidden-the_row-Decl-2 a.decls))) ++ z) (decls_row _ (hidden-the_row-Decl-2 a.decls))
+      ∙ ap (λ z. other_end text a.outline.def.name a.outline.end ++ twice text (formal_names a.outline.formals ++ declared_names z) ++ flat_map (within_decl text) z) (items_hidden-the_row-Decl-2 a.decls)
 
   pub within_type_array : (name : Option Name) (p : Pos) (ls : List Expr) (t : TypeExpr) →
       within_type text name (type.Array p ls t) ≡ within_type text None t

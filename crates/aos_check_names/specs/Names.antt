@@ -52,8 +52,8 @@ module _ (text : List ℕ) where
     within_decl (decl.Consts p cs) = []
     within_decl (decl.Types' p shape row) = within_types row
     within_decl (decl.Vars' p shape row) = within_variables row
-    within_decl (decl.Proc' p i def formals shape row body end) =
-        other_end def.name end ++ twice (formal_names formals ++ declared_names (items-the_row-Decl _ row)) ++ within_decls row
+    within_decl (decl.Proc' o shape row) =
+        other_end o.def.name o.end ++ twice (formal_names o.formals ++ declared_names (items-the_row-Decl _ row)) ++ within_decls row
 
     pub within_decls : {m : _} → Row_of-Decl m → List Breach
     within_decls end_of-Decl = []

@@ -55,7 +55,7 @@ fn add_names(names: &mut Vec<Name>, decl: &Decl) -> Result<(), AllocError>
         Decl::Types(_, defs) => add_types(names, defs.as_slice()),
         Decl::Vars(_, defs) => add_variables(names, defs.as_slice()),
         Decl::Proc(proc) => {
-            names.push(proc.def.name)?;
+            names.push(proc.outline.get().def.name)?;
             Ok(())
         },
     }

@@ -156,8 +156,9 @@ fn within_decl(
         Decl::Types(_, defs) => within_types(alloc, found, text, defs),
         Decl::Vars(_, defs) => within_variables(alloc, found, text, defs),
         Decl::Proc(proc) => {
-            other_end(found, text, proc.def.name, proc.end);
-            procedure_scope(alloc, found, text, &proc.formals, proc.decls.as_slice())?;
+            let outline = proc.outline.get();
+            other_end(found, text, outline.def.name, outline.end);
+            procedure_scope(alloc, found, text, &outline.formals, proc.decls.as_slice())?;
             within_decls(alloc, found, text, &proc.decls)
         },
     }
@@ -236,11 +237,13 @@ fn within_type(
             within_fields(alloc, found, text, fields)
         },
         TypeExpr::Pointer(_, to) => within_type(alloc, found, text, None, to.get()),
-        TypeExpr::Proc(_, _, formals) => procedure_scope(alloc, found, text, formals, &[]),
+        TypeExpr::Proc(_, _, formals) => {
+            procedure_scope(alloc, found, text, formals.get(), &[])
+        },
         TypeExpr::Object(_, _, decls, _, end) => {
             procedure_scope(alloc, found, text, &None, decls.as_slice())?;
             within_decls(alloc, found, text, decls)?;
-            object_end(found, text, name, *end);
+            object_end(found, text, name, end.copied());
             Ok(())
         },
     }

@@ -69,10 +69,10 @@ module _ (flags : List Bool) (rows : List TypeRow) where
   -- one more procedure
   pub results_step : (met : Option Breach) (ps : List (Bor Proc)) (i : ℕ) (x : Bor Proc) (ss : List Signature) (k : ℕ) (s : Signature) {after : Option Breach} {j : ℕ} →
       i < length ps → x ≡ get_or ps i x → slice_get ss k ≡ Some s → j ≡ k + 1 →
-      after ≡ first_after met (result_breaches flags rows (result_of flags rows x.now.formals) s.gives) →
+      after ≡ first_after met (result_breaches flags rows (result_of flags rows x.now.outline.formals) s.gives) →
       first_after after (results_from flags rows (seen_procedures (drop (i + 1) ps)) (drop j ss)) ≡ first_after met (results_from flags rows (seen_procedures (drop i ps)) (drop k ss))
   results_step met ps i x ss k s {after = after} {j = j} lt at one j_is noted =
-      let this = result_breaches flags rows (result_of flags rows x.now.formals) s.gives in
+      let this = result_breaches flags rows (result_of flags rows x.now.outline.formals) s.gives in
       let rest = λ (l : ℕ). results_from flags rows (seen_procedures (drop (i + 1) ps)) (drop l ss) in
       ap (λ f. first_after f (rest j)) noted
       ∙ ap (λ l. first_after (first_after met this) (rest l)) j_is

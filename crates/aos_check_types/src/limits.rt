@@ -232,7 +232,13 @@ fn note_results(
         let Some(signature) = env.here.signature(number) else {
             return Ok(());
         };
-        note_result(found, &env.types, flags, &proc.formals, signature.gives);
+        note_result(
+            found,
+            &env.types,
+            flags,
+            &proc.outline.get().formals,
+            signature.gives,
+        );
         number = next(number)?;
     }
     Ok(())

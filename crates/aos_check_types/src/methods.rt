@@ -96,7 +96,7 @@ fn note_methods(
 {
     for decl in decls {
         if let Decl::Proc(proc) = decl {
-            note_method(found, env, all, of, proc.def.name)?;
+            note_method(found, env, all, of, proc.outline.get().def.name)?;
         }
     }
     Ok(())

@@ -1,13 +1,13 @@
 -- Small texts with their trees, and what they come to. The trees are those that a parser gives.
-use Rattle.std.proofs.Common.{◌≡◌, ℕ, ◌+◌, pos, List, [], ◌∷◌, ◌++◌, true, false, Option, Some, None, refl, codes}
+use Rattle.std.proofs.Common.{◌≡◌, ℕ, ◌+◌, pos, List, [], ◌∷◌, ◌++◌, true, false, Option, Some, None, inl, refl, codes}
 use Rattle.std.specs.Str.Lossy.{utf8_lossy}
 use denote.Hole.Carrier.{out, shown, hidden}
-use Rattle.aos_tree.specs.declared.expr.Factor.TheBlock.{shown-the_row-Product-6, shown-the_row-Addition-5}
+use Rattle.aos_tree.specs.declared.expr.Factor.TheBlock.{shown-the_row-Relation-6, shown-the_row-Product-8, shown-the_row-Addition-7}
 use Rattle.aos_base.specs.declared.number.Width.TheVariants.{W32}
 use Rattle.aos_base.specs.declared.priority.Priority.TheVariants.{Normal}
 use Rattle.aos_base.specs.declared.text.Pos.{Pos}
 use Rattle.aos_tree.specs.declared.name.Name.{Name}
-use Rattle.aos_tree.specs.declared.expr.Expr.{Expr as TreeExpr, Expr', Expr-right-None', out-Expr}
+use Rattle.aos_tree.specs.declared.expr.Expr.{Expr as TreeExpr, Expr', end_of-Relation, out-Expr}
 use Rattle.aos_tree.specs.declared.expr.Simple.{Simple', end_of-Addition, out-Simple}
 use Rattle.aos_tree.specs.declared.expr.Term.{Term', end_of-Product, out-Term}
 use Rattle.aos_tree.specs.declared.expr.Factor.{end_of-Selector, more_of-Selector}
@@ -120,13 +120,13 @@ abbrev with_variable : Option Export → ℕ → Tree
 with_variable mark at = module_of [] (variable mark at ∷ []) None (at + 13)
 
 abbrev number : ℕ → TreeExpr
-number at = Expr' (place at) (Simple' (place at) None (Term' (place at) (f.Number (place at) (pos 1)) [] end_of-Product) [] end_of-Addition) Expr-right-None'
+number at = Expr' (place at) (Simple' (place at) None (Term' (place at) (f.Number (place at) (pos 1)) [] end_of-Product) [] end_of-Addition) (inl tt) end_of-Relation
 
 -- B.p, where B stands here
 abbrev read : ℕ → TreeExpr
 read at =
     Expr' (place at) (Simple' (place at) None (Term' (place at) (f.Desig' (letter at) (tt ∷ []) (more_of-Selector (s.Field (place (at + 1)) (letter (at + 2))) end_of-Selector)) [] end_of-Product) [] end_of-Addition)
-    Expr-right-None'
+    (inl tt) end_of-Relation
 
 -- a body of one statement
 abbrev body : TreeStat → Option Block
@@ -143,17 +143,17 @@ abbrev assigned : List ℕ → Tree → Outcome Program
 assigned text b = elaborate (codes "MODULE A; IMPORT B; BEGIN B.n := 1 END A." ∷ text ∷ []) (tree assigning ∷ tree b ∷ [])
 
 no_mark : assigned (codes "MODULE B; VAR n: LONGINT; END B.") (with_variable None 17) ≡ refused (refusal 15 0 (place 28))
-unfolding out-Expr out-Simple out-Term out shown-the_row-Product-6 shown-the_row-Addition-5 shown shape-the_row-VarDef-1 hidden-the_row-VarDef-1 hidden
+unfolding out-Expr out-Simple out-Term out shown-the_row-Relation-6 shown-the_row-Product-8 shown-the_row-Addition-7 shown shape-the_row-VarDef-1 hidden-the_row-VarDef-1 hidden
 no_mark = refl
 
 marked_read_only : assigned (codes "MODULE B; VAR n-: LONGINT; END B.") (with_variable (Some ReadOnly) 18) ≡ refused (refusal 33 0 (place 26))
-unfolding out-Expr out-Simple out-Term out shown-the_row-Product-6 shown-the_row-Addition-5 shown shape-the_row-VarDef-1 hidden-the_row-VarDef-1 hidden
+unfolding out-Expr out-Simple out-Term out shown-the_row-Relation-6 shown-the_row-Product-8 shown-the_row-Addition-7 shown shape-the_row-VarDef-1 hidden-the_row-VarDef-1 hidden
 marked_read_only = refl
 
 marked : assigned (codes "MODULE B; VAR n*: LONGINT; END B.") (with_variable (Some ReadWrite) 18)
     ≡ went (only_modules (record { name = utf8_lossy (codes "B"); variables = record { name = utf8_lossy (codes "n"); of = longint } ∷ []; texts = []; procedures = []; body = plain_body Nothing }
     ∷ record { name = utf8_lossy (codes "A"); variables = []; texts = []; procedures = []; body = plain_body (Then (Assign (place 26) longint (ModuleVar 0 0) (Lit (literal.Int (pos 1)))) Nothing) } ∷ []))
-unfolding out-Expr out-Simple out-Term out shown-the_row-Product-6 shown-the_row-Addition-5 shown shape-the_row-VarDef-1 hidden-the_row-VarDef-1 hidden
+unfolding out-Expr out-Simple out-Term out shown-the_row-Relation-6 shown-the_row-Product-8 shown-the_row-Addition-7 shown shape-the_row-VarDef-1 hidden-the_row-VarDef-1 hidden
 marked = refl
 
 -- IMPORT X := B
@@ -163,12 +163,12 @@ renamed : elaborate (codes "MODULE A; IMPORT X := B; BEGIN X.n := 1 END A." ∷ 
     ∷ tree (with_variable (Some ReadWrite) 18) ∷ [])
     ≡ went (only_modules (record { name = utf8_lossy (codes "B"); variables = record { name = utf8_lossy (codes "n"); of = longint } ∷ []; texts = []; procedures = []; body = plain_body Nothing }
     ∷ record { name = utf8_lossy (codes "A"); variables = []; texts = []; procedures = []; body = plain_body (Then (Assign (place 31) longint (ModuleVar 0 0) (Lit (literal.Int (pos 1)))) Nothing) } ∷ []))
-unfolding out-Expr out-Simple out-Term out shown-the_row-Product-6 shown-the_row-Addition-5 shown shape-the_row-VarDef-1 hidden-the_row-VarDef-1 hidden
+unfolding out-Expr out-Simple out-Term out shown-the_row-Relation-6 shown-the_row-Product-8 shown-the_row-Addition-7 shown shape-the_row-VarDef-1 hidden-the_row-VarDef-1 hidden
 renamed = refl
 
 unknown_member : elaborate (codes "MODULE A; IMPORT B; BEGIN B.n := 1 END A." ∷ codes "MODULE B; END B." ∷ []) (tree assigning ∷ tree empty ∷ [])
     ≡ refused (refusal 14 0 (place 28))
-unfolding out-Expr out-Simple out-Term out shown-the_row-Product-6 shown-the_row-Addition-5 shown shape-the_row-TypeDef-0 hidden-the_row-TypeDef-0 hidden
+unfolding out-Expr out-Simple out-Term out shown-the_row-Relation-6 shown-the_row-Product-8 shown-the_row-Addition-7 shown shape-the_row-TypeDef-0 hidden-the_row-TypeDef-0 hidden
 unknown_member = refl
 
 -- BEGIN {a modifier} and a statement
@@ -222,7 +222,7 @@ an_object_of_another_module : elaborate (codes "MODULE A; IMPORT B; BEGIN NEW(B.
           }
           ∷ [];
     })
-unfolding out-Expr out-Simple out-Term out shown-the_row-Product-6 shown-the_row-Addition-5 shown hidden shape-the_row-TypeDef-0 hidden-the_row-TypeDef-0 shape-the_row-VarDef-1 hidden-the_row-VarDef-1
+unfolding out-Expr out-Simple out-Term out shown-the_row-Relation-6 shown-the_row-Product-8 shown-the_row-Addition-7 shown hidden shape-the_row-TypeDef-0 hidden-the_row-TypeDef-0 shape-the_row-VarDef-1 hidden-the_row-VarDef-1
 an_object_of_another_module = refl
 
 -- a declared name goes before a predeclared one
@@ -238,12 +238,12 @@ declared_anew : elaborate (codes "MODULE B; VAR n: LONGINT; NEW: LONGINT; BEGIN 
       procedures = [];
       body = plain_body (Then (Assign (place 46) longint (ModuleVar 0 1) (Lit (literal.Int (pos 1)))) Nothing);
     } ∷ []))
-unfolding out-Expr out-Simple out-Term out shown-the_row-Product-6 shown-the_row-Addition-5 shown shape-the_row-VarDef-1 hidden-the_row-VarDef-1 hidden
+unfolding out-Expr out-Simple out-Term out shown-the_row-Relation-6 shown-the_row-Product-8 shown-the_row-Addition-7 shown shape-the_row-VarDef-1 hidden-the_row-VarDef-1 hidden
 declared_anew = refl
 
 -- the value of a name alone
 abbrev named : ℕ → TreeExpr
-named at = Expr' (place at) (Simple' (place at) None (Term' (place at) (f.Desig' (letter at) [] end_of-Selector) [] end_of-Product) [] end_of-Addition) Expr-right-None'
+named at = Expr' (place at) (Simple' (place at) None (Term' (place at) (f.Desig' (letter at) [] end_of-Selector) [] end_of-Product) [] end_of-Addition) (inl tt) end_of-Relation
 
 -- CONST c = 1
 abbrev constant : (word at value : ℕ) → Decl
@@ -259,7 +259,7 @@ a_constant : elaborate (codes "MODULE B; CONST c = 1; VAR n: LONGINT; BEGIN n :=
       procedures = [];
       body = plain_body (Then (Assign (place 45) longint (ModuleVar 0 0) (Lit (literal.Int (pos 1)))) Nothing);
     } ∷ []))
-unfolding out-Expr out-Simple out-Term out shown-the_row-Product-6 shown-the_row-Addition-5 shown shape-the_row-VarDef-1 hidden-the_row-VarDef-1 hidden
+unfolding out-Expr out-Simple out-Term out shown-the_row-Relation-6 shown-the_row-Product-8 shown-the_row-Addition-7 shown shape-the_row-VarDef-1 hidden-the_row-VarDef-1 hidden
 a_constant = refl
 
 -- and before it has none
@@ -268,5 +268,5 @@ too_early : elaborate (codes "MODULE B; VAR n: LONGINT; TYPE T = OBJECT BEGIN {A
     ∷ decl.Types' (place 26) (tt ∷ []) (more_of-TypeDef (def 31 None) (type.Object' (place 35) None [] end_of-Decl (active_body 42 49 (stat.Assign (record { name = letter 57; selectors = [] }) (place 59) (named 62))) (Some (letter 68))) end_of-TypeDef)
     ∷ constant 71 77 81 ∷ []) None 88) ∷ [])
     ≡ refused (refusal 20 0 (place 62))
-unfolding out-Expr out-Simple out-Term out shown-the_row-Product-6 shown-the_row-Addition-5 shown hidden shape-the_row-VarDef-1 hidden-the_row-VarDef-1
+unfolding out-Expr out-Simple out-Term out shown-the_row-Relation-6 shown-the_row-Product-8 shown-the_row-Addition-7 shown hidden shape-the_row-VarDef-1 hidden-the_row-VarDef-1
 too_early = refl

@@ -20,7 +20,8 @@ use Rattle.aos_variables.proofs.Pairs.{drop_item, drop_some, drop_none}
 
 -- a procedure as it is written, with these declarations
 abbrev with_decls : Proc → List Decl → Procedure
-with_decls a ds = record { at = a.pos; initializer = a.initializer; name = a.def.name; formals = a.formals; decls = ds; body = a.body }
+with_decls a ds =
+    record { at = a.outline.pos; initializer = a.outline.initializer; name = a.outline.def.name; formals = a.outline.formals; decls = ds; body = a.outline.body }
 
 abbrev pub whole : Proc → Procedure
 whole a = with_decls a a.decls
@@ -38,8 +39,8 @@ none_in : (x : Decl) → ((a : Proc) → x ≡ decl.Proc a → ⊥) → whole_pr
 none_in (decl.Consts p cs) never = refl
 none_in (decl.Types' p shape row) never = refl
 none_in (decl.Vars' p shape row) never = refl
-none_in (decl.Proc' p i def formals shape row body end) never =
-    absurd (never _ (sym (roll-out-Decl (decl.Proc' p i def formals shape row body end)) ∙ ap roll-Decl (decl.outs-Proc' p i def formals shape row body end) ∙ decl.rolls-Proc _))
+none_in (decl.Proc' o shape row) never =
+    absurd (never _ (sym (roll-out-Decl (decl.Proc' o shape row)) ∙ ap roll-Decl (decl.outs-Proc' o shape row) ∙ decl.rolls-Proc _))
 
 pub procedure_none : (ds : List Decl) (i : ℕ) (x : Decl) → i < length ds → x ≡ get_or ds i x → ((a : Proc) → x ≡ decl.Proc a → ⊥) →
     procedures (drop i ds) ≡ procedures (drop (i + 1) ds)
@@ -48,7 +49,7 @@ procedure_none ds i x lt at never =
 
 module _ (e : Env) (ds : List Decl) (i k next : ℕ) (done more : List Stats) (x : Decl) (a : Proc) where
   abbrev here : Judged (List Stat)
-  here = body_of (within e k) false a.body
+  here = body_of (within e k) false a.outline.body
 
   abbrev behind : Judged (List Stats)
   behind = bodies_from e next more (procedures (drop (i + 1) ds))

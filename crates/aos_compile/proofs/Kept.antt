@@ -198,7 +198,7 @@ mutual
   member_fixed f (decl.Consts p cs) = walk_keeps fixed constant_def constant_fixed f.env cs
   member_fixed f (decl.Types' p shape row) = refl
   member_fixed f (decl.Vars' p shape row) = own_fields_fixed f row
-  member_fixed f (decl.Proc' p i def formals shape row body end) = refl
+  member_fixed f (decl.Proc' o shape row) = refl
 
   own_fields_fixed : {m : _} (f : MembersMet) (r : Row_of-VarDef m) → fixed (variables_in f r).answer.env ≡ fixed f.env
   own_fields_fixed f end_of-VarDef = refl
@@ -249,7 +249,7 @@ declared_fixed : (e : Env) (d : Decl) → fixed (declared e d).answer ≡ fixed 
 declared_fixed e (decl.Consts p cs) = walk_keeps fixed constant_def constant_fixed e cs
 declared_fixed e (decl.Types' p shape row) = walk_keeps fixed type_def (λ e d. type_def_fixed e d.def d.value) e (items-the_row-TypeDef _ row)
 declared_fixed e (decl.Vars' p shape row) = walk_keeps fixed variable_def variable_fixed e (items-the_row-VarDef _ row)
-declared_fixed e (decl.Proc' p i def formals shape row body end) = refl
+declared_fixed e (decl.Proc' o shape row) = refl
 
 -- Headings.
 
@@ -284,7 +284,7 @@ inner_declared_fixed : (e : Env) (d : Decl) → fixed (inner_declared e d).answe
 inner_declared_fixed e (decl.Consts p cs) = refl
 inner_declared_fixed e (decl.Types' p shape row) = walk_keeps fixed type_def (λ e d. type_def_fixed e d.def d.value) e (items-the_row-TypeDef _ row)
 inner_declared_fixed e (decl.Vars' p shape row) = refl
-inner_declared_fixed e (decl.Proc' p i def formals shape row body end) = refl
+inner_declared_fixed e (decl.Proc' o shape row) = refl
 
 types_fixed : (e : Env) (k : ℕ) (ds : List TypeDef) → fixed (inner_from e k ds).answer ≡ fixed e
 types_fixed e k [] = refl

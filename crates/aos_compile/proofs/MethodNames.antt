@@ -273,7 +273,7 @@ module _ (text : List ℕ) where
   decl_sorts (decl.Consts p cs) w = let same = ap (λ l. copies l w) (consts_spelled cs) in omega (arith, same)
   decl_sorts (decl.Types' p shape row) w = let same = ap (λ l. copies l w) (types_are (items-the_row-TypeDef _ row)) in omega (arith, same)
   decl_sorts (decl.Vars' p shape row) w = let same = variables_are (items-the_row-VarDef _ row) w in omega (arith, same)
-  decl_sorts (decl.Proc' p i def formals shape row body end) w = omega arith
+  decl_sorts (decl.Proc' o shape row) w = omega arith
 
   all_sorts : (ds : List Decl) (w : Word) → copies (spelled (declared_names ds)) w ≡ of_sorts ds w
   all_sorts [] w = refl
@@ -412,7 +412,7 @@ module _ (text : List ℕ) where
   once_in (decl.Consts p cs) none = tt
   once_in (decl.Types' p shape row) none = once_types row none
   once_in (decl.Vars' p shape row) none = tt
-  once_in (decl.Proc' p i def formals shape row body end) none = tt
+  once_in (decl.Proc' o shape row) none = tt
 
   pub types_once : (ds : List Decl) → flat_map (within_decl text) ds ≡ [] → Each AreOnceIn (type_defs ds)
   types_once [] none = tt

@@ -51,7 +51,7 @@ name_in : (d : Decl) → map (λ (p : Procedure). p.name) (whole_procedures_in d
 name_in (decl.Consts p cs) = refl
 name_in (decl.Types' p shape row) = refl
 name_in (decl.Vars' p shape row) = refl
-name_in (decl.Proc' p i def formals shape row body end) = refl
+name_in (decl.Proc' o shape row) = refl
 
 -- procedures have the names of these definitions
 abbrev pub AreNamed : List Def → List Procedure → Type 0
@@ -70,7 +70,7 @@ named_here : (d : Decl) → AreNamed (procedures_in d) (whole_procedures_in d)
 named_here (decl.Consts p cs) = tt
 named_here (decl.Types' p shape row) = tt
 named_here (decl.Vars' p shape row) = tt
-named_here (decl.Proc' p i def formals shape row body end) = (refl, tt)
+named_here (decl.Proc' o shape row) = (refl, tt)
 
 pub are_named : (ds : List Decl) → AreNamed (procedure_defs ds) (procedures ds)
 are_named [] = tt

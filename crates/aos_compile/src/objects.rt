@@ -108,7 +108,8 @@ fn procedure_bodies(
     let mut scope = first;
     for decl in decls {
         if let Decl::Proc(proc) = decl {
-            bodies.push(procedure_statements(alloc, found, env, scope, &proc.body)?)?;
+            let outline = proc.outline.get();
+            bodies.push(procedure_statements(alloc, found, env, scope, &outline.body)?)?;
             scope = number_behind(scope)?;
         }
     }

@@ -35,24 +35,25 @@ fn procedure_of(
     body: Vec<TStat>,
 ) -> Result<TProcedure, AllocError>
     ensures { IfOk result (λ p. seen_procedure p ≡ judge.procedure_of text.now (record {
-      at = proc.now.pos;
-      initializer = proc.now.initializer;
-      name = proc.now.def.name;
-      formals = proc.now.formals;
+      at = proc.now.outline.pos;
+      initializer = proc.now.outline.initializer;
+      name = proc.now.outline.def.name;
+      formals = proc.now.outline.formals;
       decls = proc.now.decls;
-      body = proc.now.body;
+      body = proc.now.outline.body;
     }) signature.now (parts.variables_of (option_copied scope.entry)) (seen_stats body.items)) }
 {
+    let outline = proc.outline.get();
     let (name, parameters, locals) = heading_of(alloc, text, proc, signature, scope)?;
     Ok(TProcedure {
         name,
-        at: proc.def.name.pos,
+        at: outline.def.name.pos,
         of: None,
-        is_initializer: proc.initializer.is_some(),
+        is_initializer: outline.initializer.is_some(),
         parameters,
         locals,
         result: result_of(signature.gives),
-        is_exclusive: is_exclusive_body(text, &proc.body),
+        is_exclusive: is_exclusive_body(text, &outline.body),
         body,
     })
 }

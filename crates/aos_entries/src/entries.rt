@@ -129,7 +129,7 @@ fn procedures_of(alloc: Global, decls: &[Decl]) -> Result<Vec<Def>, AllocError>
     let mut all = Vec::new(alloc);
     for decl in decls {
         if let Decl::Proc(proc) = decl {
-            all.push(proc.def)?;
+            all.push(proc.outline.get().def)?;
         }
     }
     Ok(all)
@@ -484,8 +484,9 @@ fn add_procedure_scopes<'a>(
 {
     for decl in decls {
         if let Decl::Proc(proc) = decl {
+            let formals = &proc.outline.get().formals;
             let decls = proc.decls.as_slice();
-            let scope = procedure_scope(alloc, place, text, numbers, &proc.formals, decls)?;
+            let scope = procedure_scope(alloc, place, text, numbers, formals, decls)?;
             add_scope(scopes, scope)?;
         }
     }
@@ -590,7 +591,7 @@ fn initial_of(decls: &[Decl]) -> Result<Option<u32>, NoMemory>
     let mut place: u32 = 0;
     for decl in decls {
         if let Decl::Proc(proc) = decl {
-            if proc.initializer.is_some() {
+            if proc.outline.get().initializer.is_some() {
                 return Ok(Some(place));
             }
             place = more_of(place, 1)?;

@@ -33,7 +33,7 @@ fn shape_of(alloc: Global, tree: &Expr) -> Result<String, AllocError> {
         [] => false,
     };
     let terms = tree.left.rest.len();
-    let is_relation = tree.right.is_some();
+    let is_relation = tree.right.get().is_some();
     let sign = match tree.left.sign {
         None => "no sign",
         Some(Sign::Plus) => "plus",

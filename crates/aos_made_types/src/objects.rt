@@ -45,7 +45,7 @@ fn claim_own_methods(env: &mut Env<'_>, base: TypeId, decls: &[Decl]) -> Result<
 {
     for decl in decls {
         if let Decl::Proc(proc) = decl {
-            claim(env, Claim::Method(proc.def.name, base))?;
+            claim(env, Claim::Method(proc.outline.get().def.name, base))?;
         }
     }
     Ok(())

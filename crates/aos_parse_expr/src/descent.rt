@@ -14,7 +14,8 @@ use crate::token::{
 };
 use aos_scan::{Token, TokenKind};
 use aos_tree::{
-    Addition, Boxed, Desig, Elem, Expr, Factor, Items, Product, Relation, Selector, Simple, Term,
+    Addition, Boxed, Desig, Elem, Expr, Factor, Items, MaybeBoxed, Product, Relation, Selector,
+    Simple, Term,
 };
 use std::alloc::Global;
 
@@ -48,7 +49,7 @@ pub fn expr<'a>(
                 Expr {
                     pos: first.pos,
                     left,
-                    right: Some(right),
+                    right: MaybeBoxed::new(alloc, right)?,
                 },
                 rest,
             ))
@@ -57,7 +58,7 @@ pub fn expr<'a>(
             Expr {
                 pos: first.pos,
                 left,
-                right: None,
+                right: MaybeBoxed::empty(),
             },
             rest,
         )),
@@ -308,12 +309,18 @@ pub fn elem<'a>(
             Ok((
                 Elem {
                     first,
-                    last: Some(last),
+                    last: MaybeBoxed::new(alloc, last)?,
                 },
                 rest,
             ))
         }
-        _ => Ok((Elem { first, last: None }, rest)),
+        _ => Ok((
+            Elem {
+                first,
+                last: MaybeBoxed::empty(),
+            },
+            rest,
+        )),
     }
 }
 

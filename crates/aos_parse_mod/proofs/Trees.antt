@@ -69,7 +69,7 @@ module _ {may : Rule} {d : ℕ} where
 
   pub proc_of : {p q : Pos} {b : Option Pos} {def : Def} {formals : Option Formals} {decls : List Decl} {body : Option Block} {end : Name} {ts t0 t1 t2 t3 t4 t5 t6 rest : List Token} → IsWord may d k.KwProcedure p ts t0 → IsOptional may d k.Ampersand b t0 t1 →
       IsDef may d def t1 t2 → IsFormalsOption may d formals t2 t3 → IsWord may d k.Semicolon q t3 t4 → IsDecls may true d decls t4 t5 → IsBody may d body t5 t6 → IsName may d end t6 rest →
-      IsProc may d (roll-Proc (record { pos = p; initializer = b; def = def; formals = formals; decls = decls; body = body; end = end })) ts rest
+      IsProc may d (roll-Proc (record { outline = record { pos = p; initializer = b; def = def; formals = formals; body = body; end = end }; decls = decls })) ts rest
   proc_of x part.left_out def heading y decls body end = declared.proper x def heading y decls body end
   proc_of x (part.there u) def heading y decls body end = declared.initializer x u def heading y decls body end
 

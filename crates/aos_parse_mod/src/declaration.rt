@@ -18,13 +18,17 @@ use crate::phrases::{body, lengths, then_expr};
 use crate::token::{ident, option, split, starts_decl, word};
 use aos_parse_expr::ParseErr;
 use aos_scan::{Token, TokenKind};
-use aos_tree::{Boxed, ConstDef, Decl, Fields, Items, Name, Proc, TypeDef, TypeExpr, VarDef};
+use aos_tree::{
+    Boxed, ConstDef, Decl, Fields, Items, MaybeBoxed, Name, Outline, Proc, TypeDef, TypeExpr,
+    VarDef,
+};
 use std::alloc::Global;
 
 pub fn end_name<'a>(
+    alloc: Global,
     tokens: &'a [Token],
     depth: u32,
-) -> Result<(Option<Name>, &'a [Token]), ParseErr>
+) -> Result<(MaybeBoxed<Name>, &'a [Token]), ParseErr>
     requires ended { IsEnded tokens.now }
     requires nested { depth ≤ 200 }
     ensures tree { IfOk result (λ r. IsEndName shallow depth r.0 tokens.now r.1.now) }
@@ -36,9 +40,9 @@ pub fn end_name<'a>(
     match token.kind {
         TokenKind::Ident => {
             let (name, rest) = ident(tokens, depth)?;
-            Ok((Some(name), rest))
+            Ok((MaybeBoxed::new(alloc, name)?, rest))
         }
-        _ => Ok((None, tokens)),
+        _ => Ok((MaybeBoxed::empty(), tokens)),
     }
 }
 
@@ -157,14 +161,18 @@ pub fn proc<'a>(
     let (body, rest) = body(alloc, rest, depth)?;
     let (end, rest) = ident(rest, depth)?;
     let (_, rest) = word(rest, depth, TokenKind::Semicolon)?;
-    let proc = Proc {
+    let outline = Outline {
         pos: place,
         initializer,
         def,
         formals,
-        decls,
         body,
         end,
+    };
+    let boxed = Boxed::new(alloc, outline)?;
+    let proc = Proc {
+        outline: boxed,
+        decls,
     };
     Ok((Decl::Proc(proc), rest))
 }
@@ -305,7 +313,10 @@ pub fn type_expr<'a>(
         TokenKind::KwProcedure => {
             let (flag, rest) = flag(after, depth + 1)?;
             let (formals, rest) = formals(alloc, rest, depth + 1)?;
-            Ok((TypeExpr::Proc(token.pos, flag, formals), rest))
+            Ok((
+                TypeExpr::Proc(token.pos, flag, Boxed::new(alloc, formals)?),
+                rest,
+            ))
         }
         TokenKind::KwObject => object(alloc, tokens, depth),
         _ => Err(ParseErr::Expected(token.pos)),
@@ -327,7 +338,7 @@ pub fn record<'a>(
         m.more_fields (depth + 1) ∷ m.tok (depth + 1) TokenKind.KwEnd ∷ []) tokens.now result }
 {
     let (place, rest) = word(tokens, depth + 1, TokenKind::KwRecord)?;
-    let (base, rest) = base(rest, depth + 1)?;
+    let (base, rest) = base(alloc, rest, depth + 1)?;
     let (all, rest) = field_list(alloc, rest, depth + 1)?;
     let (_, rest) = word(rest, depth + 1, TokenKind::KwEnd)?;
     Ok((TypeExpr::Record(place, base, all), rest))
@@ -349,10 +360,10 @@ pub fn object<'a>(
         []) tokens.now result }
 {
     let (place, rest) = word(tokens, depth + 1, TokenKind::KwObject)?;
-    let (base, rest) = base(rest, depth + 1)?;
+    let (base, rest) = base(alloc, rest, depth + 1)?;
     let (all, rest) = decls(alloc, rest, depth + 1, false)?;
     let (body, rest) = body(alloc, rest, depth + 1)?;
-    let (end, rest) = end_name(rest, depth + 1)?;
+    let (end, rest) = end_name(alloc, rest, depth + 1)?;
     Ok((TypeExpr::Object(place, base, all, body, end), rest))
 }
 

@@ -13,14 +13,15 @@ use crate::token::{ident, option, split, word};
 use aos_base::Pos;
 use aos_parse_expr::ParseErr;
 use aos_scan::{Token, TokenKind};
-use aos_tree::{Formals, Items, Name, Qualident, Section};
+use aos_tree::{Formals, Items, MaybeBoxed, Name, Qualident, Section};
 use std::alloc::Global;
 
 /// The type in parentheses, where `(` comes.
 pub fn base<'a>(
+    alloc: Global,
     tokens: &'a [Token],
     depth: u32,
-) -> Result<(Option<Qualident>, &'a [Token]), ParseErr>
+) -> Result<(MaybeBoxed<Qualident>, &'a [Token]), ParseErr>
     requires ended { IsEnded tokens.now }
     requires nested { depth ≤ 200 }
     ensures tree { IfOk result (λ r. IsBase shallow depth r.0 tokens.now r.1.now) }
@@ -32,9 +33,9 @@ pub fn base<'a>(
         TokenKind::OpenParen => {
             let (of, rest) = qualident(after, depth)?;
             let (_, rest) = word(rest, depth, TokenKind::CloseParen)?;
-            Ok((Some(of), rest))
+            Ok((MaybeBoxed::new(alloc, of)?, rest))
         }
-        _ => Ok((None, tokens)),
+        _ => Ok((MaybeBoxed::empty(), tokens)),
     }
 }
 

@@ -1,7 +1,9 @@
 // Whether two declarations are the same.
 
 use crate::Alike;
-use aos_tree::{ConstDef, Decl, Fields, Formals, Proc, Section, TypeDef, TypeExpr, VarDef};
+use aos_tree::{
+    ConstDef, Decl, Fields, Formals, Outline, Proc, Section, TypeDef, TypeExpr, VarDef,
+};
 
 impl Alike for ConstDef {
     fn same(&self, other: &ConstDef) -> bool {
@@ -68,11 +70,16 @@ impl Alike for VarDef {
 impl Alike for Proc {
     #[cycle(same_declarations)]
     fn same(&self, other: &Proc) -> bool {
+        self.outline.same(&other.outline) && self.decls.same(&other.decls)
+    }
+}
+
+impl Alike for Outline {
+    fn same(&self, other: &Outline) -> bool {
         self.pos.same(&other.pos)
             && self.initializer.same(&other.initializer)
             && self.def.same(&other.def)
             && self.formals.same(&other.formals)
-            && self.decls.same(&other.decls)
             && self.body.same(&other.body)
             && self.end.same(&other.end)
     }

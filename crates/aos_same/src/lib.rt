@@ -4,7 +4,7 @@
 
 ghost use Rattle.std.specs.Prelude.{◌≡◌, ◌↔◌, IsTrue};
 
-use aos_tree::{Boxed, Import, Items, Module};
+use aos_tree::{Boxed, Import, Items, MaybeBoxed, Module};
 
 mod decl;
 mod expr;
@@ -21,6 +21,21 @@ trait Alike {
 impl<T: Alike> Alike for Boxed<T> {
     fn same(&self, other: &Boxed<T>) -> bool {
         self.get().same(other.get())
+    }
+}
+
+impl<T: Alike> Alike for MaybeBoxed<T> {
+    fn same(&self, other: &MaybeBoxed<T>) -> bool {
+        match self.get() {
+            None => match other.get() {
+                None => true,
+                Some(_) => false,
+            },
+            Some(a) => match other.get() {
+                None => false,
+                Some(b) => a.same(b),
+            },
+        }
     }
 }
 

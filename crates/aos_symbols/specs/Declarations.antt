@@ -23,13 +23,13 @@ abbrev pub constants_in : Decl → List Def
 constants_in (Consts p cs) = map (λ c. c.def) cs
 constants_in (Types' p shape row) = []
 constants_in (Vars' p shape row) = []
-constants_in (Proc' p i def formals shape row body end) = []
+constants_in (Proc' o shape row) = []
 
 abbrev pub types_in : Decl → List TypeDef
 types_in (Types' p shape row) = items-the_row-TypeDef _ row
 types_in (Consts p cs) = []
 types_in (Vars' p shape row) = []
-types_in (Proc' p i def formals shape row body end) = []
+types_in (Proc' o shape row) = []
 
 abbrev pub seen_types : List (Bor TypeDef) → List TypeDef
 seen_types ds = map (λ d. d.now) ds
@@ -38,10 +38,10 @@ abbrev pub variables_in : Decl → List VarDef
 variables_in (Vars' p shape row) = items-the_row-VarDef _ row
 variables_in (Consts p cs) = []
 variables_in (Types' p shape row) = []
-variables_in (Proc' p i def formals shape row body end) = []
+variables_in (Proc' o shape row) = []
 
 abbrev pub procedures_in : Decl → List Def
-procedures_in (Proc' p i def formals shape row body end) = def ∷ []
+procedures_in (Proc' o shape row) = o.def ∷ []
 procedures_in (Consts p cs) = []
 procedures_in (Types' p shape row) = []
 procedures_in (Vars' p shape row) = []
@@ -63,7 +63,7 @@ abbrev pub singles_in : Decl → List Def
 singles_in (Vars' p shape row) = flat_map (λ v. v.defs) (items-the_row-VarDef _ row)
 singles_in (Consts p cs) = []
 singles_in (Types' p shape row) = []
-singles_in (Proc' p i def formals shape row body end) = []
+singles_in (Proc' o shape row) = []
 
 abbrev pub single_variables : List Decl → List Def
 single_variables ds = flat_map singles_in ds
@@ -73,7 +73,7 @@ abbrev pub names_in : Decl → List Name
 names_in (Consts p cs) = map (λ c. c.def.name) cs
 names_in (Types' p shape row) = map (λ d. d.def.name) (items-the_row-TypeDef _ row)
 names_in (Vars' p shape row) = flat_map (λ v. def_names v.defs) (items-the_row-VarDef _ row)
-names_in (Proc' p i def formals shape row body end) = def.name ∷ []
+names_in (Proc' o shape row) = o.def.name ∷ []
 
 abbrev pub declared_names : List Decl → List Name
 declared_names ds = flat_map names_in ds
@@ -89,15 +89,15 @@ pub record Procedure : Type 0 where
 
 abbrev pub procedure_of : Proc → Procedure
 procedure_of p =
-    record { at = p.pos; initializer = p.initializer; name = p.def.name; formals = p.formals; decls = p.decls; body = p.body }
+    record { at = p.outline.pos; initializer = p.outline.initializer; name = p.outline.def.name; formals = p.outline.formals; decls = p.decls; body = p.outline.body }
 
 -- procedures that are borrowed
 abbrev pub seen_procedures : List (Bor Proc) → List Procedure
 seen_procedures ps = map (λ p. procedure_of p.now) ps
 
 abbrev pub whole_procedures_in : Decl → List Procedure
-whole_procedures_in (Proc' p i def formals shape row body end) =
-    record { at = p; initializer = i; name = def.name; formals = formals; decls = items-the_row-Decl _ row; body = body } ∷ []
+whole_procedures_in (Proc' o shape row) =
+    record { at = o.pos; initializer = o.initializer; name = o.def.name; formals = o.formals; decls = items-the_row-Decl _ row; body = o.body } ∷ []
 whole_procedures_in (Consts p cs) = []
 whole_procedures_in (Types' p shape row) = []
 whole_procedures_in (Vars' p shape row) = []

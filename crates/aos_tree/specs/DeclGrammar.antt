@@ -161,11 +161,11 @@ mutual
     proper : {d : ℕ} {p q : Pos} {def : Def} {formals : Option Formals} {decls : List Decl} {body : Option Block} {end : Name} {ts t1 t2 t3 t4 t5 t6 rest : List Token} →
         IsWord may d k.KwProcedure p ts t1 → IsDef may d def t1 t2 → IsFormalsOption may d formals t2 t3 → IsWord may d k.Semicolon q t3 t4 →
         IsDecls may true d decls t4 t5 → IsBody may d body t5 t6 → IsName may d end t6 rest →
-        IsProc may d (roll-Proc (record { pos = p; initializer = None; def = def; formals = formals; decls = decls; body = body; end = end })) ts rest
+        IsProc may d (roll-Proc (record { outline = record { pos = p; initializer = None; def = def; formals = formals; body = body; end = end }; decls = decls })) ts rest
     initializer : {d : ℕ} {p q r : Pos} {def : Def} {formals : Option Formals} {decls : List Decl} {body : Option Block} {end : Name} {ts t0 t1 t2 t3 t4 t5 t6 rest : List Token} →
         IsWord may d k.KwProcedure p ts t0 → IsWord may d k.Ampersand r t0 t1 → IsDef may d def t1 t2 → IsFormalsOption may d formals t2 t3 → IsWord may d k.Semicolon q t3 t4 →
         IsDecls may true d decls t4 t5 → IsBody may d body t5 t6 → IsName may d end t6 rest →
-        IsProc may d (roll-Proc (record { pos = p; initializer = Some r; def = def; formals = formals; decls = decls; body = body; end = end })) ts rest
+        IsProc may d (roll-Proc (record { outline = record { pos = p; initializer = Some r; def = def; formals = formals; body = body; end = end }; decls = decls })) ts rest
 
   -- Type = Qualident | ARRAY .. | RECORD .. | POINTER .. | PROCEDURE .. | OBJECT ...
   pub data IsType (may : Rule) : ℕ → TypeExpr → List Token → List Token → Type 0 where

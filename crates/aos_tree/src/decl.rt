@@ -3,7 +3,7 @@
 ghost use Rattle.std.specs.Prelude.{◌≡◌};
 ghost use Rattle.aos_tree.specs.Parts.{type_of, decl_of};
 
-use crate::boxed::Boxed;
+use crate::boxed::{Boxed, MaybeBoxed};
 use crate::expr::Expr;
 use crate::items::Items;
 use crate::name::{Name, Qualident};
@@ -78,31 +78,42 @@ pub struct VarDef {
 /// `Proc = PROCEDURE ["&"] Def [Formals] ";" {LocalDecl} Body ident.` A body that is END alone is no block.
 #[cycle(declarations)]
 pub struct Proc {
-    pub pos: Pos,
-    /// The place of `&`, where it stands before the name.
-    pub initializer: Option<Pos>,
-    pub def: Def,
-    pub formals: Option<Formals>,
+    pub outline: Boxed<Outline>,
     /// None of them is a procedure.
     pub decls: Items<Decl>,
-    pub body: Option<Boxed<Block>>,
-    pub end: Name,
 }
 
 impl Drop for Proc {
     #[cycle(drop_declarations)]
     fn drop(self) {
-        let Proc {
+        let Proc { outline, decls } = self;
+        drop(outline);
+        drop(decls);
+    }
+}
+
+/// What a procedure has beside its own declarations. It stands in a box, so that a declaration takes little room.
+pub struct Outline {
+    pub pos: Pos,
+    /// The place of `&`, where it stands before the name.
+    pub initializer: Option<Pos>,
+    pub def: Def,
+    pub formals: Option<Formals>,
+    pub body: Option<Boxed<Block>>,
+    pub end: Name,
+}
+
+impl Drop for Outline {
+    fn drop(self) {
+        let Outline {
             pos: _,
             initializer: _,
             def: _,
             formals,
-            decls,
             body,
             end: _,
         } = self;
         drop(formals);
-        drop(decls);
         drop(body);
     }
 }
@@ -144,13 +155,13 @@ pub enum TypeExpr {
     /// `ARRAY [Expr {"," Expr}] OF Type`
     Array(Pos, Items<Expr>, Boxed<TypeExpr>),
     /// `RECORD ["(" Qualident ")"] Fields {";" Fields} END`
-    Record(Pos, Option<Qualident>, Items<Fields>),
+    Record(Pos, MaybeBoxed<Qualident>, Items<Fields>),
     /// `POINTER TO Type`
     Pointer(Pos, Boxed<TypeExpr>),
     /// `PROCEDURE ["{" ident "}"] [Formals]`
-    Proc(Pos, Option<Name>, Option<Formals>),
+    Proc(Pos, Option<Name>, Boxed<Option<Formals>>),
     /// `OBJECT ["(" Qualident ")"] {Decl} Body [ident]`
-    Object(Pos, Option<Qualident>, Items<Decl>, Option<Boxed<Block>>, Option<Name>),
+    Object(Pos, MaybeBoxed<Qualident>, Items<Decl>, Option<Boxed<Block>>, MaybeBoxed<Name>),
 }
 
 impl Drop for TypeExpr {
@@ -162,12 +173,17 @@ impl Drop for TypeExpr {
                 drop(expr);
                 drop(of);
             }
-            TypeExpr::Record(_, _, fields) => drop(fields),
+            TypeExpr::Record(_, base, fields) => {
+                drop(base);
+                drop(fields);
+            }
             TypeExpr::Pointer(_, of) => drop(of),
             TypeExpr::Proc(_, _, formals) => drop(formals),
-            TypeExpr::Object(_, _, decl, block, _) => {
+            TypeExpr::Object(_, base, decl, block, end) => {
+                drop(base);
                 drop(decl);
                 drop(block);
+                drop(end);
             }
         }
     }
@@ -209,10 +225,10 @@ impl Decl {
 pub enum TypeParts {
     Named(Qualident),
     Array(Pos, Items<Expr>, TypeExpr),
-    Record(Pos, Option<Qualident>, Items<Fields>),
+    Record(Pos, MaybeBoxed<Qualident>, Items<Fields>),
     Pointer(Pos, TypeExpr),
-    Proc(Pos, Option<Name>, Option<Formals>),
-    Object(Pos, Option<Qualident>, Items<Decl>, Option<Boxed<Block>>, Option<Name>),
+    Proc(Pos, Option<Name>, Boxed<Option<Formals>>),
+    Object(Pos, MaybeBoxed<Qualident>, Items<Decl>, Option<Boxed<Block>>, MaybeBoxed<Name>),
 }
 
 impl TypeExpr {

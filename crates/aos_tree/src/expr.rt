@@ -1,6 +1,6 @@
 // Expressions.
 
-use crate::boxed::Boxed;
+use crate::boxed::{Boxed, MaybeBoxed};
 use crate::items::Items;
 use crate::name::{Name, Text};
 use aos_base::Pos;
@@ -48,7 +48,7 @@ pub enum Sign {
 pub struct Expr {
     pub pos: Pos,
     pub left: Simple,
-    pub right: Option<Relation>,
+    pub right: MaybeBoxed<Relation>,
 }
 
 impl Drop for Expr {
@@ -144,7 +144,7 @@ impl Drop for Factor {
 #[derive(Drop)]
 pub struct Elem {
     pub first: Expr,
-    pub last: Option<Expr>,
+    pub last: MaybeBoxed<Expr>,
 }
 
 /// `Desig = ident {Selector}.` Its place is that of its name.

@@ -10,9 +10,9 @@ pub mod module;
 pub mod name;
 pub mod stat;
 
-pub use boxed::Boxed;
+pub use boxed::{Boxed, MaybeBoxed};
 pub use decl::{
-    ConstDef, Decl, DeclParts, Def, Export, Fields, Formals, Mark, Proc, Section, TypeDef,
+    ConstDef, Decl, DeclParts, Def, Export, Fields, Formals, Mark, Outline, Proc, Section, TypeDef,
     TypeExpr, TypeParts, VarDef,
 };
 pub use expr::{

@@ -60,7 +60,7 @@ decl_behind : (g : Added) (d : Decl) → IsBehind g.text (in_decl g d).added.tex
 decl_behind g (decl.Consts p cs) = nothing_behind g.text
 decl_behind g (decl.Types' p shape row) = through_behind in_definition (λ g (d : TypeDef). value_behind g d.value) g (items-the_row-TypeDef _ row)
 decl_behind g (decl.Vars' p shape row) = through_behind in_variable (λ g (v : VarDef). type_behind g v.of) g (items-the_row-VarDef _ row)
-decl_behind g (decl.Proc' p i def formals shape row body end) = nothing_behind g.text
+decl_behind g (decl.Proc' o shape row) = nothing_behind g.text
 
 pub text_behind : (text : List ℕ) (m : Module) → IsBehind text (all_named text m).0
 text_behind text m = through_behind in_decl decl_behind (record { text = text; defs = [] }) m.decls

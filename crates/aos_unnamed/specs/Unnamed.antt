@@ -99,7 +99,7 @@ abbrev pub in_decl : Added → Decl → With Decl
 in_decl g (decl.Consts p cs) = beside (decl.Consts p cs) g
 in_decl g (decl.Types' p shape row) = let all = through in_definition g (items-the_row-TypeDef _ row) in beside (decl.Types p all.part) all.added
 in_decl g (decl.Vars' p shape row) = let all = through in_variable g (items-the_row-VarDef _ row) in beside (decl.Vars p all.part) all.added
-in_decl g (decl.Proc' p i def formals shape row body end) = beside (decl.Proc' p i def formals shape row body end) g
+in_decl g (decl.Proc' o shape row) = beside (decl.Proc' o shape row) g
 
 -- a module in which all object types have names, and its text with those behind it that are given
 abbrev pub all_named : List ℕ → Module → List ℕ × Module

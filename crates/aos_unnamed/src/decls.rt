@@ -29,7 +29,7 @@ fn in_variables(
     ensures added { OnOk result (added.new ≡
         (rules.through rules.in_variable added.old defs).added) }
 {
-    let mut all = Items::new(alloc);
+    let mut all = Items::with_room(alloc, defs.len())?;
     for def in defs.into_vec() {
         let def = in_variable(alloc, added, def)?;
         all.push(def)?;
@@ -73,7 +73,7 @@ fn in_definitions(
     ensures added { OnOk result
         (added.new ≡ (rules.through rules.in_definition added.old defs).added) }
 {
-    let mut all = Items::new(alloc);
+    let mut all = Items::with_room(alloc, defs.len())?;
     for def in defs.into_vec() {
         let def = in_definition(alloc, added, def)?;
         all.push(def)?;
@@ -105,7 +105,7 @@ pub fn in_decls(
     ensures part { IfOk result (λ r. r ≡ (rules.through rules.in_decl added.old decls).part) }
     ensures added { OnOk result (added.new ≡ (rules.through rules.in_decl added.old decls).added) }
 {
-    let mut all = Items::new(alloc);
+    let mut all = Items::with_room(alloc, decls.len())?;
     for decl in decls.into_vec() {
         let decl = in_decl(alloc, added, decl)?;
         all.push(decl)?;

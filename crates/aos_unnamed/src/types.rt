@@ -78,7 +78,7 @@ fn in_fields(
     ensures added { OnOk result (added.new ≡
         (rules.through rules.in_field added.old fields).added) }
 {
-    let mut all = Items::new(alloc);
+    let mut all = Items::with_room(alloc, fields.len())?;
     for field in fields.into_vec() {
         let field = in_field(alloc, left, added, field)?;
         all.push(field)?;

@@ -116,17 +116,18 @@ pub fn heading_of(
     scope: Option<&Scope<'_>>,
 ) -> Result<(String, Vec<TParameter>, Vec<TVariable>), AllocError>
     ensures name { IfOk result (λ r.
-        string_bytes r.0 ≡ judge.spelling text.now proc.now.def.name) }
+        string_bytes r.0 ≡ judge.spelling text.now proc.now.outline.def.name) }
     ensures parameters { IfOk result (λ r. map seen_parameter r.1.items ≡
         map (judge.parameter_of text.now)
-        (zip (formal_names proc.now.formals) signature.now.parameters)) }
+        (zip (formal_names proc.now.outline.formals) signature.now.parameters)) }
     ensures locals { IfOk result (λ r. map seen_variable r.2.items ≡
         map (judge.variable_of text.now) (zip (single_variables proc.now.decls)
-        (drop (length (formal_names proc.now.formals))
+        (drop (length (formal_names proc.now.outline.formals))
         (judge.variables_of (option_copied scope.entry))))) }
 {
-    let names = names_of(alloc, &proc.formals)?;
-    let name = spelling_of(alloc, text, proc.def.name)?;
+    let outline = proc.outline.get();
+    let names = names_of(alloc, &outline.formals)?;
+    let name = spelling_of(alloc, text, outline.def.name)?;
     let parameters = parameters_of(
         alloc,
         text,

@@ -2,6 +2,7 @@
 use Rattle.std.proofs.Common.{◌≡◌, List, length, ◌==◌, Bool, true, false, Option, None, sym, ap, ◌∙◌, subst}
 use Rattle.aos_tree.specs.declared.expr.Expr.{Expr}
 use Rattle.aos_tree.specs.declared.decl.TypeExpr.{TypeExpr}
+use Rattle.aos_tree.specs.declared.name.Qualident.{Qualident}
 use Rattle.aos_types.specs.declared.row.TypeId.{TypeId}
 use Rattle.aos_symbols.specs.Judged.{kept, bind, walk}
 use Rattle.aos_check_decl.specs.Types as judge
@@ -56,9 +57,13 @@ pub type_in-returns-in-Record : goal.type_in-returns-in-Record
 type_in-returns-in-Record t c =
     let slot = c.args.slot in
     let e = c.args.env.now in
-    tells_as c.record_in.result (λ of. judge.met c.record_in.new.env of) c.args.found.now c.record_in.new.found
+    let r = c.record_in.result in
+    let behind = c.record_in.new.found in
+    let seen = λ (of : Option TypeId). judge.met c.record_in.new.env of in
+    tells_as r seen c.args.found.now behind
     (judge.record_of slot e c.in-Record.at c.in-Record.base c.in-Record.fields) (judge.type_in c.args.may_be_open slot e c.args.of.now)
-    (record_met c.args.may_be_open slot e c.args.of.now c.in-Record.at c.in-Record.base c.in-Record.fields c.in-Record.is) c.record_in.ensures
+    (record_met c.args.may_be_open slot e c.args.of.now c.in-Record.at c.in-Record.base c.in-Record.fields c.in-Record.is)
+    (subst (λ (b : Option Qualident). Tells r c.args.found.now behind seen (judge.record_of slot e c.in-Record.at b c.in-Record.fields)) c.copied.ensures c.record_in.ensures)
 
 pub member_in-returns-in-Vars : goal.member_in-returns-in-Vars
 member_in-returns-in-Vars t c =
@@ -73,9 +78,13 @@ type_in-returns-in-Object t c =
     let slot = c.args.slot in
     let e = c.args.env.now in
     let o = c.in-Object in
-    tells_as c.object_in.result (λ of. judge.met c.object_in.new.env of) c.args.found.now c.object_in.new.found
+    let r = c.object_in.result in
+    let behind = c.object_in.new.found in
+    let seen = λ (of : Option TypeId). judge.met c.object_in.new.env of in
+    tells_as r seen c.args.found.now behind
     (judge.object_of slot e o.at o.base o.decls) (judge.type_in c.args.may_be_open slot e c.args.of.now)
-    (object_written c.args.may_be_open slot e c.args.of.now o.at o.base o.decls o.field-3 o.field-4 o.is) c.object_in.ensures
+    (object_written c.args.may_be_open slot e c.args.of.now o.at o.base o.decls o.field-3 o.field-4 o.is)
+    (subst (λ (b : Option Qualident). Tells r c.args.found.now behind seen (judge.object_of slot e o.at b o.decls)) c.copied-in-Object.ensures c.object_in.ensures)
 
 pub type_in-returns-in_ok-target-in-Pointer : goal.type_in-returns-in_ok-target-in-Pointer
 type_in-returns-in_ok-target-in-Pointer t c =

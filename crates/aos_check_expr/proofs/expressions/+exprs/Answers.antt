@@ -1,5 +1,6 @@
 -- Numbers, the forms of a factor and of a selector that stand in a row or a box, spans, and calls with two arguments.
 use Rattle.std.proofs.Common.{◌≡◌, map, IfOk, OnOk, sym, ap, ◌∙◌, subst, w64, to_z, of_z, to_z-of_z, arith}
+use Rattle.std.specs.Option.{option_copied}
 use Rattle.aos_base.specs.declared.number.Width.TheVariants.{W64}
 use Rattle.aos_base.specs.Number.{if_within}
 use Rattle.aos_tree.specs.declared.expr.Expr.{out-Expr}
@@ -95,10 +96,10 @@ element-returns-in_ok-last-in-Some-clause-noted t c =
     let at = c.args.at in
     let set = seen_answer c.args.set in
     let x = (out-Elem c.args.part.now).first in
-    let y = c.in-Some.last in
+    let y = c.in-Some.last.now in
     let low = c.in_ok-first in
     let high = c.in_ok-last-in-Some in
-    let is = element_is env at set c.args.part.now ∙ ap (λ l. element_as env at set x l) c.in-Some.is in
+    let is = element_is env at set c.args.part.now ∙ ap (λ l. element_as env at set x l) (sym c.get.ensures.value ∙ ap option_copied c.in-Some.is) in
     subst (λ z. OnOk c.with_span.result (c.with_span.new.found ≡ z))
     (told.noted_two (judge.element env at set c.args.part.now) (judge.expr env x) (judge.expr env y) (judge.with_span at set) (seen_answer low.first) (seen_answer high.last) is
     low.ensures.answer high.ensures.answer c.args.found.now c.expr.new.found c.expr-in-Some.new.found low.ensures.noted high.ensures.noted)

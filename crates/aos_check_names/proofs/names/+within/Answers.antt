@@ -1,5 +1,6 @@
 use Rattle.std.proofs.Common.{◌≡◌, OnOk, refl, ap, sym, ◌∙◌, ◌++◌, None, subst}
 use Rattle.std.specs.List.{flat_map}
+use Rattle.aos_tree.specs.declared.decl.Outline.{Outline}
 use Rattle.aos_symbols.specs.Breaches.{first_after}
 use Rattle.aos_check_names.specs.Names.{within_decl, within_type, within_field, twice, other_end, object_end, field_names}
 use Rattle.aos_symbols.specs.Declarations.{declared_names, formal_names}
@@ -21,10 +22,13 @@ pub within_decl-returns-in_ok-procedure_scope-in-Proc : goal.within_decl-returns
 within_decl-returns-in_ok-procedure_scope-in-Proc t c =
     let text = c.args.text.now in
     let a = c.in-Proc.proc in
-    let scope : c.procedure_scope.new.found ≡ first_after c.other_end.new.found (twice text (formal_names a.formals ++ declared_names a.decls)) =
-    subst (λ z. c.procedure_scope.new.found ≡ first_after c.other_end.new.found (twice text (formal_names a.formals ++ declared_names z))) c.as_slice.ensures c.in_ok-procedure_scope-in-Proc.ensures in
+    let ends : c.other_end.new.found ≡ first_after c.args.found.now (other_end text a.outline.def.name a.outline.end) =
+    subst (λ (o : Outline). c.other_end.new.found ≡ first_after c.args.found.now (other_end text o.def.name o.end)) c.get-outline.ensures c.other_end.ensures in
+    let scope : c.procedure_scope.new.found ≡ first_after c.other_end.new.found (twice text (formal_names a.outline.formals ++ declared_names a.decls)) =
+    subst (λ (o : Outline). c.procedure_scope.new.found ≡ first_after c.other_end.new.found (twice text (formal_names o.formals ++ declared_names a.decls))) c.get-outline.ensures
+    (subst (λ z. c.procedure_scope.new.found ≡ first_after c.other_end.new.found (twice text (formal_names c.get-outline.result.now.formals ++ declared_names z))) c.as_slice.ensures c.in_ok-procedure_scope-in-Proc.ensures) in
     subst (λ z. OnOk c.within_decls.result (c.within_decls.new.found ≡ z))
-    (after_three c.args.found.now (other_end text a.def.name a.end) (twice text (formal_names a.formals ++ declared_names a.decls)) (flat_map (within_decl text) a.decls) c.other_end.ensures scope refl
+    (after_three c.args.found.now (other_end text a.outline.def.name a.outline.end) (twice text (formal_names a.outline.formals ++ declared_names a.decls)) (flat_map (within_decl text) a.decls) ends scope refl
     ∙ ap (λ z. first_after c.args.found.now z) (sym (ap (λ d. within_decl text d) c.in-Proc.is ∙ within_decl_proc text a))) c.within_decls.ensures
 
 pub within_type-returns-in-Array : goal.within_type-returns-in-Array
@@ -53,6 +57,6 @@ within_type-returns-in_ok-within_decls-in-Object t c =
     let ds = c.in-Object.decls in
     let scope : c.procedure_scope-in-Object.new.found ≡ first_after c.args.found.now (twice text (declared_names ds)) =
     subst (λ z. c.procedure_scope-in-Object.new.found ≡ first_after c.args.found.now (twice text (declared_names z))) c.as_slice-in-Object.ensures c.in_ok-procedure_scope-in-Object.ensures in
-    after_three c.args.found.now (twice text (declared_names ds)) (flat_map (within_decl text) ds) (object_end text c.args.name c.in-Object.end) scope c.in_ok-within_decls-in-Object.ensures c.object_end.ensures
+    after_three c.args.found.now (twice text (declared_names ds)) (flat_map (within_decl text) ds) (object_end text c.args.name c.in-Object.end) scope c.in_ok-within_decls-in-Object.ensures (rw c.copied.ensures at c.object_end.ensures)
     ∙ ap (λ z. first_after c.args.found.now z) (sym (ap (λ d. within_type text c.args.name d) c.in-Object.is
     ∙ within_type_object text c.args.name c.in-Object.field-0 c.in-Object.field-1 ds c.in-Object.field-3 c.in-Object.end))

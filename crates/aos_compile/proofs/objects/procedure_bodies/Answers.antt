@@ -1,6 +1,7 @@
 -- One body more.
 use Rattle.std.proofs.Common.{rules, [], ◌∷◌, ◌++◌, false, Vec, Global, map, ap, ◌∙◌}
 use Rattle.std.proofs.lemmas.List.{map-append}
+use Rattle.aos_tree.specs.declared.decl.Outline.{Outline}
 use Rattle.aos_typed.specs.declared.tree.TStat.{TStat}
 use Rattle.aos_typed.specs.Seen.{seen_stats}
 use Rattle.aos_symbols.specs.declared.env.Env.{Env}
@@ -22,12 +23,16 @@ loop-decl-preserved c = elim c.match-decl.branch [
       let b = w.in_ok-procedure_statements.field-0 in
       let same = c.loop-decl.invariant.env in
       let met = c.loop-decl.found in
-      let noted = w.found-is ∙ w.in_ok-procedure_statements.ensures.noted ∙ ap (λ (v : Env). first_after met (body_of (within v k) false a.body).breaches) same in
+      let noted = w.found-is ∙ w.in_ok-procedure_statements.ensures.noted
+      ∙ ap (λ (o : Outline). first_after met (body_of (within c.loop-decl.env k) false o.body).breaches) w.get-outline.ensures
+      ∙ ap (λ (v : Env). first_after met (body_of (within v k) false a.outline.body).breaches) same in
       let told = ap (λ (bs : Vec (Vec TStat Global) Global). map (λ ss. seen_stats ss.items) bs.items) w.bodies-is
       ∙ ap (map (λ ss. seen_stats ss.items)) w.in_ok-push.ensures.items
       ∙ map-append (λ (ss : Vec TStat Global). seen_stats ss.items) c.loop-decl.bodies.items (b ∷ [])
       ∙ ap (λ z. done ++ z ∷ [])
-      (stats_listed b.items ∙ ap listed (w.in_ok-procedure_statements.ensures.answer ∙ ap (λ (v : Env). (body_of (within v k) false a.body).answer) same)) in
+      (stats_listed b.items ∙ ap listed (w.in_ok-procedure_statements.ensures.answer
+      ∙ ap (λ (o : Outline). (body_of (within c.loop-decl.env k) false o.body).answer) w.get-outline.ensures
+      ∙ ap (λ (v : Env). (body_of (within v k) false a.outline.body).answer) same)) in
       let one = w.scope-is ∙ w.in_ok-scope.ensures in
       let more = map (λ ss. seen_stats ss.items) c.match-decl.bodies.items in
       record {

@@ -25,8 +25,8 @@ pub expr-returns-in_err-right-in-Some-clause-moves : goal.expr-returns-in_err-ri
 expr-returns-in_err-right-in-Some-clause-moves t c =
     by.exits (λ r. r.1.now) c.from_residual-in_err-right-in-Some.result (m.expr c.args.depth ∷ []) c.from_residual-in_err-right-in-Some.ensures.1 (by.pass_on ([]) c.in_err-right-in-Some.ensures.moves (λ k. q.to_expr _ c.requires.ended c.args.depth k ∙ c.in_ok-left.ensures.moves (m.relation (c.args.depth + 1) ∷ k) ∙ by.shifts m.table shallow c.split-2.ensures.whole (m.relation (c.args.depth + 1)) (c.args.depth + 1) (m.simple (c.args.depth + 1) ∷ []) (q.operator_by (c.args.depth + 1) (m.simple (c.args.depth + 1) ∷ []) (sym c.relation.ensures ∙ c.in-Some.is)) (by.fits_shallow (c.args.depth + 1) (omega arith)) (k)))
 
-pub expr-returns-in_ok-right-in-Some-clause-moves : goal.expr-returns-in_ok-right-in-Some-clause-moves
-expr-returns-in_ok-right-in-Some-clause-moves t c =
+pub expr-returns-in_ok-new-in-Some-clause-moves : goal.expr-returns-in_ok-new-in-Some-clause-moves
+expr-returns-in_ok-new-in-Some-clause-moves t c =
     λ k. q.to_expr _ c.requires.ended c.args.depth k ∙ c.in_ok-left.ensures.moves (m.relation (c.args.depth + 1) ∷ k) ∙ by.shifts m.table shallow c.split-2.ensures.whole (m.relation (c.args.depth + 1)) (c.args.depth + 1) (m.simple (c.args.depth + 1) ∷ []) (q.operator_by (c.args.depth + 1) (m.simple (c.args.depth + 1) ∷ []) (sym c.relation.ensures ∙ c.in-Some.is)) (by.fits_shallow (c.args.depth + 1) (omega arith)) (k) ∙ c.in_ok-right-in-Some.ensures.moves k
 
 pub expr-returns-in-None-clause-moves : goal.expr-returns-in-None-clause-moves
@@ -35,11 +35,11 @@ expr-returns-in-None-clause-moves t c =
 
 pub expr-returns-in-None-clause-tree : goal.expr-returns-in-None-clause-tree
 expr-returns-in-None-clause-tree t c =
-    rw c.split.ensures.whole (g.alone (rw c.split.ensures.whole at c.in_ok-left.ensures.tree))
+    rw (c.split.ensures.whole, c.empty.ensures) (g.alone (rw c.split.ensures.whole at c.in_ok-left.ensures.tree))
 
-pub expr-returns-in_ok-right-in-Some-clause-tree : goal.expr-returns-in_ok-right-in-Some-clause-tree
-expr-returns-in_ok-right-in-Some-clause-tree t c =
-    rw c.split.ensures.whole (g.related (rw (c.split.ensures.whole, c.split-2.ensures.whole) at c.in_ok-left.ensures.tree) (sym c.relation.ensures ∙ c.in-Some.is) (by.fits_shallow (c.args.depth + 1) (omega arith)) c.in_ok-right-in-Some.ensures.tree)
+pub expr-returns-in_ok-new-in-Some-clause-tree : goal.expr-returns-in_ok-new-in-Some-clause-tree
+expr-returns-in_ok-new-in-Some-clause-tree t c =
+    rw (c.split.ensures.whole, c.in_ok-new-in-Some.ensures) (g.related (rw (c.split.ensures.whole, c.split-2.ensures.whole) at c.in_ok-left.ensures.tree) (sym c.relation.ensures ∙ c.in-Some.is) (by.fits_shallow (c.args.depth + 1) (omega arith)) c.in_ok-right-in-Some.ensures.tree)
 
 pub simple-returns-in_err-first-in-Some-clause-moves : goal.simple-returns-in_err-first-in-Some-clause-moves
 simple-returns-in_err-first-in-Some-clause-moves t c =
@@ -359,18 +359,18 @@ pub elem-returns-in_err-last-in-Range-clause-moves : goal.elem-returns-in_err-la
 elem-returns-in_err-last-in-Range-clause-moves t c =
     by.exits (λ r. r.1.now) c.from_residual-in_err-last-in-Range.result (m.elem c.args.depth ∷ []) c.from_residual-in_err-last-in-Range.ensures.1 (by.pass_on ([]) c.in_err-last-in-Range.ensures.moves (λ k. q.to_elem _ c.requires.ended c.args.depth k ∙ c.in_ok-first.ensures.moves (m.upper c.args.depth ∷ k) ∙ by.shifts m.table shallow c.split.ensures.whole (m.upper c.args.depth) c.args.depth (m.expr c.args.depth ∷ []) (ap (m.after_upper c.args.depth) c.in-Range.is) (by.fits_shallow _ c.requires.nested) (k)))
 
-pub elem-returns-in_ok-last-in-Range-clause-moves : goal.elem-returns-in_ok-last-in-Range-clause-moves
-elem-returns-in_ok-last-in-Range-clause-moves t c =
+pub elem-returns-in_ok-new-in-Range-clause-moves : goal.elem-returns-in_ok-new-in-Range-clause-moves
+elem-returns-in_ok-new-in-Range-clause-moves t c =
     λ k. q.to_elem _ c.requires.ended c.args.depth k ∙ c.in_ok-first.ensures.moves (m.upper c.args.depth ∷ k) ∙ by.shifts m.table shallow c.split.ensures.whole (m.upper c.args.depth) c.args.depth (m.expr c.args.depth ∷ []) (ap (m.after_upper c.args.depth) c.in-Range.is) (by.fits_shallow _ c.requires.nested) (k) ∙ c.in_ok-last-in-Range.ensures.moves k
 
-pub elem-returns-in_ok-last-in-Range-clause-tree : goal.elem-returns-in_ok-last-in-Range-clause-tree
-elem-returns-in_ok-last-in-Range-clause-tree t c =
-    g.range (rw c.split.ensures.whole at c.in_ok-first.ensures.tree) c.in-Range.is (by.fits_shallow _ c.requires.nested) c.in_ok-last-in-Range.ensures.tree
+pub elem-returns-in_ok-new-in-Range-clause-tree : goal.elem-returns-in_ok-new-in-Range-clause-tree
+elem-returns-in_ok-new-in-Range-clause-tree t c =
+    rw c.in_ok-new-in-Range.ensures (g.range (rw c.split.ensures.whole at c.in_ok-first.ensures.tree) c.in-Range.is (by.fits_shallow _ c.requires.nested) c.in_ok-last-in-Range.ensures.tree)
 
 pub elem-returns-in_default : goal.elem-returns-in_default
 elem-returns-in_default t c =
     record {
-      tree = g.single c.in_ok-first.ensures.tree;
+      tree = rw c.empty.ensures (g.single c.in_ok-first.ensures.tree);
       rest = c.in_ok-first.ensures.rest;
       moves = λ k. q.to_elem _ c.requires.ended c.args.depth k ∙ c.in_ok-first.ensures.moves (m.upper c.args.depth ∷ k) ∙ by.skips m.table shallow c.split.ensures.whole (m.upper c.args.depth) (q.no_upper _ _ c.in_default.not-Range) refl (k);
     }

@@ -122,7 +122,7 @@ proc-returns-clause-moves t c =
 
 pub proc-returns-clause-tree : goal.proc-returns-clause-tree
 proc-returns-clause-tree t c =
-    declared.proc (tree.proc_of c.in_ok-place.ensures.tree c.option-initializer.ensures.tree c.in_ok-def.ensures.tree c.in_ok-formals.ensures.tree c.in_ok-rest.ensures.tree c.in_ok-decls.ensures.tree c.in_ok-body.ensures.tree c.in_ok-end.ensures.tree) c.in_ok-rest-2.ensures.tree
+    rw c.in_ok-boxed.ensures (declared.proc (tree.proc_of c.in_ok-place.ensures.tree c.option-initializer.ensures.tree c.in_ok-def.ensures.tree c.in_ok-formals.ensures.tree c.in_ok-rest.ensures.tree c.in_ok-decls.ensures.tree c.in_ok-body.ensures.tree c.in_ok-end.ensures.tree) c.in_ok-rest-2.ensures.tree)
 
 pub type_defs-returns-in_err-def-in-Ident-clause-moves : goal.type_defs-returns-in_err-def-in-Ident-clause-moves
 type_defs-returns-in_err-def-in-Ident-clause-moves t c =
@@ -272,13 +272,13 @@ pub type_expr-returns-in_err-formals-in-KwProcedure-clause-moves : goal.type_exp
 type_expr-returns-in_err-formals-in-KwProcedure-clause-moves t c =
     by.exits (λ r. r.1.now) c.from_residual-in_err-formals-in-KwProcedure.result (m.type c.args.depth ∷ []) c.from_residual-in_err-formals-in-KwProcedure.ensures.1 (by.pass_on ([]) c.in_err-formals-in-KwProcedure.ensures.moves (λ k. by.shifts m.table shallow c.split.ensures.whole (m.type c.args.depth) (c.args.depth + 1) (m.flag (c.args.depth + 1) ∷ m.formals (c.args.depth + 1) ∷ []) (ap (m.after (m.type c.args.depth)) c.in-KwProcedure.is) (by.fits_shallow (c.args.depth + 1) (omega arith)) k ∙ c.in_ok-flag-in-KwProcedure.ensures.moves (m.formals (c.args.depth + 1) ∷ k)))
 
-pub type_expr-returns-in_ok-formals-in-KwProcedure-clause-moves : goal.type_expr-returns-in_ok-formals-in-KwProcedure-clause-moves
-type_expr-returns-in_ok-formals-in-KwProcedure-clause-moves t c =
+pub type_expr-returns-in_ok-new-in-KwProcedure-clause-moves : goal.type_expr-returns-in_ok-new-in-KwProcedure-clause-moves
+type_expr-returns-in_ok-new-in-KwProcedure-clause-moves t c =
     λ k. by.shifts m.table shallow c.split.ensures.whole (m.type c.args.depth) (c.args.depth + 1) (m.flag (c.args.depth + 1) ∷ m.formals (c.args.depth + 1) ∷ []) (ap (m.after (m.type c.args.depth)) c.in-KwProcedure.is) (by.fits_shallow (c.args.depth + 1) (omega arith)) k ∙ c.in_ok-flag-in-KwProcedure.ensures.moves (m.formals (c.args.depth + 1) ∷ k) ∙ c.in_ok-formals-in-KwProcedure.ensures.moves (k)
 
-pub type_expr-returns-in_ok-formals-in-KwProcedure-clause-tree : goal.type_expr-returns-in_ok-formals-in-KwProcedure-clause-tree
-type_expr-returns-in_ok-formals-in-KwProcedure-clause-tree t c =
-    rw c.split.ensures.whole (declared.procedure (g.word c.in-KwProcedure.is (by.fits_shallow (c.args.depth + 1) (omega arith))) c.in_ok-flag-in-KwProcedure.ensures.tree c.in_ok-formals-in-KwProcedure.ensures.tree)
+pub type_expr-returns-in_ok-new-in-KwProcedure-clause-tree : goal.type_expr-returns-in_ok-new-in-KwProcedure-clause-tree
+type_expr-returns-in_ok-new-in-KwProcedure-clause-tree t c =
+    rw (c.split.ensures.whole, c.in_ok-new-in-KwProcedure.ensures) (declared.procedure (g.word c.in-KwProcedure.is (by.fits_shallow (c.args.depth + 1) (omega arith))) c.in_ok-flag-in-KwProcedure.ensures.tree c.in_ok-formals-in-KwProcedure.ensures.tree)
 
 pub type_expr-returns-in_default : goal.type_expr-returns-in_default
 type_expr-returns-in_default t c =

@@ -12,18 +12,18 @@ pub returns-in_err-name-in-Ident-clause-moves : goal.returns-in_err-name-in-Iden
 returns-in_err-name-in-Ident-clause-moves c =
     by.exits (λ r. r.1.now) c.from_residual.result (m.option c.args.depth kind.Ident ∷ []) c.from_residual.ensures.1 (by.pass_on ([]) c.in_err-name-in-Ident.ensures.moves (λ k. by.becomes m.table shallow c.split.ensures.whole (m.option c.args.depth kind.Ident) (m.tok c.args.depth kind.Ident) ([]) (q.word_at (m.option c.args.depth kind.Ident) c.args.depth 0 kind.Ident [] refl _ c.in-Ident.is) k))
 
-pub returns-in_ok-name-in-Ident-clause-moves : goal.returns-in_ok-name-in-Ident-clause-moves
-returns-in_ok-name-in-Ident-clause-moves c =
+pub returns-in_ok-new-in-Ident-clause-moves : goal.returns-in_ok-new-in-Ident-clause-moves
+returns-in_ok-new-in-Ident-clause-moves c =
     λ k. by.becomes m.table shallow c.split.ensures.whole (m.option c.args.depth kind.Ident) (m.tok c.args.depth kind.Ident) ([]) (q.word_at (m.option c.args.depth kind.Ident) c.args.depth 0 kind.Ident [] refl _ c.in-Ident.is) k ∙ c.in_ok-name-in-Ident.ensures.moves (k)
 
-pub returns-in_ok-name-in-Ident-clause-tree : goal.returns-in_ok-name-in-Ident-clause-tree
-returns-in_ok-name-in-Ident-clause-tree c =
-    declared.end_name c.in_ok-name-in-Ident.ensures.tree
+pub returns-in_ok-new-in-Ident-clause-tree : goal.returns-in_ok-new-in-Ident-clause-tree
+returns-in_ok-new-in-Ident-clause-tree c =
+    rw c.in_ok-new-in-Ident.ensures (declared.end_name c.in_ok-name-in-Ident.ensures.tree)
 
 pub returns-in_default : goal.returns-in_default
 returns-in_default c =
     record {
-      tree = declared.no_end_name;
+      tree = rw c.empty.ensures declared.no_end_name;
       rest = (c.requires.ended, omega arith);
       moves = λ k. by.skips m.table shallow c.split.ensures.whole (m.option c.args.depth kind.Ident) (word_not c.args.depth kind.Ident _ [] c.in_default.not-Ident) refl k;
     }

@@ -8,8 +8,8 @@ TypeDefAlike::same-returns-else-same t c = grind arith
 pub VarDefAlike::same-returns-else-same : goal.VarDefAlike::same-returns-else-same
 VarDefAlike::same-returns-else-same t c = grind arith
 
-pub ProcAlike::same-returns-else-same-6 : goal.ProcAlike::same-returns-else-same-6
-ProcAlike::same-returns-else-same-6 t c = grind arith
+pub ProcAlike::same-returns-else-same : goal.ProcAlike::same-returns-else-same
+ProcAlike::same-returns-else-same t c = grind arith
 
 pub DeclAlike::same-returns-else-same : goal.DeclAlike::same-returns-else-same
 DeclAlike::same-returns-else-same t c = grind arith
