@@ -26,6 +26,7 @@ pub enum Relation {
 }
 
 /// Whether two integers stand in a relation.
+#[inline(always)]
 pub fn related(relation: Relation, a: i64, b: i64) -> bool
     ensures { result ≡ holds relation a b }
 {
@@ -40,6 +41,7 @@ pub fn related(relation: Relation, a: i64, b: i64) -> bool
 }
 
 /// The greatest integer of a width.
+#[inline(always)]
 fn greatest(w: Width) -> i64
     ensures { result ≡ pos (greatest_of w) }
 {
@@ -52,6 +54,7 @@ fn greatest(w: Width) -> i64
 }
 
 /// The least integer of a width.
+#[inline(always)]
 fn least(w: Width) -> i64
     ensures { result ≡ negsuc (greatest_of w) }
 {
@@ -64,6 +67,7 @@ fn least(w: Width) -> i64
 }
 
 /// Whether an integer is one of this width.
+#[inline(always)]
 pub fn fits(w: Width, a: i64) -> bool
     ensures test { result ≡ is_within w a }
     ensures range { IsTrue result ↔ IsWithin w a }
@@ -72,6 +76,7 @@ pub fn fits(w: Width, a: i64) -> bool
 }
 
 /// The number that 64 bits may have, where it is one of this width.
+#[inline(always)]
 fn within(w: Width, value: Option<i64>) -> Option<i64>
     ensures { (z : ℤ) → SomeIff value (FitsSigned w64 z) z → SomeIff result (IsWithin w z) z }
 {
@@ -79,6 +84,7 @@ fn within(w: Width, value: Option<i64>) -> Option<i64>
 }
 
 /// The sum, or None where it is outside the width (Oberon-2 report, 8.2.2; trap 5).
+#[inline(always)]
 pub fn add(w: Width, a: i64, b: i64) -> Option<i64>
     ensures { SomeIff result (IsWithin w (a +ℤ b)) (a +ℤ b) }
 {
@@ -86,6 +92,7 @@ pub fn add(w: Width, a: i64, b: i64) -> Option<i64>
 }
 
 /// The difference, or None where it is outside the width (Oberon-2 report, 8.2.2; trap 5).
+#[inline(always)]
 pub fn sub(w: Width, a: i64, b: i64) -> Option<i64>
     ensures { SomeIff result (IsWithin w (a -ℤ b)) (a -ℤ b) }
 {
@@ -93,6 +100,7 @@ pub fn sub(w: Width, a: i64, b: i64) -> Option<i64>
 }
 
 /// The product, or None where it is outside the width (Oberon-2 report, 8.2.2; trap 5).
+#[inline(always)]
 pub fn mul(w: Width, a: i64, b: i64) -> Option<i64>
     ensures { SomeIff result (IsWithin w (a *ℤ b)) (a *ℤ b) }
 {
@@ -101,6 +109,7 @@ pub fn mul(w: Width, a: i64, b: i64) -> Option<i64>
 
 /// The quotient, rounded down, or None where the divisor isn't positive or the quotient is outside the width (Oberon-2
 /// report, 8.2.2; traps 6 and 5).
+#[inline(always)]
 pub fn div(w: Width, a: i64, b: i64) -> Option<i64>
     ensures { SomeIff result ((pos 0 <ℤ b) × IsWithin w (int_div_euclid a b)) (int_div_euclid a b) }
 {
@@ -112,6 +121,7 @@ pub fn div(w: Width, a: i64, b: i64) -> Option<i64>
 
 /// The remainder of that quotient, which isn't negative, or None where the divisor isn't positive or the remainder is
 /// outside the width (Oberon-2 report, 8.2.2; trap 6).
+#[inline(always)]
 pub fn modulo(w: Width, a: i64, b: i64) -> Option<i64>
     ensures { SomeIff result ((pos 0 <ℤ b) × IsWithin w (int_rem_euclid a b)) (int_rem_euclid a b) }
 {

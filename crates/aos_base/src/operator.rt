@@ -67,6 +67,7 @@ pub enum Given {
 }
 
 /// TRUE is 1 and FALSE is 0.
+#[inline(always)]
 pub fn truth(b: bool) -> i64
     ensures { result ≡ flag b }
 {
@@ -74,6 +75,7 @@ pub fn truth(b: bool) -> i64
 }
 
 /// A number from 0 to below a bound, and nothing where it is none.
+#[inline(always)]
 pub fn natural(bound: u64, value: i64) -> Option<u64>
     ensures { result ≡ natural_of bound value }
 {
@@ -98,6 +100,7 @@ fn set(a: i64) -> Option<u32>
 }
 
 /// A number, or a trap where there is none.
+#[inline(always)]
 fn or_trap(trap: u8, value: Option<i64>) -> Given
     ensures { result ≡ or_trap_of trap value }
 {
@@ -108,6 +111,7 @@ fn or_trap(trap: u8, value: Option<i64>) -> Given
 }
 
 /// What a division by b gives, where its value is this: trap 6 where b isn't positive.
+#[inline(always)]
 fn or_divisor(b: i64, value: Option<i64>) -> Given
     ensures { result ≡ or_divisor_of b value }
 {
@@ -147,6 +151,7 @@ fn ranged(low: i32, high: i32, a: i64) -> Given
 }
 
 /// What an operator of a width gives, where its operands are of that width.
+#[inline(always)]
 fn if_fit(fit: bool, value: Given) -> Given
     ensures { result ≡ (if fit then value else Given.Undefined) }
 {
@@ -179,6 +184,7 @@ fn within(a: i64, b: i64) -> Given
 }
 
 /// Whether two numbers are of a width.
+#[inline(always)]
 fn both_fit(w: Width, a: i64, b: i64) -> bool
     ensures { result ≡ (is_within w a && is_within w b) }
 {
@@ -186,6 +192,7 @@ fn both_fit(w: Width, a: i64, b: i64) -> bool
 }
 
 /// What the sum of two numbers gives.
+#[inline(always)]
 fn sum(w: Width, a: i64, b: i64) -> Given
     ensures { result ≡ binary_of (Binary.Add w) a b }
 {
@@ -193,6 +200,7 @@ fn sum(w: Width, a: i64, b: i64) -> Given
 }
 
 /// What the difference of two numbers gives.
+#[inline(always)]
 fn difference(w: Width, a: i64, b: i64) -> Given
     ensures { result ≡ binary_of (Binary.Sub w) a b }
 {
@@ -200,6 +208,7 @@ fn difference(w: Width, a: i64, b: i64) -> Given
 }
 
 /// What the product of two numbers gives.
+#[inline(always)]
 fn product(w: Width, a: i64, b: i64) -> Given
     ensures { result ≡ binary_of (Binary.Mul w) a b }
 {
@@ -207,6 +216,7 @@ fn product(w: Width, a: i64, b: i64) -> Given
 }
 
 /// What the quotient of two numbers gives.
+#[inline(always)]
 fn quotient(w: Width, a: i64, b: i64) -> Given
     ensures { result ≡ binary_of (Binary.Div w) a b }
 {
@@ -214,6 +224,7 @@ fn quotient(w: Width, a: i64, b: i64) -> Given
 }
 
 /// What the remainder of two numbers gives.
+#[inline(always)]
 fn remainder(w: Width, a: i64, b: i64) -> Given
     ensures { result ≡ binary_of (Binary.Mod w) a b }
 {
@@ -249,6 +260,7 @@ fn symmetric_difference(a: i64, b: i64) -> Given
 }
 
 /// What an operator gives of two numbers.
+#[inline(always)]
 pub fn apply_binary(operator: Binary, a: i64, b: i64) -> Given
     ensures { result ≡ binary_of operator a b }
 {

@@ -49,6 +49,7 @@ pub enum Tried {
 }
 
 /// The frame goes on after an instruction whose act has been done on it. Where that comes to a Begin, its statement begins.
+#[inline(always)]
 fn go_after(code: &[Instr], at: usize, frame: &mut Frame, did: Act) -> Done
     requires within { at < length code.now }
     requires begins { IsBeginOf code.now did }
@@ -79,6 +80,7 @@ fn go_after(code: &[Instr], at: usize, frame: &mut Frame, did: Act) -> Done
 }
 
 /// The frame gets an operand more.
+#[inline(always)]
 fn give_top(code: &[Instr], at: usize, frame: &mut Frame, value: Cell) -> Done
     requires within { at < length code.now }
     ensures done { (image : Image) (here : ℕ) (mem : Memory) →
@@ -97,6 +99,7 @@ fn give_top(code: &[Instr], at: usize, frame: &mut Frame, value: Cell) -> Done
 }
 
 /// What the cell at a place holds that isn't in a frame below, where so many are.
+#[inline(always)]
 fn load_near(frame: &Frame, store: &Store, here: u32, at: Address) -> Option<Cell>
     ensures { IfSome result (λ v. (rest : List FrameOf) → length rest ≡ here →
         load at.root at.cell (rooted (frame_in frame.now ∷ rest) (memory_in store.now)) ≡ Some v) }
@@ -115,6 +118,7 @@ fn load_near(frame: &Frame, store: &Store, here: u32, at: Address) -> Option<Cel
 }
 
 /// Sets the cell at a place that isn't in a frame below, where there is such a cell, and says whether there is.
+#[inline(always)]
 fn store_near(frame: &mut Frame, store: &mut Store, here: u32, at: Address, value: Cell) -> bool
     ensures set { HasSet here result at.root at.cell value (memory_in store.old)
         (memory_in store.new) (frame_in frame.old) (frame_in frame.new) }
@@ -134,6 +138,7 @@ fn store_near(frame: &mut Frame, store: &mut Store, here: u32, at: Address, valu
 }
 
 /// What a cell holds is read, where it isn't in a frame below.
+#[inline(always)]
 fn load_top(at: usize, kind: Kind, here: u32, frame: &mut Frame, store: &Store) -> Done
     requires { at + 1 < 2 ^ 64 }
     ensures done { (image : Image) → at ≡ frame.old.next →
@@ -158,6 +163,7 @@ fn load_top(at: usize, kind: Kind, here: u32, frame: &mut Frame, store: &Store) 
 }
 
 /// A value is stored in a cell, where it isn't in a frame below.
+#[inline(always)]
 fn store_top(at: usize, kind: Kind, here: u32, frame: &mut Frame, store: &mut Store) -> Done
     requires { at + 1 < 2 ^ 64 }
     ensures done { (image : Image) → at ≡ frame.old.next →
@@ -182,6 +188,7 @@ fn store_top(at: usize, kind: Kind, here: u32, frame: &mut Frame, store: &mut St
 }
 
 /// An operator is applied to the two topmost numbers.
+#[inline(always)]
 fn operate_top(code: &[Instr], at: usize, operator: Binary, frame: &mut Frame) -> Done
     requires within { at < length code.now }
     ensures done { (image : Image) (here : ℕ) (mem : Memory) →
@@ -203,6 +210,7 @@ fn operate_top(code: &[Instr], at: usize, operator: Binary, frame: &mut Frame) -
 }
 
 /// The frame gets the object on which its procedure is called.
+#[inline(always)]
 fn self_top(code: &[Instr], at: usize, frame: &mut Frame) -> Done
     requires within { at < length code.now }
     ensures done { (image : Image) (here : ℕ) (mem : Memory) →
@@ -220,6 +228,7 @@ fn self_top(code: &[Instr], at: usize, frame: &mut Frame) -> Done
 }
 
 /// The frame gets the place of a cell of its topmost object.
+#[inline(always)]
 fn deref_top(code: &[Instr], at: usize, cell: u32, frame: &mut Frame, store: &Store) -> Done
     requires within { at < length code.now }
     ensures done { (image : Image) (here : ℕ) → code.now ≡ code_at image frame.old.procedure →
@@ -261,6 +270,7 @@ fn rest_top(
 
 /// Does the next instruction of a frame of this code above so many others, which keeps values under so many numbers. Those that come
 /// most often have an arm of their own.
+#[inline(always)]
 fn do_top(
     image: &Image,
     code: &[Instr],
@@ -300,6 +310,7 @@ fn do_top(
 }
 
 /// A turn of a frame, where its silent work comes to one that is made in place.
+#[inline(always)]
 fn turn_top(
     image: &Image,
     code: &[Instr],
@@ -327,6 +338,7 @@ fn turn_top(
 }
 
 /// How many statements have begun, with one more or not.
+#[inline(always)]
 pub(crate) fn count(begins: bool, begun: u64) -> u64
     ensures { result ≡ counted begins begun }
 {

@@ -92,6 +92,7 @@ pub fn guard_place(stack: &[Cell], types: &[TypeDesc], other: u32) -> Act
 }
 
 /// The place of a cell of an object; trap 1 at NIL.
+#[inline(always)]
 pub fn tell_cell(stack: &mut Vec<Cell>, heap: &Heap, cell: u32) -> Act
     ensures kept { WhereStays result (stack.new ≡ stack.old) }
     ensures room { vec_capacity stack.new ≡ vec_capacity stack.old }

@@ -7,6 +7,7 @@ use crate::act::Address;
 use aos_code::{Cell, Kind};
 
 /// Whether a cell holds something of this kind.
+#[inline(always)]
 pub fn is_of(kind: Kind, cell: Cell) -> bool
     ensures { result ≡ is_of_kind kind cell }
 {
@@ -20,6 +21,7 @@ pub fn is_of(kind: Kind, cell: Cell) -> bool
 }
 
 /// The operand that lies so deep.
+#[inline(always)]
 pub fn operand(stack: &[Cell], depth: usize) -> Option<Cell>
     ensures { result ≡ slice_get (reverse stack.now) depth }
 {
@@ -31,6 +33,7 @@ pub fn operand(stack: &[Cell], depth: usize) -> Option<Cell>
 }
 
 /// The number that lies so deep.
+#[inline(always)]
 pub fn number(stack: &[Cell], depth: usize) -> Option<i64>
     ensures { result ≡ number_in (slice_get (reverse stack.now) depth) }
 {
@@ -41,6 +44,7 @@ pub fn number(stack: &[Cell], depth: usize) -> Option<i64>
 }
 
 /// The two topmost numbers, the topmost second.
+#[inline(always)]
 pub fn numbers(stack: &[Cell]) -> Option<(i64, i64)>
     ensures { (k : ℤ → ℤ → Stack → ActOf) → on_numbers k (reverse stack.now) ≡
         or_lost result (λ p. k p.0 p.1 (drop 2 (reverse stack.now))) }
@@ -51,6 +55,7 @@ pub fn numbers(stack: &[Cell]) -> Option<(i64, i64)>
 }
 
 /// The place that lies so deep.
+#[inline(always)]
 pub fn address(stack: &[Cell], depth: usize) -> Option<Address>
     ensures { result ≡ address_in (slice_get (reverse stack.now) depth) }
 {
@@ -61,6 +66,7 @@ pub fn address(stack: &[Cell], depth: usize) -> Option<Address>
 }
 
 /// The object that lies so deep.
+#[inline(always)]
 pub fn object(stack: &[Cell], depth: usize) -> Option<u32>
     ensures { result ≡ object_in (slice_get (reverse stack.now) depth) }
 {
@@ -71,6 +77,7 @@ pub fn object(stack: &[Cell], depth: usize) -> Option<u32>
 }
 
 /// The operand of this kind that lies so deep.
+#[inline(always)]
 pub fn of_kind(stack: &[Cell], depth: usize, kind: Kind) -> Option<Cell>
     ensures { result ≡ kind_in kind (slice_get (reverse stack.now) depth) }
 {
@@ -81,6 +88,7 @@ pub fn of_kind(stack: &[Cell], depth: usize, kind: Kind) -> Option<Cell>
 }
 
 /// One operand in place of the topmost ones.
+#[inline(always)]
 pub fn replace(stack: &mut Vec<Cell>, taken: usize, cell: Cell)
     requires { vec_len stack.old - taken < vec_capacity stack.old }
     ensures operands { operands_in stack.new ≡ cell ∷ drop taken (operands_in stack.old) }
@@ -91,6 +99,7 @@ pub fn replace(stack: &mut Vec<Cell>, taken: usize, cell: Cell)
 }
 
 /// Takes so many operands.
+#[inline(always)]
 pub fn take(stack: &mut Vec<Cell>, taken: usize)
     ensures operands { operands_in stack.new ≡ drop taken (operands_in stack.old) }
     ensures room { vec_capacity stack.new ≡ vec_capacity stack.old }

@@ -15,6 +15,7 @@ use aos_code::{Cell, Kind};
 use aos_store::Frame;
 
 /// A frame gets an operand more.
+#[inline(always)]
 pub fn give(frame: &mut Frame, cell: Cell) -> Result<(), NoMemory>
     ensures ok { IfOk result (λ _. frame_in frame.new ≡ given_more cell (frame_in frame.old)) }
     ensures err { OnErr result (frame_in frame.new ≡ frame_in frame.old) }
@@ -28,6 +29,7 @@ pub fn give(frame: &mut Frame, cell: Cell) -> Result<(), NoMemory>
 }
 
 /// An operand more.
+#[inline(always)]
 pub fn give_value(frame: &mut Frame, value: Cell) -> Result<Act, NoMemory>
     ensures ok { IfOk result (λ did.
         IsStep (gives value (frame_in frame.old).stack) did (frame_in frame.old)
@@ -81,6 +83,7 @@ pub fn self_value(frame: &mut Frame) -> Result<Act, NoMemory>
 }
 
 /// A value of this kind is kept under a number.
+#[inline(always)]
 pub fn keep_value(frame: &mut Frame, number: u32, kind: Kind) -> Result<Act, NoMemory>
     ensures ok { IfOk result (λ did.
         IsStep (on_kind kind (λ v s. Puts number v s) (frame_in frame.old).stack) did
@@ -103,6 +106,7 @@ pub fn keep_value(frame: &mut Frame, number: u32, kind: Kind) -> Result<Act, NoM
 }
 
 /// A value, where it is of this kind.
+#[inline(always)]
 fn give_kind(frame: &mut Frame, value: Cell, kind: Kind) -> Result<Act, NoMemory>
     ensures ok { IfOk result (λ did. (number : ℕ) → value ≡ (frame_in frame.old).keeps number →
         IsStep (Takes number kind (frame_in frame.old).stack) did (frame_in frame.old)
@@ -121,6 +125,7 @@ fn give_kind(frame: &mut Frame, value: Cell, kind: Kind) -> Result<Act, NoMemory
 }
 
 /// What is kept under a number, which is of this kind.
+#[inline(always)]
 pub fn kept_value(frame: &mut Frame, number: u32, kind: Kind) -> Result<Act, NoMemory>
     ensures ok { IfOk result (λ did.
         IsStep (Takes number kind (frame_in frame.old).stack) did (frame_in frame.old)
@@ -137,6 +142,7 @@ pub fn kept_value(frame: &mut Frame, number: u32, kind: Kind) -> Result<Act, NoM
 }
 
 /// What an own cell holds, which is of this kind.
+#[inline(always)]
 fn own_value(frame: &mut Frame, number: u32, kind: Kind) -> Result<Act, NoMemory>
     ensures ok { IfOk result (λ did. (q : QuestionOf) →
         noted (frame_in frame.old).cells q ≡
@@ -161,6 +167,7 @@ fn own_value(frame: &mut Frame, number: u32, kind: Kind) -> Result<Act, NoMemory
 }
 
 /// The place that a parameter's cell holds.
+#[inline(always)]
 pub fn param_value(frame: &mut Frame, number: u32) -> Result<Act, NoMemory>
     ensures ok { IfOk result (λ did.
         (here : ℕ) → IsStep (Sees (Places (record { root = Root.Frame here; cell = number }))
@@ -176,6 +183,7 @@ pub fn param_value(frame: &mut Frame, number: u32) -> Result<Act, NoMemory>
 }
 
 /// The length that a parameter's cell holds.
+#[inline(always)]
 pub fn length_value(frame: &mut Frame, number: u32) -> Result<Act, NoMemory>
     ensures ok { IfOk result (λ did.
         (here : ℕ) → IsStep (Sees (Lengths (record { root = Root.Frame here; cell = number }))

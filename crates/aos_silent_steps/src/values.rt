@@ -89,6 +89,7 @@ pub fn swap(stack: &mut Vec<Cell>) -> Act
 }
 
 /// Where a jump back comes to: a Begin.
+#[inline(always)]
 pub fn land(code: &[Instr], to: usize) -> Act
     ensures act { (s : Stack) → act_in result s ≡ lands (slice_get code.now to) to s }
     ensures jumps { IsJump result }
@@ -101,6 +102,7 @@ pub fn land(code: &[Instr], to: usize) -> Act
 }
 
 /// A jump ahead passes over instructions, and a jump back comes to a Begin.
+#[inline(always)]
 pub fn jump(code: &[Instr], to: u32, at: usize) -> Act
     requires { at < length code.now }
     ensures act { (s : Stack) → act_in result s ≡ jumps code.now to at s }
@@ -115,6 +117,7 @@ pub fn jump(code: &[Instr], to: u32, at: usize) -> Act
     }
 }
 
+#[inline(always)]
 pub fn jump_on_false(code: &[Instr], to: u32, at: usize, stack: &mut Vec<Cell>) -> Act
     requires { at < length code.now }
     ensures kept { WhereStays result (stack.new ≡ stack.old) }
@@ -162,6 +165,7 @@ pub fn drop_one(stack: &mut Vec<Cell>) -> Act
 }
 
 /// A place in place of the topmost operands, where its cell has such a number.
+#[inline(always)]
 fn put_place(
     stack: &mut Vec<Cell>,
     taken: usize,
@@ -186,6 +190,7 @@ fn put_place(
 }
 
 /// The place so many cells on, with this dynamic type.
+#[inline(always)]
 pub fn offset(stack: &mut Vec<Cell>, cells: u32, of_type: u32) -> Act
     ensures kept { WhereStays result (stack.new ≡ stack.old) }
     ensures room { vec_capacity stack.new ≡ vec_capacity stack.old }
@@ -200,6 +205,7 @@ pub fn offset(stack: &mut Vec<Cell>, cells: u32, of_type: u32) -> Act
 }
 
 /// A number that has 32 bits.
+#[inline(always)]
 fn narrow(n: u64) -> Option<u32>
     ensures { result ≡ small n }
 {
@@ -207,6 +213,7 @@ fn narrow(n: u64) -> Option<u32>
 }
 
 /// The number of a cell so many elements on, where it has 32 bits. Of how many cells an element has, 2^64 - 1 stands for more too.
+#[inline(always)]
 pub fn cell_past(cell: u32, elements: u64, cells: u64) -> Option<u32>
     ensures { (n : ℕ) → cells ≡ min n (2 ^ 64 - 1) → result ≡ small (cell + elements * n) }
 {
@@ -214,6 +221,7 @@ pub fn cell_past(cell: u32, elements: u64, cells: u64) -> Option<u32>
 }
 
 /// The place of an element of an array of so many elements, each of so many cells; trap 2 outside.
+#[inline(always)]
 pub fn index(stack: &mut Vec<Cell>, elements: u32, cells: u32) -> Act
     ensures kept { WhereStays result (stack.new ≡ stack.old) }
     ensures room { vec_capacity stack.new ≡ vec_capacity stack.old }

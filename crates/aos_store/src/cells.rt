@@ -14,6 +14,7 @@ pub enum Change {
 }
 
 /// Whether there are the cells that are changed, among so many.
+#[inline(always)]
 fn fits(what: Change, len: usize) -> bool
     ensures { result ≡ fits_of what len }
 {
@@ -26,6 +27,7 @@ fn fits(what: Change, len: usize) -> bool
 }
 
 /// Changes cells, where there are such cells, and says whether there are.
+#[inline(always)]
 pub fn make_change(cells: &mut [Cell], what: Change) -> bool
     ensures there { result ≡ fits_of what (length cells.old) }
     ensures after { cells.new ≡ (if result then changed what cells.old else cells.old) }
@@ -45,6 +47,7 @@ pub fn make_change(cells: &mut [Cell], what: Change) -> bool
 }
 
 /// Changes the first so many cells alone.
+#[inline(always)]
 pub fn change_front(cells: &mut [Cell], own: usize, what: Change) -> bool
     requires { own ≤ length cells.old }
     ensures there { result ≡ fits_of what own }

@@ -62,6 +62,7 @@ impl Frame {
     }
 
     /// How many cells places name.
+    #[inline(always)]
     pub fn len(&self) -> usize
         ensures value { result ≡ vec_len self.now.cells - self.now.keeps }
         ensures own { result ≡ length (own_cells self.now) }
@@ -70,6 +71,7 @@ impl Frame {
     }
 
     /// What a cell holds, where there is such a cell.
+    #[inline(always)]
     pub fn load(&self, cell: usize) -> Option<Cell>
         ensures { result ≡ slice_get (own_cells self.now) cell }
     {
@@ -77,6 +79,7 @@ impl Frame {
     }
 
     /// What is kept under a number, 0 where nothing is.
+    #[inline(always)]
     pub fn kept(&self, number: u32) -> Cell
         ensures { result ≡ keeps_in (kept_cells self.now) number }
     {
@@ -124,6 +127,7 @@ impl Frame {
     }
 
     /// Changes its cells, where there are such cells, and says whether there are.
+    #[inline(always)]
     pub fn change(&mut self, what: Change) -> bool
         ensures there { result ≡ fits what (length (own_cells self.old)) }
         ensures after { frame_in self.new ≡
@@ -200,6 +204,7 @@ impl Frames {
     }
 
     /// What a cell of the frame above so many others holds, where there is such a cell.
+    #[inline(always)]
     pub fn load(&self, above: usize, cell: usize) -> Option<Cell>
         ensures { result ≡ option_and_then (λ cells. slice_get cells cell)
             (from_last above (map (λ f. f.cells) (list_in self.now.list.items))) }
@@ -222,6 +227,7 @@ impl Frames {
     }
 
     /// Changes the cells of the frame above so many others, where there are such cells, and says whether there are.
+    #[inline(always)]
     pub fn change(&mut self, above: usize, what: Change) -> bool
         ensures there { result ≡
             fits_in what (from_last above (map (λ f. f.cells) (list_in self.old.list.items))) }

@@ -58,6 +58,7 @@ impl Heap {
     }
 
     /// The object of this number, from 1.
+    #[inline(always)]
     pub fn get(&self, number: u32) -> Option<&Object>
         ensures { option_copied result ≡ by_number number self.now }
     {
@@ -65,6 +66,7 @@ impl Heap {
     }
 
     /// Changes the cells of an object, where there are such cells, and says whether there are.
+    #[inline(always)]
     pub fn change(&mut self, number: u32, what: Change) -> bool
         ensures there { result ≡ fits_in what (by_number number (map object_cells self.old)) }
         ensures cells { map object_cells self.new ≡

@@ -39,6 +39,7 @@ impl Store {
     }
 
     /// What a cell of a module holds, where there is such a cell.
+    #[inline(always)]
     pub fn load_module(&self, of_module: usize, cell: usize) -> Option<Cell>
         ensures { result ≡ option_and_then (λ cells. slice_get cells cell)
             (slice_get (memory_in self.now).modules of_module) }
@@ -70,6 +71,7 @@ impl Store {
     }
 
     /// What a cell of an object holds, where there is such a cell.
+    #[inline(always)]
     pub fn load_object(&self, number: u32, cell: usize) -> Option<Cell>
         ensures { result ≡ option_and_then (λ cells. slice_get cells cell)
             (by_number number (memory_in self.now).objects) }
@@ -91,6 +93,7 @@ impl Store {
     }
 
     /// Changes the cells of a module, where there are such cells, and says whether there are.
+    #[inline(always)]
     pub fn change_module(&mut self, number: u32, what: Change) -> bool
         ensures there { result ≡ fits_in what (slice_get (memory_in self.old).modules number) }
         ensures after { memory_in self.new ≡
@@ -104,6 +107,7 @@ impl Store {
     }
 
     /// Changes the cells of an object, where there are such cells, and says whether there are.
+    #[inline(always)]
     pub fn change_object(&mut self, number: u32, what: Change) -> bool
         ensures there { result ≡ fits_in what (by_number number (memory_in self.old).objects) }
         ensures after { memory_in self.new ≡
