@@ -1,11 +1,19 @@
 -- Turns that are made in place, on the topmost frame.
-use Rattle.std.proofs.Common.{◌≡◌, ◌<◌, ◌≤◌, ◌+◌, ◌-◌, ◌%◌, ◌^◌, ℕ, zero, suc, List, [], ◌∷◌, ◌++◌, map, length, drop, reverse, get_or, slice_set, replicate, inl, inr, refl, sym, ap, ◌∙◌, subst, arith, min}
+use Rattle.std.proofs.Common.{◌≡◌, ◌<◌, ◌≤◌, ◌+◌, ◌-◌, ◌%◌, ◌^◌, ℕ, ℤ, zero, suc, List, [], ◌∷◌, ◌++◌, map, length, drop, reverse, get_or, slice_set, replicate, inl, inr, refl, sym, ap, ◌∙◌, subst, arith, min}
 use Rattle.std.specs.Prelude.{Bool, true, false, Option, Some, None, pos, slice_get, nat_eq, is_some, IfSome, if◌then◌else◌}
 use Rattle.std.specs.Option.{option_and_then}
+use Rattle.std.proofs.lemmas.Bool.{lt-ltb}
 use Rattle.std.proofs.lemmas.Bool.Decides.{leb_tells, eqb_tells}
 use Rattle.std.proofs.lemmas.List.{append-nil, length-map, length-replicate}
 use Rattle.std.proofs.lemmas.Option.{slice_get-get_or}
 use Rattle.aos_base.specs.declared.text.Pos.{Pos}
+use Rattle.aos_base.specs.declared.number.Relation.{Relation}
+use Rattle.aos_base.specs.Number.{holds}
+use Rattle.aos_base.specs.Operators.{binary, flag}
+use Rattle.aos_base.specs.declared.operator.Binary.{Binary}
+use Rattle.aos_base.specs.declared.operator.Binary.TheVariants.{Cmp}
+use Rattle.aos_base.specs.declared.operator.Given.{Given}
+use Rattle.aos_base.specs.declared.operator.Given.TheVariants.{Number}
 use Rattle.aos_base.specs.declared.root.Root.{Root}
 use Rattle.aos_base.specs.declared.root.Root.TheVariants.{Frame as FrameRoot, Module as ModuleRoot, Object as ObjectRoot}
 use Rattle.aos_base.specs.declared.kernel.Did.{Did}
@@ -16,10 +24,10 @@ use Rattle.aos_code.specs.declared.instr.Cell.{Cell}
 use Rattle.aos_code.specs.declared.instr.Cell.TheVariants.{Num as NumCell, Ref, Call as CallCell, Place}
 use Rattle.aos_code.specs.declared.instr.Kind.{Kind}
 use Rattle.aos_code.specs.declared.instr.Instr.{Instr}
-use Rattle.aos_code.specs.declared.instr.Instr.TheVariants.{Num, Load, Store}
+use Rattle.aos_code.specs.declared.instr.Instr.TheVariants.{Num, Load, Store, JumpFalse, Binary as OnTwo}
 use Rattle.aos_code.specs.declared.image.Image.{Image}
 use Rattle.aos_code.specs.Memory.{Memory}
-use Rattle.aos_code.specs.Silent.{Stack, Stop, Work, Ended, Begins, Sees, Stops, lost, gives, gives_self, is_of, on_place, on_numbers, Goes, on_act, stores, act, walk, silent}
+use Rattle.aos_code.specs.Silent.{Stack, Act, given, jumps_on_false, lands, Stop, Work, Ended, Begins, Sees, Stops, lost, gives, gives_self, is_of, on_place, on_numbers, Goes, on_act, stores, act, walk, silent}
 use Rattle.aos_code.specs.Machine.{asker, Frame, Frames, Turned, rooted, frames_with, memory_with, turn, code_of, made_in, stop_of, goes, reads, writes, goes_on, leaves, behind, opened}
 use Rattle.aos_code.specs.Numbered.{numbered}
 use Rattle.aos_sound.specs.Fits.{KeepsToPaths, StandsOn, StandsStopped, result_of}
@@ -38,11 +46,12 @@ use Rattle.aos_silent_steps.specs.declared.act.Act.TheVariants.{Goes as GoesOn, 
 use Rattle.aos_silent_steps.specs.declared.act.Address.{Address}
 use Rattle.aos_silent_steps.specs.declared.act.Question.{Question}
 use Rattle.aos_silent_steps.specs.declared.silent.Stop.TheVariants.{Work as AtWork}
-use Rattle.aos_silent_steps.specs.Acts.{address_in, kind_in, addr_in, question_in, operands_of, WhereStays}
+use Rattle.aos_silent_steps.specs.Acts.{address_in, number_in, kind_in, addr_in, question_in, operands_of, WhereStays}
 use Rattle.aos_silent_steps.specs.Known.{Knows}
 use Rattle.aos_silent_steps.specs.Steps.{IsStepOf, after}
 use Rattle.aos_silent_steps.specs.Silent.{Seen, here_at, silent_at, seen_at, seen_with}
 use Rattle.aos_silent_steps.specs.Room.{keeps_for, FitInRoom}
+use Rattle.aos_silent_steps.proofs.Stepped.{stepped_of}
 use Rattle.aos_silent_steps.proofs.Walks.{acts, seen_on}
 use Rattle.aos_cpu.specs.Turns.{SeenFrames, Alike, seen_frames, counted, StandsAtStop, Shown, IsTurned, Rests, WhereLeft}
 use Rattle.aos_cpu.specs.Private.{no_memory, made_by, is_of_frame, is_own_stop, alone, IsPrivate, after_turns, begun_after, IsMadePrivately, turns_since}
@@ -336,6 +345,83 @@ module _ (image : Image) (here : ℕ) (mem : Memory) (f g : Frame) (code : List 
       turned_top image here mem mem f (record g { next = to + 1; at = Some p }) true (Ended (Begins to p g.stack) g.keeps) (ap (λ (x : Frame). x.procedure) step.same) stop
       (λ rest len none. refl)
       (λ following rest len. ap (λ (x : Frame). (let t : Turned = record { store = mem; frames = on_top following (record x { next = to + 1; at = Some p }) rest; output = []; begun = true; left = Went } in t)) (sym step.same))
+
+-- Silent work and what stands behind it, done in one.
+
+-- a number given above another one
+on_below : (k : ℤ → ℤ → Stack → Act) (s : Stack) (a n : ℤ) → number_in (slice_get s 0) ≡ Some a → on_numbers k (NumCell n ∷ s) ≡ k a n (drop 1 s)
+on_below k [] a n e = absurd (cc e)
+on_below k (NumCell z ∷ s) a n e = ap (λ y. k y n s) (some_same z a e)
+on_below k (Ref o ∷ s) a n e = absurd (cc e)
+on_below k (CallCell p o ∷ s) a n e = absurd (cc e)
+on_below k (Place r c t ∷ s) a n e = absurd (cc e)
+
+pub some_number : (s : Stack) (a : ℤ) → number_in (slice_get s 0) ≡ Some a → 0 < length s
+some_number [] a e = absurd (cc e)
+some_number (v ∷ s) a e = omega arith
+
+module _ (image : Image) (here : ℕ) (mem : Memory) (f : Frame) (code : List Instr) (at : ℕ) (code_is : code ≡ code_of image f.procedure) (at_is : at ≡ f.next) (within : at < length code) (small : length code < 2 ^ 64) where
+  -- an instruction that goes on to the next one, and leaves these operands
+  pub went_then : (s : Stack) → act image.shapes.items image.types.items f.procedure (here_at here f) (get_or code at (Num (pos 0))) code at f.stack ≡ Goes 0 s → HasWorked image here mem mem f (record f { next = at + 1; stack = s })
+  went_then s acts =
+      let next : at + 1 ≡ min (at + 1 + 0) (2 ^ 64 - 1) = omega (arith, within, small) in
+      silent_top image here mem f (record f { stack = s }) code at (GoesOn 0) code_is at_is within (stepped_of image.shapes.items image.types.items (made_in image mem) (GoesOn 0) _ f s (sym acts)) 0 (at + 1) refl next small
+
+  -- a place that is read at once
+  pub read_behind : (root : Root) (c : ℕ) (kind : Kind) (v : Cell) → act image.shapes.items image.types.items f.procedure (here_at here f) (get_or code at (Num (pos 0))) code at f.stack ≡ gives (Place root c 0) f.stack →
+      slice_get code (at + 1) ≡ Some (Load kind) → ((rest : List Frame) → length rest ≡ here → load root c (rooted (f ∷ rest) mem) ≡ Some v) → is_of kind v ≡ true →
+      HasTurnedTop image here false mem mem f (record f { next = at + 2; stack = v ∷ f.stack })
+  read_behind root c kind v acts is holds of =
+      let p : Address = record { root = root; cell = c } in
+      let mid : Frame = record f { next = at + 1; stack = Place root c 0 ∷ f.stack } in
+      let two : at + 1 + 1 ≡ at + 2 = omega arith in
+      turned_after image here false mem mem mem f mid (record f { next = at + 2; stack = v ∷ f.stack }) (went_then (Place root c 0 ∷ f.stack) acts)
+      (subst (λ n. HasTurnedTop image here false mem mem mid (record f { next = n; stack = v ∷ f.stack })) two
+      (read_top image here mid mem kind p v (subst (λ (l : List Instr). slice_get l (at + 1) ≡ Some (Load kind)) code_is is) refl holds of))
+
+-- an operator applied to a number that is given just before it
+pub applied_behind : (image : Image) (here : ℕ) (mem : Memory) (f : Frame) (code : List Instr) (at : ℕ) (op : Binary) (a n z : ℤ) → code ≡ code_of image f.procedure → at ≡ f.next → at + 1 < length code → length code < 2 ^ 64 →
+    get_or code at (Num (pos 0)) ≡ Num n → get_or code (at + 1) (Num (pos 0)) ≡ OnTwo op → number_in (slice_get f.stack 0) ≡ Some a → binary op a n ≡ Number z →
+    HasWorked image here mem mem f (record f { next = at + 2; stack = NumCell z ∷ drop 1 f.stack })
+applied_behind image here mem f code at op a n z code_is at_is more small first second number is =
+    let mid : Frame = record f { next = at + 1; stack = NumCell n ∷ f.stack } in
+    let within : at < length code = omega (arith, more) in
+    let two : at + 1 + 1 ≡ at + 2 = omega arith in
+    let does = λ (g : Frame) (k : ℕ) (i : Instr). act image.shapes.items image.types.items f.procedure (here_at here g) i code k g.stack in
+    worked_both image here mem mem mem f mid (record f { next = at + 2; stack = NumCell z ∷ drop 1 f.stack }) (went_then image here mem f code at code_is at_is within small (NumCell n ∷ f.stack) (ap (does f at) first))
+    (subst (λ k. HasWorked image here mem mem mid (record f { next = k; stack = NumCell z ∷ drop 1 f.stack })) two
+    (went_then image here mem mid code (at + 1) code_is refl more small (NumCell z ∷ drop 1 f.stack)
+    (ap (does mid (at + 1)) second ∙ on_below (λ x y u. given (binary op x y) u) f.stack a n number ∙ ap (λ (g : Given). given g (drop 1 f.stack)) is)))
+
+-- where a jump ahead goes on that takes a truth value
+jumped : (l : List Instr) (to at : ℕ) (b : Bool) (s : Stack) → at < to → jumps_on_false l to at (flag b) s ≡ Goes (if b then 0 else to - (at + 1)) s
+jumped l to at true s ahead = refl
+jumped l to at false s ahead = ap (λ (x : Bool). if x then Goes (to - (at + 1)) s else lands (slice_get l to) to s) (lt-ltb at to ahead)
+
+to_next : (to at : ℕ) (b : Bool) → at < to → to < 2 ^ 64 - 1 → at + 1 < 2 ^ 64 → (if b then at + 1 else to) ≡ min (at + 1 + (if b then 0 else to - (at + 1))) (2 ^ 64 - 1)
+to_next to at true ahead small less = omega (arith, less)
+to_next to at false ahead small less = omega (arith, ahead, small)
+
+-- two numbers are compared, and a jump ahead is made or not just behind
+pub compared_behind : (image : Image) (here : ℕ) (mem : Memory) (f : Frame) (code : List Instr) (at to : ℕ) (r : Relation) (a b : ℤ) → code ≡ code_of image f.procedure → at ≡ f.next → at + 1 < length code → length code < 2 ^ 64 → to < 2 ^ 64 - 1 →
+    get_or code at (Num (pos 0)) ≡ OnTwo (Cmp r) → get_or code (at + 1) (Num (pos 0)) ≡ JumpFalse to → at + 1 < to →
+    on_numbers (λ x y u. given (binary (Cmp r) x y) u) f.stack ≡ given (binary (Cmp r) a b) (drop 2 f.stack) →
+    HasWorked image here mem mem f (record f { next = if holds r a b then at + 2 else to; stack = drop 2 f.stack })
+compared_behind image here mem f code at to r a b code_is at_is more small low first second ahead two_on =
+    let s : Stack = drop 2 f.stack in
+    let h = holds r a b in
+    let mid : Frame = record f { next = at + 1; stack = NumCell (flag h) ∷ s } in
+    let within : at < length code = omega (arith, more) in
+    let two : at + 1 + 1 ≡ at + 2 = omega arith in
+    let does = λ (g : Frame) (k : ℕ) (i : Instr). act image.shapes.items image.types.items f.procedure (here_at here g) i code k g.stack in
+    let over = if h then 0 else to - (at + 1 + 1) in
+    let acts_so : does mid (at + 1) (get_or code (at + 1) (Num (pos 0))) ≡ Goes over s = ap (does mid (at + 1)) second ∙ jumped code to (at + 1) h s ahead in
+    let last : (if h then at + 1 + 1 else to) ≡ min (at + 1 + 1 + over) (2 ^ 64 - 1) = to_next to (at + 1) h ahead low (omega (arith, more, small)) in
+    worked_both image here mem mem mem f mid (record f { next = if h then at + 2 else to; stack = s })
+    (went_then image here mem f code at code_is at_is within small (NumCell (flag h) ∷ s) (ap (does f at) first ∙ two_on))
+    (subst (λ k. HasWorked image here mem mem mid (record f { next = if h then k else to; stack = s })) two
+    (silent_top image here mem mid (record mid { stack = s }) code (at + 1) (GoesOn over) code_is refl more (stepped_of image.shapes.items image.types.items (made_in image mem) (GoesOn over) _ mid s (sym acts_so)) over
+    (if h then at + 1 + 1 else to) refl last small))
 
 -- where there is no memory there is none after it
 pub still_none : (image : Image) (here : ℕ) (begins : Bool) (mem now : Memory) (f g : Frame) → HasTurnedTop image here begins mem now f g → mem ≡ no_memory → now ≡ no_memory

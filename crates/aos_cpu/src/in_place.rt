@@ -1,10 +1,12 @@
 // Turns that are made in place, on the topmost frame: no question is asked, and no frame is found by its number.
-ghost use Rattle.std.specs.Prelude.{◌≡◌, ◌<◌, ◌≤◌, ◌+◌, ◌^◌, ℕ, pos, List, ◌∷◌, Some, IfSome, length, slice_get, get_or};
+ghost use Rattle.std.specs.Prelude.{◌≡◌, ◌<◌, ◌≤◌, ◌+◌, ◌^◌, ℕ, pos, List, ◌∷◌, Some, IfSome, length, slice_get, get_or, if◌then◌else◌};
 ghost use Rattle.aos_base.specs.Rooted.{load};
-ghost use Rattle.aos_code.specs.declared.instr.Instr.TheVariants.{Num, Load, Store as StoreInstr, Binary as BinaryInstr, SelfRef, Deref};
+ghost use Rattle.aos_base.specs.declared.operator.Binary.TheVariants.{Cmp};
+ghost use Rattle.aos_code.specs.declared.instr.Cell.TheVariants.{Place};
+ghost use Rattle.aos_code.specs.declared.instr.Instr.TheVariants.{Num, Load, Store as StoreInstr, Binary as BinaryInstr, SelfRef, Deref, Kept, Index, Offset, JumpFalse};
 ghost use Rattle.aos_code.specs.Numbered.{numbered as numbered_of};
 ghost use Rattle.aos_code.specs.Memory.{Memory};
-ghost use Rattle.aos_code.specs.Silent.{act, gives, keeps_in};
+ghost use Rattle.aos_code.specs.Silent.{act, gives, keeps_in, Takes};
 ghost use Rattle.aos_code.specs.Machine.{Frame as FrameOf, rooted, made_in, code_of as code_at};
 ghost use Rattle.aos_store.specs.Store.{frame_in, frames_in, memory_in, SameCounts};
 ghost use Rattle.aos_store.specs.Room.{HasMoreRoom};
@@ -17,14 +19,14 @@ ghost use Rattle.aos_cpu.specs.Private.{no_memory, IsMadePrivately};
 ghost use Rattle.aos_cpu.specs.Many.{HasRunOn};
 ghost use Rattle.aos_cpu.specs.InPlace.{IsAhead, HasSet, IsDone, HasRunTop, HasTriedTop, HasTriedInPlace};
 
-use aos_base::{Binary, Given, Pos, Root, apply_binary};
+use aos_base::{Binary, Given, Pos, Relation, Root, apply_binary, related, truth};
 use aos_code::{Cell, Image, Instr, Kind};
 use aos_silent_steps::act::Act;
 use aos_silent_steps::instruction::do_one;
 use aos_silent_steps::objects::tell_cell;
-use aos_silent_steps::operands::{address, is_of, numbers, of_kind};
-use aos_silent_steps::step::give_value;
-use aos_silent_steps::values::{jump, jump_on_false};
+use aos_silent_steps::operands::{address, is_of, number, numbers, of_kind};
+use aos_silent_steps::step::{give, give_value, kept_value};
+use aos_silent_steps::values::{index, jump, jump_on_false, offset};
 use aos_silent_steps::{Address, Question, code_of, keeps_of, replace, take};
 use aos_store::{Change, Frame, Frames, Store};
 
@@ -242,7 +244,237 @@ fn deref_top(code: &[Instr], at: usize, cell: u32, frame: &mut Frame, store: &St
     go_after(code, at, frame, did)
 }
 
+/// The kind of what the instruction at a place loads, where it loads.
+#[inline(always)]
+fn loaded(code: &[Instr], at: usize) -> Option<Kind>
+    ensures { IfSome result (λ kind. slice_get code.now at ≡ Some (Load kind)) }
+{
+    match code.get(at).copied() {
+        Some(Instr::Load(kind)) => Some(kind),
+        _ => None,
+    }
+}
+
+/// The frame gets what a cell holds whose place it would get, and which is read next, where it isn't in a frame below.
+#[inline(always)]
+fn read_place(
+    code: &[Instr],
+    at: usize,
+    kind: Kind,
+    here: u32,
+    place: Address,
+    frame: &mut Frame,
+    store: &Store,
+) -> Done
+    requires within { at < length code.now }
+    requires next { slice_get code.now (at + 1) ≡ Some (Load kind) }
+    ensures done { (image : Image) → code.now ≡ code_at image frame.old.procedure →
+        at ≡ frame.old.next →
+        act image.shapes.items image.types.items frame.old.procedure
+        (here_at here (frame_in frame.old)) (get_or code.now at (Num (pos 0))) code.now at
+        (frame_in frame.old).stack ≡
+        gives (Place place.root place.cell 0) (frame_in frame.old).stack →
+        IsDone image here result (memory_in store.now) (memory_in store.now) (frame_in frame.old)
+        (frame_in frame.new) }
+    ensures ahead { IsAhead result at frame.new.next }
+    ensures room { HasMoreRoom frame.old frame.new }
+{
+    let Some(value) = load_near(frame, store, here, place) else {
+        return Done::Nothing;
+    };
+    if !is_of(kind, value) {
+        return Done::Nothing;
+    }
+    match give(frame, value) {
+        Ok(()) => {
+            frame.next = at + 2;
+            Done::Turned
+        }
+        Err(_) => Done::Nothing,
+    }
+}
+
+/// The frame gets the place of a cell, or what that holds where it is read next.
+#[inline(always)]
+fn place_top(
+    code: &[Instr],
+    at: usize,
+    here: u32,
+    place: Address,
+    frame: &mut Frame,
+    store: &Store,
+) -> Done
+    requires within { at < length code.now }
+    ensures done { (image : Image) → code.now ≡ code_at image frame.old.procedure →
+        at ≡ frame.old.next →
+        act image.shapes.items image.types.items frame.old.procedure
+        (here_at here (frame_in frame.old)) (get_or code.now at (Num (pos 0))) code.now at
+        (frame_in frame.old).stack ≡
+        gives (Place place.root place.cell 0) (frame_in frame.old).stack →
+        IsDone image here result (memory_in store.now) (memory_in store.now) (frame_in frame.old)
+        (frame_in frame.new) }
+    ensures ahead { IsAhead result at frame.new.next }
+    ensures room { HasMoreRoom frame.old frame.new }
+{
+    match loaded(code, at + 1) {
+        Some(kind) => read_place(code, at, kind, here, place, frame, store),
+        None => give_top(code, at, frame, Cell::Place(place.root, place.cell, 0)),
+    }
+}
+
+/// The operator that the instruction at a place applies to two numbers, where it applies one.
+#[inline(always)]
+fn applied(code: &[Instr], at: usize) -> Option<Binary>
+    ensures { IfSome result (λ operator.
+        (at < length code.now) × (get_or code.now at (Num (pos 0)) ≡ BinaryInstr operator)) }
+{
+    match code.get(at).copied() {
+        Some(Instr::Binary(operator)) => Some(operator),
+        _ => None,
+    }
+}
+
+/// An operator is applied to the topmost number and to one that the frame would get, before it is.
+#[inline(always)]
+fn operate_with(code: &[Instr], at: usize, operator: Binary, n: i64, frame: &mut Frame) -> Done
+    requires within { at + 1 < length code.now }
+    requires next { get_or code.now (at + 1) (Num (pos 0)) ≡ BinaryInstr operator }
+    ensures done { (image : Image) (here : ℕ) (mem : Memory) →
+        code.now ≡ code_at image frame.old.procedure → at ≡ frame.old.next →
+        get_or code.now at (Num (pos 0)) ≡ Num n →
+        IsDone image here result mem mem (frame_in frame.old) (frame_in frame.new) }
+    ensures ahead { IsAhead result at frame.new.next }
+    ensures room { HasMoreRoom frame.old frame.new }
+{
+    let Some(a) = number(&frame.operands, 0) else {
+        return Done::Nothing;
+    };
+    let Given::Number(value) = apply_binary(operator, a, n) else {
+        return Done::Nothing;
+    };
+    replace(&mut frame.operands, 1, Cell::Num(value));
+    frame.next = at + 2;
+    Done::Silent
+}
+
+/// The frame gets a number, or what an operator gives of it that is applied next.
+#[inline(always)]
+fn number_top(code: &[Instr], at: usize, n: i64, frame: &mut Frame) -> Done
+    requires within { at < length code.now }
+    ensures done { (image : Image) (here : ℕ) (mem : Memory) →
+        code.now ≡ code_at image frame.old.procedure → at ≡ frame.old.next →
+        get_or code.now at (Num (pos 0)) ≡ Num n →
+        IsDone image here result mem mem (frame_in frame.old) (frame_in frame.new) }
+    ensures ahead { IsAhead result at frame.new.next }
+    ensures room { HasMoreRoom frame.old frame.new }
+{
+    match applied(code, at + 1) {
+        Some(operator) => operate_with(code, at, operator, n, frame),
+        None => give_top(code, at, frame, Cell::Num(n)),
+    }
+}
+
+/// Where the instruction at a place jumps to, where it jumps ahead at 0.
+#[inline(always)]
+fn jumps_ahead(code: &[Instr], at: usize) -> Option<u32>
+    ensures { IfSome result (λ to. (at < to) × (at < length code.now) ×
+        (get_or code.now at (Num (pos 0)) ≡ JumpFalse to)) }
+{
+    match code.get(at).copied() {
+        Some(Instr::JumpFalse(to)) => { if at < to as usize { Some(to) } else { None } }
+        _ => None,
+    }
+}
+
+/// The place behind a jump ahead that stands behind a comparison: where that holds the next one, and else where it jumps to.
+#[inline(always)]
+fn past_jump(at: usize, to: u32, holds: bool) -> usize
+    requires { at + 2 < 2 ^ 64 }
+    ensures { result ≡ (if holds then at + 2 else to) }
+{
+    if holds { at + 2 } else { to as usize }
+}
+
+/// The two topmost numbers are compared; where a jump ahead follows, it's made or not.
+#[inline(always)]
+fn compare_top(code: &[Instr], at: usize, relation: Relation, frame: &mut Frame) -> Done
+    requires within { at < length code.now }
+    ensures done { (image : Image) (here : ℕ) (mem : Memory) →
+        code.now ≡ code_at image frame.old.procedure → at ≡ frame.old.next →
+        get_or code.now at (Num (pos 0)) ≡ BinaryInstr (Cmp relation) →
+        IsDone image here result mem mem (frame_in frame.old) (frame_in frame.new) }
+    ensures ahead { IsAhead result at frame.new.next }
+    ensures room { HasMoreRoom frame.old frame.new }
+{
+    let Some((a, b)) = numbers(&frame.operands) else {
+        return Done::Nothing;
+    };
+    let holds = related(relation, a, b);
+    match jumps_ahead(code, at + 1) {
+        Some(to) => {
+            take(&mut frame.operands, 2);
+            frame.next = past_jump(at, to, holds);
+            Done::Silent
+        }
+        None => {
+            replace(&mut frame.operands, 2, Cell::Num(truth(holds)));
+            frame.next = at + 1;
+            Done::Silent
+        }
+    }
+}
+
+/// The frame gets what it keeps under a number.
+#[inline(always)]
+fn kept_top(code: &[Instr], at: usize, number: u32, kind: Kind, frame: &mut Frame) -> Done
+    requires within { at < length code.now }
+    ensures done { (image : Image) (here : ℕ) (mem : Memory) →
+        code.now ≡ code_at image frame.old.procedure → at ≡ frame.old.next →
+        act image.shapes.items image.types.items frame.old.procedure
+        (here_at here (frame_in frame.old)) (get_or code.now at (Num (pos 0))) code.now at
+        (frame_in frame.old).stack ≡ Takes number kind (frame_in frame.old).stack →
+        IsDone image here result mem mem (frame_in frame.old) (frame_in frame.new) }
+    ensures ahead { IsAhead result at frame.new.next }
+    ensures room { HasMoreRoom frame.old frame.new }
+{
+    match kept_value(frame, number, kind) {
+        Ok(did) => go_after(code, at, frame, did),
+        Err(_) => Done::Nothing,
+    }
+}
+
+/// The frame gets the place of an element of its topmost array.
+#[inline(always)]
+fn index_top(code: &[Instr], at: usize, elements: u32, cells: u32, frame: &mut Frame) -> Done
+    requires within { at < length code.now }
+    ensures done { (image : Image) (here : ℕ) (mem : Memory) →
+        code.now ≡ code_at image frame.old.procedure → at ≡ frame.old.next →
+        get_or code.now at (Num (pos 0)) ≡ Index elements cells →
+        IsDone image here result mem mem (frame_in frame.old) (frame_in frame.new) }
+    ensures ahead { IsAhead result at frame.new.next }
+    ensures room { HasMoreRoom frame.old frame.new }
+{
+    let did = index(&mut frame.operands, elements, cells);
+    go_after(code, at, frame, did)
+}
+
+/// The frame gets the place so many cells on.
+#[inline(always)]
+fn offset_top(code: &[Instr], at: usize, cells: u32, of_type: u32, frame: &mut Frame) -> Done
+    requires within { at < length code.now }
+    ensures done { (image : Image) (here : ℕ) (mem : Memory) →
+        code.now ≡ code_at image frame.old.procedure → at ≡ frame.old.next →
+        get_or code.now at (Num (pos 0)) ≡ Offset cells of_type →
+        IsDone image here result mem mem (frame_in frame.old) (frame_in frame.new) }
+    ensures ahead { IsAhead result at frame.new.next }
+    ensures room { HasMoreRoom frame.old frame.new }
+{
+    let did = offset(&mut frame.operands, cells, of_type);
+    go_after(code, at, frame, did)
+}
+
 /// Any other instruction.
+#[inline(never)]
 fn rest_top(
     instr: Instr,
     image: &Image,
@@ -268,10 +500,25 @@ fn rest_top(
     }
 }
 
+/// Whether an instruction calls or ends a frame, or asks for a lock.
+fn is_asked(instr: Instr) -> bool {
+    match instr {
+        Instr::Call(_) => true,
+        Instr::Virtual(_, _) => true,
+        Instr::CallValue(_) => true,
+        Instr::Return => true,
+        Instr::Enter => true,
+        Instr::Leave => true,
+        Instr::Await(_) => true,
+        _ => false,
+    }
+}
+
 /// Does the next instruction of a frame of this code above so many others, which keeps values under so many numbers. Those that come
-/// most often have an arm of their own.
+/// most often have an arm of their own. A question is told only where it's wanted.
 #[inline(always)]
 fn do_top(
+    asks: bool,
     image: &Image,
     code: &[Instr],
     keeps: u32,
@@ -291,10 +538,14 @@ fn do_top(
     match code[at] {
         Instr::Load(kind) => load_top(at, kind, here, frame, store),
         Instr::Store(kind) => store_top(at, kind, here, frame, store),
-        Instr::Num(n) => give_top(code, at, frame, Cell::Num(n)),
-        Instr::Frame(cell) => give_top(code, at, frame, Cell::Place(Root::Frame(here), cell, 0)),
+        Instr::Num(n) => number_top(code, at, n, frame),
+        Instr::Frame(cell) => {
+            let root = Root::Frame(here);
+            place_top(code, at, here, Address { root, cell }, frame, store)
+        }
         Instr::Module(module, cell) => {
-            give_top(code, at, frame, Cell::Place(Root::Module(module), cell, 0))
+            let root = Root::Module(module);
+            place_top(code, at, here, Address { root, cell }, frame, store)
         }
         Instr::Begin(line, col) => go_after(code, at, frame, Act::Begins(at, Pos { line, col })),
         Instr::Jump(to) => go_after(code, at, frame, jump(code, to, at)),
@@ -302,16 +553,27 @@ fn do_top(
             let did = jump_on_false(code, to, at, &mut frame.operands);
             go_after(code, at, frame, did)
         }
+        Instr::Binary(Binary::Cmp(relation)) => compare_top(code, at, relation, frame),
         Instr::Binary(operator) => operate_top(code, at, operator, frame),
+        Instr::Kept(number, kind) if number < keeps => kept_top(code, at, number, kind, frame),
+        Instr::Index(elements, cells) => index_top(code, at, elements, cells, frame),
+        Instr::Offset(cells, of_type) => offset_top(code, at, cells, of_type, frame),
         Instr::SelfRef => self_top(code, at, frame),
         Instr::Deref(cell) => deref_top(code, at, cell, frame, store),
-        instr => rest_top(instr, image, code, keeps, here, at, frame, store),
+        instr => {
+            if !asks && is_asked(instr) {
+                Done::Nothing
+            } else {
+                rest_top(instr, image, code, keeps, here, at, frame, store)
+            }
+        }
     }
 }
 
-/// A turn of a frame, where its silent work comes to one that is made in place.
+/// A turn of a frame, where its silent work comes to one that is made in place. A question to which that comes is told where it's wanted.
 #[inline(always)]
 fn turn_top(
+    asks: bool,
     image: &Image,
     code: &[Instr],
     keeps: u32,
@@ -326,7 +588,7 @@ fn turn_top(
     ensures room { HasMoreRoom frame.old frame.new }
 {
     while frame.next < code.len() {
-        match do_top(image, code, keeps, here, frame, store) {
+        match do_top(asks, image, code, keeps, here, frame, store) {
             Done::Silent => {}
             Done::Turned => return Tried::Turned(false),
             Done::Begun => return Tried::Turned(true),
@@ -347,6 +609,7 @@ pub(crate) fn count(begins: bool, begun: u64) -> u64
 
 /// Turns of a frame, so many at most, as long as they can be made in place and fewer statements have begun than the budget: how many
 /// have been made, and how many statements have begun by then. Where there is no memory they are private.
+#[inline(never)]
 pub(crate) fn run_top(
     image: &Image,
     code: &[Instr],
@@ -373,7 +636,7 @@ pub(crate) fn run_top(
         if budget <= now {
             return (made, now);
         }
-        match turn_top(image, code, keeps, here, frame, store) {
+        match turn_top(false, image, code, keeps, here, frame, store) {
             Tried::Turned(begins) => now = count(begins, now),
             Tried::Asks(_, _) => return (made, now),
             Tried::Nothing => return (made, now),
@@ -429,5 +692,5 @@ pub(crate) fn turn_in_place(image: &Image, frames: &mut Frames, store: &mut Stor
     };
     let code = code_of(image, frame.procedure);
     let keeps = keeps_of(&image.shapes, frame.procedure);
-    turn_top(image, code, keeps, here, frame, store)
+    turn_top(true, image, code, keeps, here, frame, store)
 }

@@ -35,6 +35,7 @@ use aos_code::{Cell, Image, Instr, ProcShape, TypeDesc};
 use aos_store::{Frame, Heap};
 
 /// An instruction that works on operands, of which there aren't more after it.
+#[inline(always)]
 fn do_operands(instr: Instr, stack: &mut Vec<Cell>) -> Act
     requires { group_of instr ≡ Group.Operands }
     ensures kept { WhereStays result (stack.new ≡ stack.old) }
@@ -61,6 +62,7 @@ fn do_operands(instr: Instr, stack: &mut Vec<Cell>) -> Act
 }
 
 /// An instruction that tests the type of the record at the topmost place.
+#[inline(always)]
 fn do_tests(instr: Instr, types: &[TypeDesc], stack: &mut Vec<Cell>) -> Act
     requires { group_of instr ≡ Group.Tested }
     ensures kept { WhereStays result (stack.new ≡ stack.old) }
@@ -78,6 +80,7 @@ fn do_tests(instr: Instr, types: &[TypeDesc], stack: &mut Vec<Cell>) -> Act
 }
 
 /// An instruction that asks an object, or calls its method, by what it was made as.
+#[inline(always)]
 fn do_told(
     instr: Instr,
     shapes: &[ProcShape],
@@ -116,6 +119,7 @@ fn do_told(
 }
 
 /// An instruction that says where silent work goes on.
+#[inline(always)]
 fn do_jumps(instr: Instr, code: &[Instr], at: usize, stack: &mut Vec<Cell>) -> Act
     requires place { slice_get code.now at ≡ Some instr }
     requires within { at < length code.now }
@@ -139,6 +143,7 @@ fn do_jumps(instr: Instr, code: &[Instr], at: usize, stack: &mut Vec<Cell>) -> A
 }
 
 /// An instruction that asks for memory, for a procedure, or for the kernel's work.
+#[inline(always)]
 fn ask(instr: Instr, shapes: &[ProcShape], own: u32, stack: &[Cell]) -> Act
     requires { group_of instr ≡ Group.Asked }
     ensures act { (types : List TypeOf) (here : Here) (at : ℕ) (code : List InstrOf) →
@@ -168,6 +173,7 @@ fn ask(instr: Instr, shapes: &[ProcShape], own: u32, stack: &[Cell]) -> Act
 }
 
 /// An instruction that works on a text, or asks for output.
+#[inline(always)]
 fn ask_written(instr: Instr, stack: &[Cell]) -> Act
     requires { group_of instr ≡ Group.Written }
     ensures act { (shapes : List ShapeOf) (types : List TypeOf) (own : ℕ) (here : Here) (at : ℕ)
@@ -189,6 +195,7 @@ fn ask_written(instr: Instr, stack: &[Cell]) -> Act
 }
 
 /// An instruction that gives an operand more or keeps one, on a frame above so many others that keeps values under so many numbers.
+#[inline(always)]
 fn do_on_frame(instr: Instr, keeps: u32, here: u32, frame: &mut Frame) -> Result<Act, NoMemory>
     requires { group_of instr ≡ Group.OnFrame }
     ensures ok { IfOk result (λ did.
@@ -225,6 +232,7 @@ fn do_on_frame(instr: Instr, keeps: u32, here: u32, frame: &mut Frame) -> Result
 
 /// Does the instruction at this place of the code, on a frame above so many others that keeps values under so many numbers, where
 /// these objects were made. Operands of a question stay where they are, and so they do where it traps.
+#[inline(always)]
 pub fn do_one(
     instr: Instr,
     image: &Image,

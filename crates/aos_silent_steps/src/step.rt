@@ -46,6 +46,7 @@ pub fn give_value(frame: &mut Frame, value: Cell) -> Result<Act, NoMemory>
 }
 
 /// The topmost operand once more.
+#[inline(always)]
 pub fn give_again(frame: &mut Frame) -> Result<Act, NoMemory>
     ensures ok { IfOk result (λ did.
         IsStep (duplicates (frame_in frame.old).stack) did (frame_in frame.old)
@@ -64,6 +65,7 @@ pub fn give_again(frame: &mut Frame) -> Result<Act, NoMemory>
 }
 
 /// The object on which the frame's procedure is called.
+#[inline(always)]
 pub fn self_value(frame: &mut Frame) -> Result<Act, NoMemory>
     ensures ok { IfOk result (λ did.
         IsStep (gives_self frame.old.object (frame_in frame.old).stack) did (frame_in frame.old)

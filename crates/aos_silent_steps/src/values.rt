@@ -10,6 +10,7 @@ use aos_base::{Binary, Given, Pos, Root, Unary, apply_binary, apply_unary, natur
 use aos_code::{Cell, Instr};
 
 /// What an operator gives, in place of the operands that it took.
+#[inline(always)]
 pub fn put_given(stack: &mut Vec<Cell>, taken: usize, value: Given) -> Act
     requires { vec_len stack.old - taken < vec_capacity stack.old }
     ensures kept { WhereStays result (stack.new ≡ stack.old) }
@@ -27,6 +28,7 @@ pub fn put_given(stack: &mut Vec<Cell>, taken: usize, value: Given) -> Act
     }
 }
 
+#[inline(always)]
 pub fn operate_on_one(operator: Unary, stack: &mut Vec<Cell>) -> Act
     ensures kept { WhereStays result (stack.new ≡ stack.old) }
     ensures room { vec_capacity stack.new ≡ vec_capacity stack.old }
@@ -39,6 +41,7 @@ pub fn operate_on_one(operator: Unary, stack: &mut Vec<Cell>) -> Act
     }
 }
 
+#[inline(always)]
 pub fn operate_on_two(operator: Binary, stack: &mut Vec<Cell>) -> Act
     ensures kept { WhereStays result (stack.new ≡ stack.old) }
     ensures room { vec_capacity stack.new ≡ vec_capacity stack.old }
@@ -52,6 +55,7 @@ pub fn operate_on_two(operator: Binary, stack: &mut Vec<Cell>) -> Act
 }
 
 /// Trap 7 where the condition on the stack is FALSE.
+#[inline(always)]
 pub fn assert_true(code: u8, stack: &mut Vec<Cell>) -> Act
     ensures kept { WhereStays result (stack.new ≡ stack.old) }
     ensures room { vec_capacity stack.new ≡ vec_capacity stack.old }
@@ -69,6 +73,7 @@ pub fn assert_true(code: u8, stack: &mut Vec<Cell>) -> Act
 }
 
 /// The two topmost operands, exchanged.
+#[inline(always)]
 pub fn swap(stack: &mut Vec<Cell>) -> Act
     ensures kept { WhereStays result (stack.new ≡ stack.old) }
     ensures room { vec_capacity stack.new ≡ vec_capacity stack.old }
@@ -149,6 +154,7 @@ pub fn jump_on_false(code: &[Instr], to: u32, at: usize, stack: &mut Vec<Cell>) 
 }
 
 /// Takes the topmost operand.
+#[inline(always)]
 pub fn drop_one(stack: &mut Vec<Cell>) -> Act
     ensures kept { WhereStays result (stack.new ≡ stack.old) }
     ensures room { vec_capacity stack.new ≡ vec_capacity stack.old }
