@@ -11,6 +11,7 @@ use aos_kernel::Kernel;
 use crossbeam_queue::protocol::{Join, Lesson, Outcome, Protocol, Split};
 use crossbeam_queue::{Pass, RuledArrayQueue};
 use std::alloc::Global;
+use std::hint::spin_loop;
 use std::marker::Model;
 use std::sync::Wait;
 use std::thread;
@@ -106,9 +107,27 @@ impl Join<View> for Parting {
 
 type Line = RuledArrayQueue<Box<Kernel>, View, OneKernel>;
 
-/// The most tries of a pass for the kernel without a yield between them. One that yields at once seldom finds it: who gave
-/// it back takes it again sooner.
-const TRIES: u32 = 64;
+/// The most pauses of a pass between two looks for the kernel. While it pauses, who gave the kernel back takes it again, so a
+/// worker has it for some rounds, and what it works on stays with its processor.
+const MOST_PAUSES: u32 = 4096;
+
+/// From so many pauses on, a pass lets other threads run before it looks again.
+const MANY_PAUSES: u32 = 64;
+
+/// Waits for so many pauses: how many the next wait has, twice as many up to the most.
+fn pause(pauses: u32) -> u32 {
+    for _ in 0..pauses {
+        spin_loop();
+    }
+    if MANY_PAUSES <= pauses {
+        thread::yield_now();
+    }
+    if pauses < MOST_PAUSES {
+        pauses + pauses
+    } else {
+        pauses
+    }
+}
 
 /// The kernel between passes. Clauses see which cell it is.
 #[derive(Drop)]
@@ -194,15 +213,12 @@ impl KernelCell {
         ensures pass { pass.new.cell ≡ pass.old.cell }
         ensures kernel { Takes pass.old.view result.value pass.new.view }
     {
-        let mut tries: u32 = 0;
+        let mut pauses: u32 = 1;
         for _ in rt.forever() {
             if let Some(kernel) = self.line.try_pop_as::<Taking>(&mut pass.pass) {
                 return kernel;
             }
-            tries = tries.wrapping_add(1);
-            if tries % TRIES == 0 {
-                thread::yield_now();
-            }
+            pauses = pause(pauses);
         }
         unreachable!()
     }

@@ -1,18 +1,16 @@
 -- What a pass knows of the kernel before a round, in it and after it.
-use Rattle.std.proofs.Common.{◌≡◌, ◌≢◌, ℕ, ◌+◌, ◌<◌, ◌≤◌, ◌⊎◌, Bool, false, List, [], ◌∷◌, ◌++◌, length, refl, sym, ap, ◌∙◌, subst, arith, inl, inr, append_assoc}
+use Rattle.std.proofs.Common.{◌≡◌, ◌≢◌, ℕ, ◌<◌, ◌≤◌, ◌⊎◌, Bool, false, List, [], ◌∷◌, ◌++◌, length, refl, sym, ap, ◌∙◌, subst, arith, inl, inr, append_assoc}
 use Rattle.std.specs.Prelude.{None, Result, Ok, Err, IfOk}
 use Rattle.std.proofs.lemmas.Bool.Decides.{eqb_tells}
 use Rattle.std.proofs.lemmas.List.{append-nil, append_cancel_left}
 use Rattle.aos_base.specs.declared.text.NoMemory.{NoMemory}
 use Rattle.aos_base.specs.declared.kernel.Outcome.{Outcome}
 use Rattle.aos_base.specs.Book.{on_worker}
-use Rattle.aos_base.specs.Machine.{Choice, Step, Tick, happens, execution}
+use Rattle.aos_base.specs.Machine.{Choice, Tick, happens, execution}
 use Rattle.aos_base.specs.Schedule.{choices}
 use Rattle.aos_concurrency.proofs.Places.{keeps_none}
 use Rattle.aos_code.specs.Machine.{machine}
-use Rattle.aos_kernel.specs.declared.log.Stepped.{Stepped}
-use Rattle.aos_kernel.specs.declared.log.Stepped.TheVariants.{Turned, Dispatched, Idle, Over}
-use Rattle.aos_kernel.specs.Run.{Run, among, state_of, comes_to, after_step, ticks, after_tick}
+use Rattle.aos_kernel.specs.Run.{Run, among, state_of, ticks, after_tick}
 use Rattle.aos_cell.specs.declared.rule.Part.{Part}
 use Rattle.aos_cell.specs.declared.rule.View.{View}
 use Rattle.aos_cell.specs.declared.rule.View.TheVariants.{Opens, Spent as Joined, Of}
@@ -26,7 +24,7 @@ use Rattle.aos_cell.proofs.Passes.{program_same, program_then, same_lent, lends_
 use Rattle.aos_workers.specs.Round.{outcome_of, activity_of, IsFresh, turns_made, Advances, Answers, Ready, IsReady, Rounded, HasRounded, RoundAnswers, first_worker, worker_in}
 use Rattle.aos_workers.specs.Holding.{MayStep, Stepping, Held, IsHeld, IsWorking, HasAnswered}
 use Rattle.aos_workers.proofs.Turns.{is_in, is_worker, own_alone, none_of, others_made}
-use Rattle.aos_workers.proofs.Rounds.{state_grows, made_grows, goes_turned, goes_dispatched, entry_of, ends_idle, ends_over, ticked_more, ticked_answers, tick_entry, own_more, own_none}
+use Rattle.aos_workers.proofs.Rounds.{state_grows, made_grows, ticked_more, ticked_answers, tick_entry, own_more, own_none}
 
 -- what others added leaves a worker as fresh as it was
 still_fresh : (w : ℕ) (first last now : Run) → SameProgram last now → AddsOthers (w ∷ []) last now → (activity_of w last ≡ None) ⊎ AddsOthers (w ∷ []) first last → (bound : KeepsBound first now)
@@ -147,16 +145,9 @@ begins_held w (Of p) r after ready took = subst (λ v. IsWorking w 0 0 v v r) (s
         }
 
 -- with more gives used
-gave_more : (w gave later : ℕ) (p q : Part) (r : Run) → gave ≤ later → Held false w gave p q r → Held false w later p q r
+pub gave_more : (w gave later : ℕ) (p q : Part) (r : Run) → gave ≤ later → Held false w gave p q r → Held false w later p q r
 gave_more w gave later p q r le k =
     record { worker = k.worker; has = k.has; first = k.first; enough = k.enough; gives = (let a = k.gives in omega (arith, a, le)); extends = k.extends; range = k.range; lent = k.lent; grows = k.grows }
-
--- one step more
-
-step_one : (w i gave later : ℕ) (p q : Part) (now new : Run) → gave ≤ later → choices new.log ≡ choices now.log ++ Step w ∷ [] → new ≡ record now { log = new.log } → Stepping w i (λ n. n ≡ 0) q.first p.last new → Held false w gave p q now → Held false w later p q new
-step_one w i gave later p q now new le added same s h =
-    gave_more w gave later p q new le (held_more false false w gave p q now new (Step w ∷ []) (is_in w, tt) added (program_same now new same) (ap (λ (r : Run). among w r.lent) same ∙ h.lent) (λ v far. ap (λ (r : Run). among v r.lent) same)
-    (bound_more w i q.first p.last now new (Step w ∷ []) (is_in w, tt) added h.extends.bound s) h)
 
 -- what holds of the parts of two views holds of the views
 pub by_parts : (P : Part → Part → Type 0) (R : View → View → Type 0) (v current : View) → ((p q : Part) → P p q → R (Of p) (Of q)) → HasPart (λ p. HasPart (P p) current) v → R v current
@@ -171,28 +162,6 @@ Works w i gave r p q = Held false w gave p q r × Stepping w i (λ n. n ≡ 0) q
 
 pub held_yet : (w i gave : ℕ) (v current : View) (r : Run) → gave ≤ 256 → IsWorking w i gave v current r → IsHeld w 256 v current r
 held_yet w i gave v current r le = by_parts (Works w i gave r) (λ x y. IsHeld w 256 x y r) v current (λ p q works. gave_more w gave 256 p q r le works.0)
-
-module _ (w i gave : ℕ) (v current : View) (now new : Run) (stepped : Stepped) (is : stepped ≡ comes_to w now) (after_ : new ≡ after_step stepped w now) (same : new ≡ record now { log = new.log }) where
-  pub held_turned : gave ≤ i + 1 → stepped ≡ Turned → i < 256 → IsWorking w i gave v current now → IsWorking w (i + 1) (i + 1) v current new
-  held_turned le was less = by_parts (Works w i gave now) (λ x y. IsWorking w (i + 1) (i + 1) x y new) v current (λ p q works.
-      let s = goes_turned w i p.last now new stepped is after_ same (λ n. n ≡ 0) q.first was less works.1 in
-      (step_one w (i + 1) gave (i + 1) p q now new le (entry_of w i p.last now new stepped is after_ same (inl was)) same s works.0, s))
-
-  pub held_dispatched : gave ≤ i + 1 → state_of new ≡ happens (machine now.image) (Step w) (state_of now) → stepped ≡ Dispatched → IsWorking w i gave v current now → IsWorking w (i + 1) (i + 1) v current new
-  held_dispatched le state was = by_parts (Works w i gave now) (λ x y. IsWorking w (i + 1) (i + 1) x y new) v current (λ p q works.
-      let s = goes_dispatched w i p.last now new stepped is after_ same (λ n. n ≡ 0) q.first state was works.1 in
-      (step_one w (i + 1) gave (i + 1) p q now new le (entry_of w i p.last now new stepped is after_ same (inr was)) same s works.0, s))
-
-  -- one that does nothing
-  pub held_none : (none : Stepped) → stepped ≡ none → after_step none w now ≡ now → gave ≤ 256 → IsWorking w i gave v current now → IsHeld w 256 v current new
-  held_none none was nothing le works =
-      held_yet w i gave v current new le (subst (IsWorking w i gave v current) (sym (after_ ∙ ap (λ s. after_step s w now) was ∙ nothing)) works)
-
-  pub held_idle : (o : Outcome) → o ≡ outcome_of new → stepped ≡ Idle → IsWorking w i gave v current now → HasAnswered w v new o
-  held_idle o out was = by_parts (Works w i gave now) (λ x y. HasAnswered w x new o) v current (λ p q works. ends_idle w i p.last now new stepped is after_ same o out was)
-
-  pub held_over : (o : Outcome) → o ≡ outcome_of new → stepped ≡ Over → IsWorking w i gave v current now → HasAnswered w v new o
-  held_over o out was = by_parts (Works w i gave now) (λ x y. HasAnswered w x new o) v current (λ p q works. ends_over w i p.last now new stepped is after_ same o out was)
 
 pub works_yet : (w i gave later : ℕ) (v current : View) (r : Run) → gave ≤ later → IsWorking w i gave v current r → IsWorking w i later v current r
 works_yet w i gave later v current r le = by_parts (Works w i gave r) (λ x y. IsWorking w i later x y r) v current (λ p q works. (gave_more w gave later p q r le works.0, works.1))

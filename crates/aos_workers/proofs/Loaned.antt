@@ -1,5 +1,5 @@
 -- A loan of a worker's activity, while others have the kernel.
-use Rattle.std.proofs.Common.{◌≡◌, ◌≢◌, ◌⊎◌, ℕ, zero, suc, ◌+◌, ◌-◌, ◌<◌, ◌≤◌, Bool, true, false, List, [], ◌∷◌, ◌++◌, length, replicate, not, refl, sym, ap, ◌∙◌, subst, arith, inl, inr, append_assoc}
+use Rattle.std.proofs.Common.{◌≡◌, ◌≢◌, ◌⊎◌, ℕ, zero, suc, ◌+◌, ◌<◌, ◌≤◌, Bool, true, false, List, [], ◌∷◌, ◌++◌, length, replicate, not, refl, sym, ap, ◌∙◌, subst, arith, inl, inr, append_assoc}
 use Rattle.std.specs.Prelude.{if◌then◌else◌, ◌==◌, Option, Some, IfSome}
 use Rattle.std.proofs.lemmas.List.{append-nil}
 use Rattle.std.proofs.lemmas.Bool.Decides.{eqb_tells}
@@ -285,7 +285,7 @@ settled_log w (suc n) l now new some_ is =
     ∙ ap (λ cs. choices now.log ++ cs) (append-nil (replicate l.turns (Step w)))
     ∙ ap (λ k. choices now.log ++ replicate k (Step w)) some_
 
-own_steps : (w n : ℕ) → AreOf (w ∷ []) (replicate n (Step w))
+pub own_steps : (w n : ℕ) → AreOf (w ∷ []) (replicate n (Step w))
 own_steps w zero = tt
 own_steps w (suc n) = (is_in w, own_steps w n)
 

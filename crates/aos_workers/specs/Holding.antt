@@ -1,12 +1,13 @@
 -- A round of a worker while its pass has the kernel, which it gives back and takes again where it lends.
-use Rattle.std.specs.Prelude.{◌≡◌, ◌≢◌, ◌⊎◌, ◌<◌, ◌≤◌, ◌+◌, ℕ, Bool, true, false, None, Some, List, [], ◌∷◌, ◌++◌}
+use Rattle.std.specs.Prelude.{◌≡◌, ◌≢◌, ◌⊎◌, ◌<◌, ◌≤◌, ◌+◌, ℕ, Bool, true, false, None, Some, List, [], ◌∷◌, ◌++◌, replicate}
 use Rattle.aos_base.specs.declared.kernel.Outcome.{Outcome}
 use Rattle.aos_base.specs.declared.kernel.Outcome.TheVariants.{Going}
-use Rattle.aos_base.specs.Machine.{Choice}
+use Rattle.aos_base.specs.Machine.{Choice, Step}
 use Rattle.aos_base.specs.Schedule.{choices}
 use Rattle.aos_code.specs.Machine.{machine}
 use Rattle.aos_loan.specs.Loans.{Lending, IsLoanOf}
-use Rattle.aos_kernel.specs.Run.{Run, among, state_of}
+use Rattle.aos_kernel.specs.Run.{Run, among, state_of, comes_to}
+use Rattle.aos_kernel.specs.Steps.{IsNone}
 use Rattle.aos_cell.specs.declared.rule.Part.{Part}
 use Rattle.aos_cell.specs.declared.rule.View.{View}
 use Rattle.aos_cell.specs.Bound.{turns_since, IsPreempted}
@@ -35,6 +36,17 @@ pub record Stepping (w i : ℕ) (Had : ℕ → Type 0) (first last now : Run) : 
   pub few : (n : ℕ) → Had n → MayStep w i now (turns_since (machine first.image) w own n (state_of first))
   pub more : turns_made w last ≤ turns_made w now
   pub gets_on : GetsOn w i last now
+
+-- n steps of w in one call behind i of a round: they bring every such round forward
+pub record Goes (w i n : ℕ) (old new : Run) : Type 0 where
+  pub log : choices new.log ≡ choices old.log ++ replicate n (Step w)
+  pub same : new ≡ record old { log = new.log }
+  pub steps : (first last : Run) → Stepping w i (λ k. k ≡ 0) first last old → Stepping w (i + n) (λ k. k ≡ 0) first last new
+
+-- where none is made, a step would do nothing
+pub record GoesOrStays (w i n : ℕ) (old new : Run) : Type 0 where
+  pub goes : 0 < n → Goes w i n old new
+  pub stays : n ≡ 0 → (new ≡ old) × IsNone (comes_to w old)
 
 -- a pass that began a round with the part p has the part q and this kernel, in which its worker is lent or not, and may give it back; it
 -- gave so often before

@@ -1,9 +1,10 @@
 // A round of a worker that lends: while it makes private turns by a loan, other passes have the kernel.
 
-ghost use Rattle.std.specs.Prelude.{◌≡◌, ◌<◌, ◌≤◌, ◌+◌, Ok, IfOk};
+ghost use Rattle.std.specs.Prelude.{◌≡◌, ◌<◌, ◌≤◌, ◌+◌, false, Ok, IfOk, OnErr};
+ghost use Rattle.aos_kernel.specs.Run.{among};
 ghost use Rattle.aos_cell.specs.declared.rule.View.{View};
 ghost use Rattle.aos_workers.specs.Round.{outcome_of};
-ghost use Rattle.aos_workers.specs.Holding.{IsHeld, IsWorking, IsLent, IsBack, HasAnswered};
+ghost use Rattle.aos_workers.specs.Holding.{IsHeld, IsWorking, IsLent, IsBack, HasAnswered, GoesOrStays};
 
 use aos_base::{NoMemory, Outcome};
 use aos_cell::{KPass, KernelCell};
@@ -14,28 +15,72 @@ use std::sync::Wait;
 /// The most steps of a round.
 pub const MAX_STEPS: u32 = 256;
 
-/// The turns that an activity makes behind its dispatch before a loan of it is tried, and which a loan must have made to be followed
-/// by another: the hand-over of a kernel takes as long as some of them.
-const FEW_TURNS: u32 = 24;
+/// The steps of a round before a loan is tried, and the turns which a loan must have made to be followed by another: the hand-over of a
+/// kernel takes as long as some of them.
+const FEW_STEPS: u32 = 24;
 
-/// The turns behind a dispatch before a loan is tried; none is where there is one worker, since nobody waits for the kernel.
-fn few_turns(kernel: &Kernel) -> u32 {
+/// The steps of a round before a loan is tried; all of them where there is one worker, since nobody waits for the kernel.
+fn few_steps(kernel: &Kernel) -> u32 {
     if 1 < kernel.workers() {
-        FEW_TURNS
+        FEW_STEPS
     } else {
         MAX_STEPS
     }
 }
 
-/// The turns before a loan is tried, behind a step and so many turns by a loan before it: one less than before, none where the loan made
-/// many, and more than a round has where it made few.
-fn wait_behind(wait: u32, turns: u32) -> u32 {
+/// The steps before a loan is tried, behind so many turns by a loan and so many steps: fewer than before, none where the loan made many
+/// turns, and more than a round has where it made few or none.
+fn wait_behind(wait: u32, turns: u32, many: u32) -> u32 {
     if 0 < wait {
-        wait - 1
-    } else if turns < FEW_TURNS {
+        wait.saturating_sub(many)
+    } else if turns < FEW_STEPS {
         MAX_STEPS
     } else {
         0
+    }
+}
+
+/// The most steps before a loan is tried, where so many of the round are made: one behind a loan.
+fn most_steps(wait: u32, made: u32) -> u32
+    requires { made < MAX_STEPS }
+    ensures some { 1 ≤ result }
+    ensures most { made + result ≤ MAX_STEPS }
+{
+    let left = MAX_STEPS - made;
+    if wait == 0 {
+        1
+    } else if wait < left {
+        wait
+    } else {
+        left
+    }
+}
+
+/// Steps of a worker, so many at most, where so many of the round are made: how many have been made; none where a step does nothing.
+/// The first of a round is made by itself, and tells that the round gets on. NoMemory where memory runs out and none has been made.
+fn some_steps(kernel: &mut Kernel, w: u32, made: u32, most: u32) -> Result<u32, NoMemory>
+    requires worker { w < kernel.old.workers }
+    requires lent { among w kernel.old.lent ≡ false }
+    requires some { 1 ≤ most }
+    requires room { made + most ≤ 256 }
+    ensures most { IfOk result (λ many. many ≤ most) }
+    ensures goes { IfOk result (λ many. GoesOrStays w made many kernel.old kernel.new) }
+    ensures err { OnErr result (kernel.new ≡ kernel.old) }
+{
+    if made == 0 {
+        return match kernel.step(w)? {
+            Stepped::Turned => Ok(1),
+            Stepped::Dispatched => Ok(1),
+            Stepped::Idle => Ok(0),
+            Stepped::Over => Ok(0),
+        };
+    }
+    match kernel.outcome() {
+        Outcome::Going => {
+            let many = kernel.steps(w, most)?;
+            Ok(many)
+        }
+        _ => Ok(0),
     }
 }
 
@@ -110,8 +155,8 @@ fn told(kernel: Box<Kernel>) -> (Box<Kernel>, Result<Outcome, NoMemory>)
 }
 
 /// At most 256 steps of the worker of a pass that has the kernel, up to one that does nothing, and behind all 256 a tick. Where
-/// there is another worker, private turns are made by loans if they promise to be many: if the activity has made some turns since its
-/// dispatch, or as many by a loan. NoMemory where memory runs out, and what was done before stands.
+/// there is another worker, private turns are made by loans if they promise to be many: a loan is tried once in the round, and again
+/// behind each that made many turns. NoMemory where memory runs out, and what was done before stands.
 pub fn work_by_loans<R: Wait>(
     rt: &R,
     cell: &KernelCell,
@@ -125,23 +170,20 @@ pub fn work_by_loans<R: Wait>(
     ensures held { IsHeld w 256 pass.old.view pass.new.view result.0.value }
     ensures answer { IfOk result.1 (λ o. HasAnswered w pass.old.view result.0.value o) }
 {
-    let few = few_turns(&kernel);
-    let mut wait = few;
+    let mut wait = few_steps(&kernel);
     let mut steps: u32 = 0;
     while steps < MAX_STEPS {
         let (back, made) = by_loan(rt, cell, pass, kernel, w, steps, wait);
         kernel = back;
-        match kernel.step(w) {
-            Ok(Stepped::Turned) => {
-                wait = wait_behind(wait, made - steps);
-                steps = made + 1;
+        let most = most_steps(wait, made);
+        match some_steps(&mut kernel, w, made, most) {
+            Ok(many) => {
+                if many == 0 {
+                    return told(kernel);
+                }
+                wait = wait_behind(wait, made - steps, many);
+                steps = made + many;
             }
-            Ok(Stepped::Dispatched) => {
-                wait = few;
-                steps = made + 1;
-            }
-            Ok(Stepped::Idle) => return told(kernel),
-            Ok(Stepped::Over) => return told(kernel),
             Err(NoMemory) => return (kernel, Err(NoMemory)),
         }
     }
